@@ -53,7 +53,8 @@ class File:
         self.read()
 
     def read(self):
-        comment, indent, around, is_head = [], 0, [], False
+        # The sections around a line: how far in what stands in each is, and its head.
+        comment, sections, is_head = [], [], False
         of_uses = {at for use in uses(self.lines) for at in range(use.begin, use.end)}
         for number, line in enumerate(self.lines, 1):
             if number - 1 in of_uses:
@@ -65,17 +66,21 @@ class File:
             if not self.blocks and line.startswith("--") and len(self.comment) == number - 1:
                 self.comment.append(line)
                 continue
+            if not is_head and line.strip():
+                while sections and not line.startswith(" " * sections[-1][0]):
+                    sections.pop()
+            indent = sections[-1][0] if sections else 0
             if re.match(r"((?:abbrev|unfoldable)\s+)?mutual$", line):
-                indent, around, comment = 2, [], []
+                sections, comment = [(2, [])], []
                 continue
-            if line.startswith("module "):
-                indent, around, is_head = 2, [], True
+            if not is_head and line.startswith(" " * indent + "module "):
+                sections.append((indent + 2, []))
+                is_head = True
             if is_head:
-                around.append(line)
+                sections[-1][1].append(line)
                 is_head, comment = not line.endswith(" where"), []
                 continue
-            if indent and line.strip() and not line.startswith("  "):
-                indent, around = 0, []
+            around = [head for _, lines in sections for head in lines]
             inner = line[indent:] if line.startswith(" " * indent) else line
             if not inner.strip():
                 comment = []

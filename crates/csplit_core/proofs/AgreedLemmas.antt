@@ -1,10 +1,8 @@
 -- What is settled is what all continuations agree on, and where lines go.
 use Rattle.std.proofs.{
   Common.{◌≡◌, inl, inr, ℕ, suc, ◌+◌, ◌-◌, ◌<◌, ◌≤◌, ◌&&◌, Bool, true, false, cond, List, [], ◌∷◌, ◌++◌},
-  Common.length,
-  Common.{get_or, refl, sym, ◌∙◌, ap, arith, length-append, zero, map, take, drop, append_assoc, nat_lt},
-  Common.nat_le,
-  Common.{min, length-take, ◌⊎◌, ne_eqb, eq-eqb, length-drop, length-take-le, rules, ◌≢◌},
+  Common.{length, get_or, refl, sym, ◌∙◌, ap, arith, length-append, zero, map, take, drop, append_assoc, nat_lt},
+  Common.{nat_le, min, length-take, ◌⊎◌, ne_eqb, eq-eqb, length-drop, length-take-le, rules, ◌≢◌},
   lemmas.{
     Bool.{cases_lt, false≢true, Decides.nat_tests},
     List.{append-nil, map-append, take-append-drop, drop-drop},
@@ -15,8 +13,7 @@ use Rattle.csplit_core.specs.{
   Agreed.{CanCome, kept_lines, whole_outputs, settled_outputs, AreFronts, IsAgreed},
   Operand.{Minus, Target, Number, Search, Operand, Line, Plus, is_kept},
   Plan.{State, start, Step, Ending, below, search_line, MatchesNone, CutsAt, line_after, step_of, Runs, is_below},
-  Plan.cuts,
-  Plan.{missed, Misses, is_used_up, misses, is_above},
+  Plan.{cuts, missed, Misses, is_used_up, misses, is_above},
   laws.PlanLaws.{line_some, runs_on, goes_on, plan_runs, plan_once, cuts_still, less_test, not_less_test},
   laws.SectionLaws.{between_still, ends_as, are_within, closed_still, plan_grows, whole_covers, plan_goes_on},
   inner.PlanLaws.{AreWithin, EndsAs, GoesOn},
@@ -75,12 +72,12 @@ turned_by {suppress} {x} {state} {operand} {operands} cut some is at within = el
       (runs_on _ _ _ (omega (arith, line_some suppress cut))))
 ]
 
-turned : {suppress : Bool} {x : List Line} {state : State} {operand : Operand} {operands : List Operand}
+agrees : {suppress : Bool} {x : List Line} {state : State} {operand : Operand} {operands : List Operand}
     (pattern : Pattern) (kept : Bool) (k : ℕ) → 1 ≤ state.current → state.operands ≡ operand ∷ operands
     → operand.target ≡ Search pattern kept (Minus k)
     → MatchesNone operand x (search_line suppress state) → search_line suppress state ≤ suc (length x)
     → Turned suppress x state operand (suc (length x) - k)
-turned {suppress} {x} {state} {operand} pattern kept k some is target none within =
+agrees {suppress} {x} {state} {operand} pattern kept k some is target none within =
     turned_by (suc (length x) - k) some is
     (grind (arith, common_steps))
     (omega (arith, length-append x matching))
@@ -99,7 +96,7 @@ waits_by {suppress} {x} {state} (missed operand repetition) (left, are, none, of
       → Waits suppress x state (missed operand repetition)
   by (Number n) is none = absurd none
   by (Search pattern kept (Plus k)) is none = none_waits (search rules)
-  by (Search pattern kept (Minus k)) is none = some_wait k refl (search rules) (turned pattern kept k some are is none within)
+  by (Search pattern kept (Minus k)) is none = some_wait k refl (search rules) (agrees pattern kept k some are is none within)
 waits_by _ ends some within = none_waits refl
 
 -- What is settled is what all continuations agree on.
@@ -487,8 +484,8 @@ module _ (suppress : Bool) (operands : List Operand) (x : List Line) where
       → (y : List Line) × (z : List Line) × CanCome y × CanCome z
       × (place_of suppress operands (x ++ y) line ≢ place_of suppress operands (x ++ z) line)
   differ_line line (live, from, past, within) (none_waits same) = search (rules, ends_after_all)
-  differ_line line (live, from, past, within) (some_wait k kept settled turned) =
-      let away = turned_away k line turned (omega arith) in (
+  differ_line line (live, from, past, within) (some_wait k kept settled agrees) =
+      let away = turned_away k line agrees (omega arith) in (
         [],
         matching,
         none_comes,

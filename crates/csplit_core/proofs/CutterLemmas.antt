@@ -7,10 +7,8 @@ use Rattle.std.{
     List.map-append,
   },
   proofs.Common.{◌≡◌, ℕ, ◌+◌, ◌-◌, ◌≤◌, Bool, true, false, List, [], ◌++◌, length, refl, sym, ◌∙◌, ap, arith, inl},
-  proofs.Common.inr,
-  proofs.Common.{Option, None, subst, ◌<◌, min, Some, Result, OnOk, take, drop, IfNone, rules, suc, ◌∷◌, ◌⊎◌},
-  proofs.Common.map,
-  proofs.Common.append_assoc,
+  proofs.Common.{inr, Option, None, subst, ◌<◌, min, Some, Result, OnOk, take, drop, IfNone, rules, suc, ◌∷◌, ◌⊎◌},
+  proofs.Common.{map, append_assoc},
   proofs.Math.Seq.{take-add, take-append-add, drop-append-add},
   specs.List.flat_map,
 }
@@ -31,21 +29,20 @@ use Rattle.csplit_core.specs.{
   Operand.{Operand, Line},
   Output.{Style, manner_of, opening_of, file_in, shares_in, part_of, sizes_wanted},
   Plan.{State, start, Step, Ending, Runs, search_line, line_after, state_after, step_of, is_used_up, misses},
-  Plan.is_above,
-  Plan.{is_below, cuts},
-  Planned.{plan},
+  Plan.{is_above, is_below, cuts},
+  Planned.plan,
   Section.{lines_between, is_last_kept, settled_end, whole_end, is_final, most_waiting, bytes_of, Section, section},
   Section.section_of,
-  Progress.{state_of},
-  declared.{progress.Turn.{Turn, TheVariants.Below}, line_cutter.Cut.Cut},
+  Progress.state_of,
+  declared.{progress.Attempt.{Attempt, TheVariants.Below}, line_cutter.CutPoint.CutPoint},
   laws.{
     PlanLaws.{plan_once, goes_on, line_some, runs_on},
     SectionLaws.{ends_as, closed_still, are_within, shares-append, section_grows},
   },
   inner.{
     PlanLaws.EndsAs,
-    Cutter.{Joins, settled_part, Keeps, KeepsBy, part_at, draft_at, bare, Puts, CutsIn, Arrives, Holds, search_after},
-    Cutter.{CutsNow, WentOn, IsAfter, CutAt, CutsAll, WillCut, IsEnd},
+    Cutter.{Joins, settled_part, Keeps, KeepsBy, part_at, draft_at, bare, Puts, CutsIn, Arrives, HoldsLines},
+    Cutter.{search_after, CutsNow, WentOn, IsAfter, CutAt, CutsAll, WillCut, IsEnd},
   },
   Cutter.{kept_by, most_by, text_from, draft_by, settled_draft, CutterState, suppress_in, state_in, IsAt, EndsNow},
   Cutter.{IsLive, IsFit, Leads},
@@ -166,14 +163,14 @@ pub settled_same : {given : List Operand} {made : Style} {writer : WriterState} 
 settled_same x keeps = search rules
 
 -- the plan up to where the cutter stands
-pub runs_to : {cutter : CutterState} {x left : List ℕ} (at : IsAt cutter x left) {aim : Turn}
+pub runs_to : {cutter : CutterState} {x left : List ℕ} (at : IsAt cutter x left) {aim : Attempt}
     (ends : EndsNow (record cutter { aim = aim }) x)
     → Runs (suppress_in cutter) (all_lines x) (start cutter.operands) at.steps (state_in cutter) ends.ending
 runs_to at ends = search rules
 
 -- more lines came in, and nothing was done with them yet
 unfoldable pub at_more : {cutter : CutterState} {lines : ℕ} {x : List ℕ} (t : List ℕ) {left : List ℕ} → Joins x t
-    → 1 ≤ cutter.progress.current → (at : IsAt cutter x left) {aim : Turn}
+    → 1 ≤ cutter.progress.current → (at : IsAt cutter x left) {aim : Attempt}
     → EndsNow (record cutter { aim = aim }) x → lines ≡ line_count newline (x ++ t)
     → IsAt (bare (record cutter { lines = lines })) (x ++ t) (left ++ t)
 at_more {cutter} t whole some at ends count =
@@ -190,7 +187,7 @@ at_more {cutter} t whole some at ends count =
     }
 
 pub part_more : {cutter : CutterState} {lines : ℕ} {x : List ℕ} (t : List ℕ) {left : List ℕ} (whole : Joins x t)
-    (some : 1 ≤ cutter.progress.current) (at : IsAt cutter x left) {aim : Turn}
+    (some : 1 ≤ cutter.progress.current) (at : IsAt cutter x left) {aim : Attempt}
     (ends : EndsNow (record cutter { aim = aim }) x)
     (count : lines ≡ line_count newline (x ++ t)) → part_at at ≡ part_at (at_more t whole some at ends count)
 unfolding at_more
@@ -373,7 +370,7 @@ pub hold_goes : {told : Bool} {cutter : CutterState} {writer : WriterState} {win
     → IfNone fault
     (window ≡ record cutter.window { held = last_lines cutter.window.delim cutter.window.most left })
     → IfNone fault (size_of writer.current + length window.held ≤ size_of cutter.writer.current + length left)
-    → Holds told cutter left old new (record cutter { writer = writer; window = window }) fault
+    → HoldsLines told cutter left old new (record cutter { writer = writer; window = window }) fault
 hold_goes {cutter = cutter} {writer} {window} {left} {fault = fault} fit differs goes waits fewer = record {
   keeps = search rules;
   reaches = λ x at arrives. reaches_as refl (sym (held_part arrives fit differs bytes_is))
@@ -398,7 +395,7 @@ pub hold_past : {told : Bool} {cutter : CutterState} {window : Window} {left : L
     → cutter.aim ≡ Below → IsReady cutter.writer slots → n ≡ length cutter.window.held
     → length cutter.window.held ≤ length left
     → window ≡ without_first cutter.window n
-    → Holds told cutter left slots slots (record cutter { window = window }) None
+    → HoldsLines told cutter left slots slots (record cutter { window = window }) None
 hold_past {cutter = cutter} {window} {left} {n = n} aim ready all less dropped = record {
   keeps = search (rules, leaves_still);
   reaches = λ x at arrives. reaches_still keeps_files (search (rules, settled_part_is, drafts));
@@ -469,10 +466,10 @@ begun_by style operands {lines} steps {state} more {last} {ending} rest all =
 -- The sections once one more ended
 
 -- the step of a cut
-abbrev step_at : CutterState → Operand → Cut → Step
+abbrev step_at : CutterState → Operand → CutPoint → Step
 step_at cutter operand cut = step_of (state_in cutter) operand cut.matched cut.line
 
-leads_on : {cutter : CutterState} {x left : List ℕ} (at : IsAt cutter x left) (cut : Cut)
+leads_on : {cutter : CutterState} {x left : List ℕ} (at : IsAt cutter x left) (cut : CutPoint)
     (goes : CutsIn cutter x cut)
     → Leads (suppress_in cutter) (all_lines x) cutter.operands (at.steps ++ step_at cutter goes.operand cut ∷ [])
     (state_after (suppress_in cutter) goes.operand goes.operands cutter.progress.repetition cut.matched cut.line)
@@ -483,7 +480,7 @@ leads_on {cutter} at cut goes more last ending run =
 
 -- What `cut_at` owes, by how far it came. First the lines before the cut are written; then the run goes on; then the next section begins.
 
-pub cut_stopped : {told : Bool} {cutter next : CutterState} {cut : Cut} {place : ℕ} {left line : List ℕ}
+pub cut_stopped : {told : Bool} {cutter next : CutterState} {cut : CutPoint} {place : ℕ} {left line : List ℕ}
     {old new : List Slot} {fault : Fault} → next.operands ≡ cutter.operands → next.style ≡ cutter.style
     → Leaves cutter.writer next.writer old new (Some fault)
     → ((x : List ℕ) (at : IsAt (bare cutter) x left) → CutsNow line cut place at
@@ -492,14 +489,14 @@ pub cut_stopped : {told : Bool} {cutter next : CutterState} {cut : Cut} {place :
 cut_stopped operands style leaves reaches = search rules
 
 -- where the run stands after the cut
-passed_state : (cutter : CutterState) {mid : CutterState} {writer : WriterState} {cut : Cut}
+passed_state : (cutter : CutterState) {mid : CutterState} {writer : WriterState} {cut : CutPoint}
     → WentOn (record cutter { writer = writer }) cut mid → {operand : Operand} {operands : List Operand}
     → (state_in cutter).operands ≡ operand ∷ operands → state_of cutter.operands mid.progress
     ≡ state_after (suppress_in cutter) operand operands cutter.progress.repetition cut.matched cut.line
 passed_state cutter passed are = rw passed.same at (passed.state _ _ are)
 
 -- the lines before the cut are written, and then the next section begins
-next_goes : {told : Bool} {cutter mid : CutterState} {writer next : WriterState} {cut : Cut} {before : List ℕ}
+next_goes : {told : Bool} {cutter mid : CutterState} {writer next : WriterState} {cut : CutPoint} {before : List ℕ}
     {opening : Opening} {old between new : List Slot} {fault : Option Fault}
     → WentOn (record cutter { writer = writer }) cut mid
     → Goes told cutter.writer (with_bytes before) old between writer None
@@ -511,7 +508,7 @@ next_goes {before = before} passed went opening_is began = goes_again _ (λ draf
     (λ manner. bytes_begin manner before) went (rw passed.same at (rw opening_is at began))
 
 -- a cut of this cutter is due, and stands after these bytes of the lines that are left
-module _ {cutter : CutterState} {cut : Cut} {place n : ℕ} {left before : List ℕ} (fit : IsFit cutter)
+module _ {cutter : CutterState} {cut : CutPoint} {place n : ℕ} {left before : List ℕ} (fit : IsFit cutter)
     (will : WillCut cutter cut) (n_is : n ≡ cut.line - place) (first : before ≡ first_lines newline n left) where
   -- the sections up to the cut, and the next one
   cut_draft : {x line : List ℕ} {at : IsAt (bare cutter) x left} (now : CutsNow line cut place at) (kept : Bool)
@@ -586,7 +583,7 @@ end_of true left {rest} all n all_is skipped whole = (
 )
 end_of false left all n all_is skipped whole = (first_lines newline n left, rw (whole refl, all_is) (sym (first_lines_then_rest newline n left)))
 
-module _ {told : Bool} {cutter mid : CutterState} {writer next : WriterState} {cut : Cut} {place n : ℕ}
+module _ {told : Bool} {cutter mid : CutterState} {writer next : WriterState} {cut : CutPoint} {place n : ℕ}
     {left before rest : List ℕ} (all : List ℕ) {opening : Opening} {old between new : List Slot} (fit : IsFit cutter)
     (will : WillCut cutter cut) (n_is : n ≡ cut.line - place) (first : before ≡ first_lines newline n left)
     (all_is : all ≡ after_lines newline n left) (skipped : suppress_in cutter ≡ true → rest ≡ after_lines newline 1 all)

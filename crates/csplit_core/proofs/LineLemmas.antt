@@ -1,8 +1,7 @@
 -- Lines of a text as operands see them, their bytes, and what follows the last newline, where more bytes come.
 use Rattle.std.proofs.{
   Common.{◌≡◌, inl, inr, ℕ, ◌+◌, ◌-◌, ◌<◌, ◌≤◌, List, [], ◌∷◌, ◌++◌, length, map, take, drop, refl, sym},
-  Common.{◌∙◌, ap},
-  Common.{arith, length-append, Bool, true, false, append_assoc, take-add, rules},
+  Common.{◌∙◌, ap, arith, length-append, Bool, true, false, append_assoc, take-add, rules},
   lemmas.Bool.{cases_lt, cases_eq, eq-eqb, ne_eqb},
   lemmas.List.{take-append-drop, map-append, take-map, drop-map, length-map, length-drop, drop_all, drop-append-le},
   lemmas.List.{take-append-le, drop-drop, append-nil, append_cancel_left, length-take-le},

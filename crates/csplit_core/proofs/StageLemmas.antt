@@ -36,14 +36,12 @@ use Rattle.ports_core.proofs.{
 use Rattle.csplit_core.proofs.{
   CutterLemmas.{draft_is, few_taken, left_count, written_on, settled_part_is, whole_part_is, runs_to, live_part},
   CutterLemmas.{live_taken, keeps_on, reaches_then, same_by, settled_same},
-  TryLemmas.{turn_ends, left_is},
+  TryLemmas.{attempt_ends, left_is},
   LineLemmas.{from_further, bytes_marked, open_unbroken, length-all_lines, all_complete, lines_then_open},
-  LineLemmas.{all_lines-append, joined_line, open_complete, first_complete},
-  LineLemmas.{lines_whole, lines_more, open_more},
+  LineLemmas.{all_lines-append, joined_line, open_complete, first_complete, lines_whole, lines_more, open_more},
   WholeLemmas.ends_after_all,
   TakeLemmas.{past_plan, past_part, is_past, still_past, more_settled, takes_again, takes_none, takes_wider},
-  TakeLemmas.took_past,
-  TakeLemmas.none_there,
+  TakeLemmas.{took_past, none_there},
 }
 use Rattle.csplit_core.specs.{
   Csplit.{settled_of, verdict_of, waiting, csplit_means, csplit_work, verdict_by},
@@ -53,17 +51,15 @@ use Rattle.csplit_core.specs.{
   Plan.{start, below, missed, above},
   Planned.{plan, Plan},
   laws.{PlanLaws.{plan_runs, plan_once}, SectionLaws.{ends_as, are_within, closed_still, ends_with as whole_grows}},
-  Progress.{EndsHere},
-  inner.Cutter.{BegunNot, draft_at, plan_in, new_for, writer_for, AreSeen, Turns, MovesOn, Opened, settled_part},
-  inner.Cutter.{whole_part, IsJudged, EndsAll, IsWhole, Takes, IsLine, Clears, Keeps, Closed, Closes, ended_so},
-  inner.Cutter.Judges,
-  inner.Cutter.{Passes, ended_well, ended_short},
+  Progress.EndsHere,
+  inner.Cutter.{BegunNot, draft_at, plan_in, new_for, writer_for, AreSeen, AgreesWithPlan, MovesOn, Opened},
+  inner.Cutter.{settled_part, whole_part, IsJudged, EndsAll, IsWhole, Takes, IsLine, Clears, Keeps, Closed, Closes},
+  inner.Cutter.{ended_so, Judges, Passes, ended_well, ended_short},
   inner.PlanLaws.{EndsAs, AreWithin},
   Section.{is_final, whole_end, whole_sections},
-  declared.progress.{Progress.Progress, Turn.{Turn, TheVariants.{Below, Missed, Above}}},
-  Cutter.{CutterState, most_by, pattern_by, kept_by, settled_draft},
-  Cutter.IsFit,
-  Cutter.{Stands, suppress_in, state_in, IsLive, IsPast, IsSound},
+  declared.progress.{Progress.Progress, Attempt.{Attempt, TheVariants.{Below, Missed, Above}}},
+  Cutter.{CutterState, most_by, pattern_by, kept_by, settled_draft, IsFit, Stands, suppress_in, state_in, IsLive},
+  Cutter.{IsPast, IsSound},
   CsplitState.{CsplitState, Holds, whole_lines, IsReady, Owns, terms, files, work},
 }
 use Rattle.ports_core.specs.declared.fault.Fault.TheVariants as fault_is
@@ -98,21 +94,21 @@ first_owns style two = grind (arith, common_steps)
 first_writes : (style : Style) → Writes (manner_of style) (writer_for style) nothing_yet
 first_writes style = search (rules, first_manner)
 
--- The first turn, before any line came in.
+-- The first attempt, before any line came in.
 
 abbrev pub first_progress : Progress
 first_progress = record { done = 0; repetition = 0; current = 1; matched = 0 }
 
-abbrev SaysFirst : Bool → List Operand → Turn → Type 0
-SaysFirst suppress operands turn = (lines : List Line) → AreSeen suppress lines 0 (start operands) false → Turns suppress lines (start operands) turn
+abbrev SaysFirst : Bool → List Operand → Attempt → Type 0
+SaysFirst suppress operands attempt = (lines : List Line) → AreSeen suppress lines 0 (start operands) false → AgreesWithPlan suppress lines (start operands) attempt
 
-first_ends : {suppress : Bool} (operands : List Operand) {turn : Turn} → SaysFirst suppress operands turn
-    → MovesOn operands 0 first_progress turn → EndsHere suppress [] (start operands) turn
-first_ends operands {turn} says moves = search (rules, turn_ends)
+first_ends : {suppress : Bool} (operands : List Operand) {attempt : Attempt} → SaysFirst suppress operands attempt
+    → MovesOn operands 0 first_progress attempt → EndsHere suppress [] (start operands) attempt
+first_ends operands {attempt} says moves = search (rules, attempt_ends)
 
 -- The cutter that was opened
 
-abbrev first_cutter : List Operand → Style → WriterState → Turn → CutterState
+abbrev first_cutter : List Operand → Style → WriterState → Attempt → CutterState
 first_cutter operands style writer aim = record {
   operands = operands;
   style = style;
@@ -124,7 +120,7 @@ first_cutter operands style writer aim = record {
   sought = pattern_by operands;
 }
 
-first_stands : (operands : List Operand) (style : Style) {writer : WriterState} {aim : Turn}
+first_stands : (operands : List Operand) (style : Style) {writer : WriterState} {aim : Attempt}
     → Writes (manner_of style) writer (first_draft style (kept_by operands))
     → (ends : EndsHere style.suppress [] (start operands) aim) → (final : Bool) → is_final ends.ending ≡ final
     → Stands (first_cutter operands style writer aim) []
@@ -147,7 +143,7 @@ first_stands operands style writes ends false live = inl (record {
 first_stands operands style writes ends true past = search (rules, plan_once, first_settled)
 
 pub first_opened : (told : Bool) {style : Style} {operands : List Operand} {old new : List Slot} {writer : WriterState}
-    (aim : Turn) → 2 ≤ length old
+    (aim : Attempt) → 2 ≤ length old
     → Goes told (writer_for style) (with_next (opening_of style (kept_by operands))) old new writer None
     → size_of writer.current ≡ 0 → SaysFirst style.suppress operands aim → MovesOn operands 0 first_progress aim
     → Opened told style operands old new (first_cutter operands style writer aim)
@@ -264,11 +260,11 @@ of_it {cutter} {x} judged =
     rw (← judged.last) at (ends_as (plan_runs (suppress_in cutter) cutter.operands (all_lines x)))
 
 -- the verdict on the next operand, by what it did
-abbrev pub verdict_at : Turn → Operand → ℕ → Option Verdict
+abbrev pub verdict_at : Attempt → Operand → ℕ → Option Verdict
 verdict_at Missed operand repetition = verdict_of (missed operand repetition)
 verdict_at (Above matched line) operand repetition = verdict_of (above operand repetition 0 0)
 verdict_at Below operand repetition = verdict_of (below operand repetition)
-verdict_at turn operand repetition = None
+verdict_at attempt operand repetition = None
 
 -- What `verdict` returns
 
@@ -278,7 +274,7 @@ pub judged_none : {cutter : CutterState} {result : Option Verdict} {x : List ℕ
 judged_none over none judged = search (rules, nat_tests, of_it, drop_all)
 
 -- the operand that was looked up is the next
-pub judged_next : {cutter : CutterState} {operand : Operand} {aim : Turn} {result : Option Verdict} {x : List ℕ}
+pub judged_next : {cutter : CutterState} {operand : Operand} {aim : Attempt} {result : Option Verdict} {x : List ℕ}
     → cutter.progress.done < length cutter.operands → operand ≡ get_or cutter.operands cutter.progress.done operand
     → cutter.aim ≡ aim → result ≡ verdict_at aim operand cutter.progress.repetition → IsJudged cutter x
     → result ≡ verdict_of (plan_in cutter x).ending
@@ -438,8 +434,8 @@ past_passes {stage = stage} is aim ready sound unbroken =
       passed = search rules;
     })
 
-pub below_or_not : (turn : Turn) → (turn ≡ Below) ⊎ (turn ≡ Below → ⊥)
-below_or_not turn = search rules
+pub below_or_not : (attempt : Attempt) → (attempt ≡ Below) ⊎ (attempt ≡ Below → ⊥)
+below_or_not attempt = search rules
 
 -- what is kept of the open line
 kept_open : {A : Type 0} (tail after : List ℕ) → delimiters newline tail ≡ 0 → A ⊎ (A → ⊥) → (A → after ≡ [])

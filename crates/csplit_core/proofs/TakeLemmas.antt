@@ -1,8 +1,7 @@
 -- Taking lines in, one by one and stretch by stretch, and cutting them as often as operands cut.
 use Rattle.std.proofs.{
   lemmas.{Grind.common_steps, Bool.{false≢true, cases_lt}},
-  Common.{◌≡◌, ◌⊎◌, inl, inr, ℕ, ◌+◌, ◌-◌, ◌≤◌, Bool, true, Option, Some, None, List, [], ◌∷◌},
-  Common.{◌++◌, length},
+  Common.{◌≡◌, ◌⊎◌, inl, inr, ℕ, ◌+◌, ◌-◌, ◌≤◌, Bool, true, Option, Some, None, List, [], ◌∷◌, ◌++◌, length},
   Common.{refl, sym, ◌∙◌, ap, subst, arith, append_assoc, length-append, IfSome, Ok, Err, take, drop, eqb, Result},
   Common.{take_all, append-nil, take-append-drop, length-drop, length-take-le, drop_at, take_at, drop-drop, is_some},
   Common.{IfOk, rules},
@@ -19,7 +18,7 @@ use Rattle.ports_core.{
     declared.fault.Fault.Fault,
     FileWriter.{IsReady},
     Draft.draft_part,
-    Turn.fault_in,
+    InTurn.fault_in,
   },
   proofs.{
     FileWriterLemmas.{keeps_files, leaves_still, reaches_as, reaches_still, where_well, stops_wider},
@@ -33,12 +32,11 @@ use Rattle.csplit_core.specs.{
   Output.{Style, manner_of},
   Planned.{Plan, plan},
   laws.{PlanLaws.plan_runs, SectionLaws.{ends_as, cuts_from, grows}},
-  inner.Cutter.{CutsIn, bare, IsFound, settled_part, part_at, IsWhole, IsLine, Joins, Arrives, Held, Holds, CutsNow},
-  inner.Cutter.{CutsAll, WillCut, TriesNext, Takes, IsNextFound, Stretches, IsEnd, Tries, IsAfter},
-  inner.Cutter.CutAt,
-  inner.Cutter.{Spreading, Spread, PassesOver, Starts, StopsAt, CutsOn, GoesOn},
+  inner.Cutter.{CutsIn, bare, IsFound, settled_part, part_at, IsWhole, IsLine, Joins, Arrives, Held, HoldsLines},
+  inner.Cutter.{CutsNow, CutsAll, WillCut, TriesNext, Takes, IsNextFound, Stretches, IsEnd, Tries, IsAfter, CutAt},
+  inner.Cutter.{Spreading, Spread, PassesOver, Starts, StopsAt, CutsOn, PassesThenHolds},
   Section.{is_final, most_waiting, settled_end},
-  declared.{line_cutter.{Cut.Cut, Passed.Passed}, progress.Turn.{Turn, TheVariants.Below}},
+  declared.{line_cutter.{CutPoint.CutPoint, Passed.Passed}, progress.Attempt.{Attempt, TheVariants.Below}},
   Cutter.{CutterState, suppress_in, state_in, settled_draft, draft_by, IsFit, IsSound, IsAt, IsLive, IsPast, Stands},
   Cutter.{EndsNow, kept_by},
 }
@@ -60,7 +58,7 @@ live_before {cutter} {x} t live matched cut are at =
     let so = cuts_from (suppress_in cutter) (all_lines x) (all_lines t) (state_in cutter) live.ends.ending (ends_as live.ends.runs) are in
     rw (length-all_lines x) at (so.1 matched cut at)
 
-place_before : {cutter : CutterState} {x : List ℕ} (t : List ℕ) (cut : Cut) (live : IsLive cutter x) → IsWhole x
+place_before : {cutter : CutterState} {x : List ℕ} (t : List ℕ) (cut : CutPoint) (live : IsLive cutter x) → IsWhole x
     → CutsIn cutter (x ++ t) cut → cutter.progress.current ≤ cut.line
     → cutter.progress.current + live.at.taken ≤ cut.line
 place_before t cut live whole goes from = omega (
@@ -71,7 +69,7 @@ place_before t cut live whole goes from = omega (
 )
 
 -- the same cutter, where more lines came
-abbrev pub more_lines : CutterState → ℕ → Turn → CutterState
+abbrev pub more_lines : CutterState → ℕ → Attempt → CutterState
 more_lines cutter lines aim = record cutter { lines = lines; aim = aim }
 
 -- Once more lines came, and what is settled of them is written and the others held.
@@ -90,12 +88,12 @@ pub record Reached (low : Part) (cutter : CutterState) (x left : List ℕ) : Typ
   pub arrives : Arrives cutter at
   pub same : low ≡ part_at at
 
-pub took_held : {told : Bool} {cutter next : CutterState} {lines : ℕ} {aim : Turn} {t : List ℕ} {old new : List Slot}
+pub took_held : {told : Bool} {cutter next : CutterState} {lines : ℕ} {aim : Attempt} {t : List ℕ} {old new : List Slot}
     {fault : Option Fault} → IsSound (more_lines cutter lines aim) → IsFit cutter → (cutter.aim ≡ Below → ⊥)
     → lines ≤ cutter.lines + length t
     → ((x : List ℕ) → IsWhole x → IsLive cutter x
     → (lines ≡ line_count newline (x ++ t)) × EndsNow (more_lines cutter lines aim) (x ++ t))
-    → Holds told (more_lines cutter lines aim) (cutter.window.held ++ t) old new next fault
+    → HoldsLines told (more_lines cutter lines aim) (cutter.window.held ++ t) old new next fault
     → Takes told cutter t old new next fault
 unfolding at_more
 took_held {cutter = cutter} {next} {lines} {aim} {t} {fault = fault} sound fit differs few ends held = record {
@@ -131,7 +129,7 @@ line_has : (line : List ℕ) → IsLine line → 1 ≤ length line
 line_has line one = grind (arith, common_steps)
 
 -- more lines came after it
-take_cut : {told : Bool} {cutter mid next : CutterState} (line more : List ℕ) {cut : Cut} {old new : List Slot}
+take_cut : {told : Bool} {cutter mid next : CutterState} (line more : List ℕ) {cut : CutPoint} {old new : List Slot}
     {fault : Option Fault} → IsFit cutter → (cutter.aim ≡ Below → ⊥) → IsLine line
     → mid ≡ more_lines cutter (cutter.lines + 1) mid.aim → WillCut mid cut → TriesNext cutter line mid (Some cut)
     → CutsAll told mid cut (mid.lines - delimiters newline mid.window.held) (mid.window.held ++ line) line more old new
@@ -307,13 +305,13 @@ spread_ready now is ready = search rules
 
 -- the next operand cuts as well
 
-cuts_again : {told : Bool} {cutter now : CutterState} (cut : Cut) {x : List ℕ} (line : List ℕ)
+cuts_again : {told : Bool} {cutter now : CutterState} (cut : CutPoint) {x : List ℕ} (line : List ℕ)
     {left : List ℕ} {low : Part} {old new : List Slot} (after : IsAfter told cutter x line now left low old new)
     → Tries now line now (Some cut) → WillCut now cut
     → CutsNow line cut now.progress.current after.now
 cuts_again cut line after tries will = search rules
 
-module _ {told : Bool} {cutter now mid : CutterState} {cut cut' : Cut} {place : ℕ} {waiting line left : List ℕ}
+module _ {told : Bool} {cutter now mid : CutterState} {cut cut' : CutPoint} {place : ℕ} {waiting line left : List ℕ}
     {old between : List Slot} (so_far : Spreading told cutter cut place waiting line old between now left)
     (is : mid ≡ record now { aim = mid.aim }) (tries : Tries now line mid (Some cut')) (will : WillCut now cut') where
   pub spread_more : {next : CutterState} {rest : List ℕ} {new : List Slot}
@@ -372,7 +370,7 @@ drained_place : (lines : ℕ) (held line : List ℕ) {items : List ℕ} {n count
     → place ≡ lines - delimiters newline held
 drained_place lines held line {n = n} items_is long count_is place_is = search (rules, length-append, take_at)
 
-pub cut_drained : {told : Bool} {cutter next : CutterState} {window : Window} {cut : Cut} {n count place : ℕ}
+pub cut_drained : {told : Bool} {cutter next : CutterState} {window : Window} {cut : CutPoint} {n count place : ℕ}
     {items waiting line : List ℕ} {old new : List Slot} {fault : Option Fault} → waiting ≡ cutter.window.held ++ line
     → items ≡ cutter.window.held ++ line → n ≡ length items → count ≡ delimiters newline (take (n - length line) items)
     → place ≡ cutter.lines - count
@@ -391,7 +389,7 @@ cut_drained {cutter = cutter} {window = window} {line = line} {fault = fault} wa
 -- What was found of the next line stays where lines are held.
 
 found_by : {told : Bool} {mid next : CutterState} {left : List ℕ} {old new : List Slot} (rest : List ℕ)
-    (found : Option ℕ) → Holds told mid left old new next None → IfSome found (IsNextFound mid rest)
+    (found : Option ℕ) → HoldsLines told mid left old new next None → IfSome found (IsNextFound mid rest)
     → IfSome found (IsNextFound next rest)
 found_by rest (Some size) held is = search rules
 found_by rest None held is = is
@@ -403,7 +401,7 @@ ok_as result follows holds = search rules
 -- What `go_on` owes.
 
 found_held : {told : Bool} {mid next : CutterState} {left : List ℕ} {old new : List Slot} (rest : List ℕ) (size : ℕ)
-    (found : Option ℕ) (result : Result Passed Fault) → Holds told mid left old new next (fault_in result)
+    (found : Option ℕ) (result : Result Passed Fault) → HoldsLines told mid left old new next (fault_in result)
     → IfSome found (IsNextFound mid rest) → IfOk result (λ all. (all.size ≡ size) × (all.found ≡ found))
     → IfOk result (λ all. IfSome all.found (IsNextFound next rest))
 found_held rest size found (Ok all) held is are = rw are.1 (found_by rest found held is)
@@ -420,9 +418,9 @@ piece_from text first size n low within =
 pub gone_on : {told : Bool} {cutter mid next : CutterState} (text : List ℕ) {rest : List ℕ} (first size : ℕ)
     {passed : Passed} {old new : List Slot} (result : Result Passed Fault) → first ≤ size → size ≤ length text
     → rest ≡ drop size text → StopsAt cutter rest mid passed
-    → Holds told mid (mid.window.held ++ take (size + passed.size - first) (drop first text)) old new next
+    → HoldsLines told mid (mid.window.held ++ take (size + passed.size - first) (drop first text)) old new next
     (fault_in result) → IfOk result (λ all. (all.size ≡ size + passed.size) × (all.found ≡ passed.found))
-    → GoesOn told cutter (drop first (take size text)) text size old new next result
+    → PassesThenHolds told cutter (drop first (take size text)) text size old new next result
 gone_on text first size {passed} result low within rest_is stops held are =
     let stops_there = rw rest_is at stops in
     record {
@@ -446,11 +444,11 @@ joins_by n fact ends = search rules
 
 -- Then no operand cuts any more, and the lines that are left are held, perhaps with more.
 
-pub spread_passes : {told : Bool} {cutter mid end next : CutterState} {cut : Cut} {place : ℕ}
+pub spread_passes : {told : Bool} {cutter mid end next : CutterState} {cut : CutPoint} {place : ℕ}
     {waiting line left rest : List ℕ} {n : ℕ} {old between new : List Slot} {fault : Option Fault}
     → Spread told cutter cut place waiting line old between mid left
     → (rest ≡ []) ⊎ (ends_with newline line ≡ true) → PassesOver mid rest end n
-    → Holds told end (end.window.held ++ (left ++ take n rest)) between new next fault
+    → HoldsLines told end (end.window.held ++ (left ++ take n rest)) between new next fault
     → CutsAll told cutter cut place waiting line (take n rest) old new next fault
 unfolding at_more
 spread_passes {told} {cutter} {mid} {end} {next} {cut} {place} {waiting} {line} {left} {rest} {n} {between = between}
@@ -470,7 +468,7 @@ spread_passes {told} {cutter} {mid} {end} {next} {cut} {place} {waiting} {line} 
       over_now : PassesOver (record spread.now { aim = mid.aim }) rest end n
       over_now = rw spread.is at over
 
-      held_now : Holds told (more_lines spread.now end.lines mid.aim) (left ++ take n rest) between new next fault
+      held_now : HoldsLines told (more_lines spread.now end.lines mid.aim) (left ++ take n rest) between new next fault
       held_now = search (rules, over_now)
 
       reached : (x : List ℕ) (at : IsAt (bare cutter) x waiting) (here : CutsNow line cut place at)
@@ -487,10 +485,10 @@ spread_passes {told} {cutter} {mid} {end} {next} {cut} {place} {waiting} {line} 
           }
 
 -- they are held alone
-pub spread_held : {told : Bool} {cutter mid next : CutterState} {cut : Cut} {place : ℕ} {waiting line left : List ℕ}
-    {old between new : List Slot} {fault : Option Fault}
+pub spread_held : {told : Bool} {cutter mid next : CutterState} {cut : CutPoint} {place : ℕ}
+    {waiting line left : List ℕ} {old between new : List Slot} {fault : Option Fault}
     → Spread told cutter cut place waiting line old between mid left
-    → Holds told mid (mid.window.held ++ left) between new next fault
+    → HoldsLines told mid (mid.window.held ++ left) between new next fault
     → CutsAll told cutter cut place waiting line [] old new next fault
 spread_held {left = left} spread held = spread_passes {rest = []} {n = 0} spread (inl refl) (record {
   same = refl;
@@ -514,7 +512,7 @@ module _ {told : Bool} {cutter mid next : CutterState} {text : List ℕ} {size :
     (result : Result Passed Fault) (fit : IsFit cutter) (differs : cutter.aim ≡ Below → ⊥) (start : Starts text size)
     (mid_is : mid ≡ record cutter { lines = cutter.lines + 1; aim = mid.aim }) where
   pub stretch_on : TriesNext cutter (take size text) mid None
-      → GoesOn told mid (take size text) text size old new next result
+      → PassesThenHolds told mid (take size text) text size old new next result
       → Stretches told cutter text size old new next result
   stretch_on tries gone =
       let end = gone.mid in
@@ -533,7 +531,7 @@ module _ {told : Bool} {cutter mid next : CutterState} {text : List ℕ} {size :
       }
 
   -- It is cut, and none waits.
-  pub stretch_cut : {cut : Cut} → mid.window.held ≡ [] → WillCut mid cut
+  pub stretch_cut : {cut : CutPoint} → mid.window.held ≡ [] → WillCut mid cut
       → TriesNext cutter (take size text) mid (Some cut) → CutsOn told mid cut text size old new next result
       → Stretches told cutter text size old new next result
   stretch_cut {cut} none will tries on = let line = take size text in let more = take on.on.n (drop size text) in record {
@@ -544,7 +542,7 @@ module _ {told : Bool} {cutter mid next : CutterState} {text : List ℕ} {size :
   }
 
   -- It is cut, and some wait.
-  pub stretch_first : {cut : Cut} → WillCut mid cut → TriesNext cutter (take size text) mid (Some cut)
+  pub stretch_first : {cut : CutPoint} → WillCut mid cut → TriesNext cutter (take size text) mid (Some cut)
       → CutsAll told mid cut (mid.lines - delimiters newline mid.window.held) (mid.window.held ++ take size text)
       (take size text) [] old new next (fault_in result)
       → IfOk result (λ passed. (passed.size ≡ size) × (passed.found ≡ None))

@@ -1,10 +1,8 @@
--- What stays of a plan when more lines come, what a turn says of it, what trying the next operand says, and over which lines it stands as it does.
+-- What stays of a plan when more lines come, what an attempt says of it, what trying the next operand says, and over which lines it stands as it does.
 use Rattle.std.proofs.{
   Common.{◌≡◌, inl, inr, ℕ, suc, ◌+◌, ◌-◌, ◌<◌, ◌≤◌, Bool, true, false, List, [], ◌∷◌, ◌++◌, length, get_or},
-  Common.{refl, ◌∙◌},
-  Common.{ap, arith, length-append, zero, ◌^◌, drop, sym, subst, None, Result, Ok, Err, OnOk, IfErr, Option},
-  Common.Some,
-  Common.{rules, append-nil, min, take, append_assoc},
+  Common.{refl, ◌∙◌, ap, arith, length-append, zero, ◌^◌, drop, sym, subst, None, Result, Ok, Err, OnOk, IfErr},
+  Common.{Option, Some, rules, append-nil, min, take, append_assoc},
   lemmas.{
     Grind.common_steps,
     Bool.{cases_lt, eq-eqb, eqb-true, ne_eqb, false≢true},
@@ -13,21 +11,21 @@ use Rattle.std.proofs.{
 }
 use Rattle.csplit_core.specs.{
   Operand.{Target, Number, Search, Operand, Line, unmarked, is_match, Offset, moved, has_more},
-  Plan.{State, Step, Ending, missed, above, search_line, MatchesNone, line_after, Runs, is_used_up, misses},
-  Plan.{is_above, is_below, cuts, below, CutsAt, state_after},
+  Plan.{State, Step, Ending, missed, above, search_line, MatchesNone, line_after, Runs, is_used_up, misses, is_above},
+  Plan.{is_below, cuts, below, CutsAt, state_after},
   Planned.plan,
   laws.{
     PlanLaws.{cuts_still, goes_on, plan_runs, plan_once, line_some, fewer_left, fewer_moves},
     SectionLaws.ends_as,
   },
   Progress.{state_of, EndsHere, AimsAt},
-  inner.Cutter.{AreSeen, Turns, FallsAt, GoesPast, WillCut, PassesOn, PassesCut, IsWhole, IsLine, Joins, Looked},
-  inner.Cutter.{IsFound, IsNoCut, StaysNear, Tries, TriesNext, AreClear, IsNextFound, Lacks, equipped},
+  inner.Cutter.{AreSeen, AgreesWithPlan, FallsAt, GoesPast, WillCut, PassesOn, PassesCut, IsWhole, IsLine, Joins},
+  inner.Cutter.{Looked, IsFound, IsNoCut, StaysNear, Tries, TriesNext, AreClear, IsNextFound, Lacks, equipped},
   inner.Cutter.{PassesClear, PassesOver, StopsAt},
   inner.PlanLaws.{needed, EndsAs},
   declared.{
-    progress.{Turn.{Turn, TheVariants.{Missed, Above, Below, Cuts}}, Progress.Progress},
-    line_cutter.{Cut.Cut, Passed.Passed},
+    progress.{Attempt.{Attempt, TheVariants.{Missed, Above, Below, Cuts}}, Progress.Progress},
+    line_cutter.{CutPoint.CutPoint, Passed.Passed},
   },
   Measure.{Moves, IsRepeatedBy, Fits},
   Input.{newline, without_newline, marked, all_lines, is_match_of},
@@ -39,7 +37,7 @@ use Rattle.csplit_core.proofs.{
   LineLemmas.{whole_count, whole_by, line_by, rest_all},
 }
 use Rattle.bre_core.specs.{Pattern.Pattern, Search.contains}
-use Rattle.ports_core.specs.{declared.fault.Fault.Fault, Turn.fault_in}
+use Rattle.ports_core.specs.{declared.fault.Fault.Fault, InTurn.fault_in}
 use Rattle.seg_core.specs.{
   Line.{line_count, lines_of, delimiters, ends_with, EndsAt, FallsShort, joined, HasNone, IsComplete, AreLines},
 }
@@ -90,7 +88,7 @@ stays suppress operands a b so =
     let here = plan_runs suppress operands a in
     search (rules, plan_once, (goes_on b _ _ here (ends_still b here so)), append-nil)
 
--- What a turn says of the plan.
+-- What an attempt says of the plan.
 
 -- a number that was capped, and is below the cap, is the number
 pub capped : (real cap most total : ℕ) → most ≡ min real cap → most ≤ total → total < cap → most ≡ real
@@ -100,8 +98,8 @@ module _ {suppress : Bool} (all : List Line) {total : ℕ} {state : State} {foun
     {operands : List Operand} (are : state.operands ≡ operand ∷ operands)
     (seen : AreSeen suppress all total state found) where
   pub falls : (matched real : ℕ) {most : ℕ} → CutsAt suppress all state operand operand.target matched real
-      → most ≡ min real (2 ^ 64 - 1) → total < 2 ^ 64 - 1 → (turn : Turn)
-      → FallsAt total state.current matched most turn → Turns suppress all state turn
+      → most ≡ min real (2 ^ 64 - 1) → total < 2 ^ 64 - 1 → (attempt : Attempt)
+      → FallsAt total state.current matched most attempt → AgreesWithPlan suppress all state attempt
   falls matched real {most} at_cut is few (Above line cap) at = record {
     ending = above operand state.repetition matched real;
     runs = is_above state operand operands matched real are at_cut (search rules);
@@ -111,13 +109,13 @@ module _ {suppress : Bool} (all : List Line) {total : ℕ} {state : State} {foun
       let same : most ≡ real = capped real (2 ^ 64 - 1) most total is at.0 few in
       record { ending = below operand state.repetition; runs = is_below state operand operands matched real are at_cut (omega arith) (omega arith); aims = tt }
   falls matched real at_cut is few (Cuts line cut) at = (search (rules, seen.count))
-  falls matched real at_cut is few turn at = absurd at
+  falls matched real at_cut is few attempt at = absurd at
 
   -- where the last line has the operand's pattern, its search ends there
   pub falls_search : {pattern : Pattern} {kept : Bool} (offset : Offset) {most : ℕ}
       → operand.target ≡ Search pattern kept offset → search_line suppress state ≤ total → found ≡ true
-      → most ≡ min (moved offset total) (2 ^ 64 - 1) → total < 2 ^ 64 - 1 → (turn : Turn)
-      → FallsAt total state.current total most turn → Turns suppress all state turn
+      → most ≡ min (moved offset total) (2 ^ 64 - 1) → total < 2 ^ 64 - 1 → (attempt : Attempt)
+      → FallsAt total state.current total most attempt → AgreesWithPlan suppress all state attempt
   falls_search offset target near is_found = falls total (moved offset total)
       (search rules)
 
@@ -167,7 +165,7 @@ fits_after suppress {total} {state} {operand} {operands} matched cut fits are at
 
 -- Going on after a cut
 
-module _ {cutter : CutterState} {cut : Cut} {operand : Operand} (progress : Progress) {suppress : Bool}
+module _ {cutter : CutterState} {cut : CutPoint} {operand : Operand} (progress : Progress) {suppress : Bool}
     (by : suppress ≡ suppress_in cutter) (fit : IsFit cutter) (none : cutter.window.held ≡ [])
     (will : WillCut cutter cut) (here : operand ≡ get_or cutter.operands cutter.progress.done operand)
     (next : (operands rest : List Operand) → drop cutter.progress.done operands ≡ operand ∷ rest
@@ -208,36 +206,37 @@ pub found_is : {cutter : CutterState} (line : List ℕ) {text : List ℕ} (numbe
     → search_line (suppress_in cutter) (state_in cutter) ≤ number → is_match_of line target ≡ found
 found_is line number target is sought says near = search rules
 
-pub turn_ends : {suppress : Bool} {lines : List Line} {state : State} (turn : Turn) → IsNoCut turn
-    → Turns suppress lines state turn → EndsHere suppress lines state turn
-turn_ends turn no_cut ends = search rules
+pub attempt_ends : {suppress : Bool} {lines : List Line} {state : State} (attempt : Attempt) → IsNoCut attempt
+    → AgreesWithPlan suppress lines state attempt → EndsHere suppress lines state attempt
+attempt_ends attempt no_cut ends = search rules
 
 -- a search after a cut begins at the cut or after it, and after the line that was matched last
 
 -- what `try_last` owes
 
-module _ {cutter : CutterState} (line : List ℕ) {found : Bool} (turn : Turn) (fit : IsFit cutter)
+module _ {cutter : CutterState} (line : List ℕ) {found : Bool} (attempt : Attempt) (fit : IsFit cutter)
     (says : IsFound cutter (without_newline line) cutter.lines found)
     (turns : (lines : List Line) → AreSeen (suppress_in cutter) lines cutter.lines (state_in cutter) found
-    → Turns (suppress_in cutter) lines (state_in cutter) turn) (x : List ℕ) (looked : Looked cutter x line) where
-  turned : Turns (suppress_in cutter) (all_lines x) (state_in cutter) turn
-  turned = turns (all_lines x) (grind (arith, common_steps))
+    → AgreesWithPlan (suppress_in cutter) lines (state_in cutter) attempt) (x : List ℕ)
+    (looked : Looked cutter x line) where
+  agrees : AgreesWithPlan (suppress_in cutter) (all_lines x) (state_in cutter) attempt
+  agrees = turns (all_lines x) (grind (arith, common_steps))
 
-  pub tries_cut : (cut : Cut) → turn ≡ Cuts cut.matched cut.line
+  pub tries_cut : (cut : CutPoint) → attempt ≡ Cuts cut.matched cut.line
       → GoesPast (suppress_in cutter) (all_lines x) (state_in cutter) cut.matched cut.line × StaysNear cutter cut
-  tries_cut cut is = search (rules, turned)
+  tries_cut cut is = search (rules, agrees)
 
-  pub tries_none : IsNoCut turn → EndsNow (record cutter { aim = turn }) x
-  tries_none no_cut = turn_ends turn no_cut turned
+  pub tries_none : IsNoCut attempt → EndsNow (record cutter { aim = attempt }) x
+  tries_none no_cut = attempt_ends attempt no_cut agrees
 
 -- One more line comes.
 
 -- With the lines of this text too there are `lines`, and the next operand stands as it did.
-abbrev pub StaysOver : CutterState → (text : List ℕ) (lines : ℕ) → Turn → Type 0
+abbrev pub StaysOver : CutterState → (text : List ℕ) (lines : ℕ) → Attempt → Type 0
 StaysOver cutter text lines Missed = (operand : Operand) → cutter.sought ≡ pattern_in operand.target → NoneFrom operand cutter.lines
     (all_lines text) (search_line (suppress_in cutter) (state_in cutter))
 StaysOver cutter text lines (Above matched line) = lines < line
-StaysOver cutter text lines turn = Unit {0}
+StaysOver cutter text lines attempt = Unit {0}
 
 -- what passing over a text leaves of the plan
 pub ends_over : {cutter : CutterState} {lines : ℕ} (text : List ℕ) → IsFit cutter
@@ -246,8 +245,9 @@ pub ends_over : {cutter : CutterState} {lines : ℕ} (text : List ℕ) → IsFit
     → (lines ≡ line_count newline (x ++ text)) × EndsNow (record cutter { lines = lines }) (x ++ text)
 ends_over text fit count stays x before counted ends = search (rules, length-all_lines, length-append, count-append, all_lines-append, ends_still)
 
-pub next_stays : {cutter : CutterState} {x : List ℕ} (line : List ℕ) {turn : Turn} → IsFit cutter → IsLive cutter x
-    → IsWhole x → IsLine line → cutter.aim ≡ turn → StaysOver cutter line (cutter.lines + 1) turn
+pub next_stays : {cutter : CutterState} {x : List ℕ} (line : List ℕ) {attempt : Attempt} → IsFit cutter
+    → IsLive cutter x
+    → IsWhole x → IsLine line → cutter.aim ≡ attempt → StaysOver cutter line (cutter.lines + 1) attempt
     → EndsNow (record cutter { lines = cutter.lines + 1 }) (x ++ line)
 next_stays {cutter} {x} line fit live whole one aim stays =
     (ends_over line fit (omega (arith, ap length one))
@@ -281,7 +281,7 @@ pub next_sought : {cutter : CutterState} {x : List ℕ} (live : IsLive cutter x)
     → cutter.sought ≡ None → ⊥
 next_sought live fit aim none = search rules
 
-pub next_tries : {cutter : CutterState} (next : CutterState) (line : List ℕ) (result : Option Cut) → IsFit cutter
+pub next_tries : {cutter : CutterState} (next : CutterState) (line : List ℕ) (result : Option CutPoint) → IsFit cutter
     → IsLine line → cutter.aim ≡ Missed → next.lines ≡ cutter.lines + 1
     → Tries (record cutter { lines = cutter.lines + 1 }) line next result → TriesNext cutter line next result
 next_tries next line None fit one aim counted tries = search (rules, next_looked)

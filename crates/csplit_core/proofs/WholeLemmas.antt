@@ -1,17 +1,14 @@
 -- The last section and the lines that wait are all lines that are left.
 use Rattle.std.proofs.{
   Common.{rules, ℕ, suc, ◌≤◌, Bool, true, false, arith, ◌≡◌, ◌-◌, List, length, drop, refl, sym, ◌+◌, [], ◌∷◌, ◌++◌},
-  Common.map,
-  Common.◌∙◌,
-  Common.{ap, append_assoc, append-nil, take-append-drop, drop-drop},
+  Common.{map, ◌∙◌, ap, append_assoc, append-nil, take-append-drop, drop-drop},
   lemmas.Grind.common_steps,
 }
 use Rattle.csplit_core.specs.{
   Plan.{line_after, Ending, State, Step, Runs, cuts},
   Operand.{Operand, Line},
   Planned.plan,
-  Section.{Section, section, section_of, lines_between, is_last_kept, whole_end},
-  Section.{whole_sections, is_final, lines_in},
+  Section.{Section, section, section_of, lines_between, is_last_kept, whole_end, whole_sections, is_final, lines_in},
   laws.{PlanLaws.plan_runs, SectionLaws.are_within},
 }
 

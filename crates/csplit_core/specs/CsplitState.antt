@@ -13,7 +13,7 @@ use Rattle.csplit_core.specs.{
   Cutter.{CutterState, IsSound, Stands, load},
   Output.manner_of,
   Input.{newline, open_line},
-  declared.progress.Turn.TheVariants.Below,
+  declared.progress.Attempt.TheVariants.Below,
 }
 
 pub record CsplitState : Type 0 where

@@ -1,6 +1,7 @@
 -- What contracts see of the cutter of lines, and what its calls do.
 use Rattle.std.specs.{
-  Prelude.{◌≡◌, ◌⊎◌, ℕ, ◌+◌, ◌-◌, ◌≤◌, max, Bool, true, false, List, [], ◌∷◌, ◌++◌, length, map, Option, Some, None},
+  Prelude.{◌≡◌, ◌⊎◌, ℕ, ◌+◌, ◌-◌, ◌≤◌, max, Bool, true, false, List, [], ◌∷◌, ◌++◌, length, map, Option, Some},
+  Prelude.None,
   List.flat_map,
 }
 use Rattle.bre_core.specs.Pattern.{Pattern}
@@ -17,7 +18,7 @@ use Rattle.csplit_core.specs.{
   Section.{section_of, lines_between, is_last_kept, settled_end, is_final, most_waiting, bytes_of},
   declared.{
     line_cutter.LineCutter.LineCutter,
-    progress.{Progress.Progress, Turn.{Turn, TheVariants.{UsedUp, Missed, Above, Below, Cuts}}},
+    progress.{Progress.Progress, Attempt.{Attempt, TheVariants.{UsedUp, Missed, Above, Below, Cuts}}},
   },
 }
 
@@ -28,7 +29,7 @@ pub record CutterState : Type 0 where
   pub writer : WriterState
   pub progress : Progress
   -- what the next operand did when it was last tried
-  pub aim : Turn
+  pub aim : Attempt
   -- how many lines came in
   pub lines : ℕ
   -- the lines that wait
@@ -87,7 +88,7 @@ abbrev pub kept_by : List Operand → Bool
 kept_by operands = kept_next (next_of operands)
 
 -- what was found of the next operand stays so
-abbrev pub AimHolds : List Operand → (lines : ℕ) → Progress → Turn → Type 0
+abbrev pub AimHolds : List Operand → (lines : ℕ) → Progress → Attempt → Type 0
 AimHolds operands lines progress UsedUp = Unit {0}
 AimHolds operands lines progress Missed = Unit {0}
 AimHolds operands lines progress (Above matched line) = WillMove operands lines progress matched line

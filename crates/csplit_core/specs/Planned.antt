@@ -24,35 +24,35 @@ abbrev pub first_match : Operand → List Line → ℕ → Option ℕ
 first_match operand lines from = first_among operand from (drop (from - 1) lines)
 
 -- what the next operand does: the run ends, or it makes a step and stands elsewhere
-pub data Turn : Type 0 where
-  ends : Ending → Turn
-  goes : Step → State → Turn
+pub data Attempt : Type 0 where
+  ends : Ending → Attempt
+  goes : Step → State → Attempt
 
--- the turn of an operand whose cut is known, where there are `total` lines
-abbrev pub turn_at : Bool → (total : ℕ) → State → Operand → List Operand → (matched cut : ℕ) → Turn
-turn_at suppress total state operand operands matched cut =
+-- the attempt of an operand whose cut is known, where there are `total` lines
+abbrev pub attempt_at : Bool → (total : ℕ) → State → Operand → List Operand → (matched cut : ℕ) → Attempt
+attempt_at suppress total state operand operands matched cut =
     if nat_lt total cut then ends (above operand state.repetition matched cut)
     else if nat_lt cut state.current then ends (below operand state.repetition)
     else goes (step_of state operand matched cut) (state_after suppress operand operands state.repetition matched cut)
 
-abbrev pub turn_from : Bool → (total : ℕ) → State → Operand → List Operand → Offset → Option ℕ → Turn
-turn_from suppress total state operand operands offset None = ends (missed operand state.repetition)
-turn_from suppress total state operand operands offset (Some line) =
-    turn_at suppress total state operand operands line (moved offset line)
+abbrev pub attempt_from : Bool → (total : ℕ) → State → Operand → List Operand → Offset → Option ℕ → Attempt
+attempt_from suppress total state operand operands offset None = ends (missed operand state.repetition)
+attempt_from suppress total state operand operands offset (Some line) =
+    attempt_at suppress total state operand operands line (moved offset line)
 
-abbrev pub turn_to : Bool → List Line → State → Operand → List Operand → Target → Turn
-turn_to suppress lines state operand operands (Number n) =
-    turn_at suppress (length lines) state operand operands state.matched (n * (state.repetition + 1))
-turn_to suppress lines state operand operands (Search pattern kept offset) =
-    turn_from suppress (length lines) state operand operands offset
+abbrev pub attempt_to : Bool → List Line → State → Operand → List Operand → Target → Attempt
+attempt_to suppress lines state operand operands (Number n) =
+    attempt_at suppress (length lines) state operand operands state.matched (n * (state.repetition + 1))
+attempt_to suppress lines state operand operands (Search pattern kept offset) =
+    attempt_from suppress (length lines) state operand operands offset
     (first_match operand lines (search_line suppress state))
 
-abbrev pub turn_of : Bool → List Line → State → List Operand → Turn
-turn_of suppress lines state [] = ends used_up
-turn_of suppress lines state (operand ∷ operands) = turn_to suppress lines state operand operands operand.target
+abbrev pub attempt_of : Bool → List Line → State → List Operand → Attempt
+attempt_of suppress lines state [] = ends used_up
+attempt_of suppress lines state (operand ∷ operands) = attempt_to suppress lines state operand operands operand.target
 
-abbrev pub turn : Bool → List Line → State → Turn
-turn suppress lines state = turn_of suppress lines state state.operands
+abbrev pub attempt : Bool → List Line → State → Attempt
+attempt suppress lines state = attempt_of suppress lines state state.operands
 
 abbrev pub ended : State → Ending → Plan
 ended state ending = record { steps = []; last = state; ending = ending }
@@ -63,7 +63,7 @@ with_step step plan = record { steps = step ∷ plan.steps; last = plan.last; en
 -- the plan from a state on, of at most this many steps
 abbrev pub plan_within : ℕ → Bool → List Line → State → Plan
 plan_within zero suppress lines state = ended state used_up
-plan_within (suc bound) suppress lines state = elim (turn suppress lines state) [
+plan_within (suc bound) suppress lines state = elim (attempt suppress lines state) [
   | ends ending ↦ ended state ending
   | goes step next ↦ with_step step (plan_within bound suppress lines next)
 ]

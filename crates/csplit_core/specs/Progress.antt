@@ -4,7 +4,7 @@ use Rattle.csplit_core.specs.{
   Operand.{Operand, Line},
   Plan.{State, Ending, used_up, missed, above, below, Runs},
   Measure.Moves,
-  declared.progress.{Progress.Progress, Turn.{Turn, TheVariants.{UsedUp, Missed, Above, Below}}},
+  declared.progress.{Progress.Progress, Attempt.{Attempt, TheVariants.{UsedUp, Missed, Above, Below}}},
 }
 
 abbrev pub state_of : List Operand → Progress → State
@@ -27,16 +27,16 @@ pub record WillMove (operands : List Operand) (total : ℕ) (progress : Progress
   pub matched_within : matched ≤ total
   pub above : total < line
 
--- a turn that cuts nothing is how the plan ends
-abbrev pub AimsAt : Turn → Ending → Type 0
+-- an attempt that cuts nothing is how the plan ends
+abbrev pub AimsAt : Attempt → Ending → Type 0
 AimsAt UsedUp used_up = Unit {0}
 AimsAt Missed (missed operand repetition) = Unit {0}
 AimsAt (Above last line) (above operand repetition matched cut) = (last ≡ matched) × (line ≡ min cut (2 ^ 64 - 1))
 AimsAt Below (below operand repetition) = Unit {0}
-AimsAt turn ending = ⊥
+AimsAt attempt ending = ⊥
 
--- The plan ends here, as the turn says.
-pub record EndsHere (suppress : Bool) (lines : List Line) (state : State) (turn : Turn) : Type 0 where
+-- The plan ends here, as the attempt says.
+pub record EndsHere (suppress : Bool) (lines : List Line) (state : State) (attempt : Attempt) : Type 0 where
   pub ending : Ending
   pub runs : Runs suppress lines state [] state ending
-  pub aims : AimsAt turn ending
+  pub aims : AimsAt attempt ending

@@ -8,7 +8,7 @@ ghost use Rattle.ports_core.specs.{
   Part.{OutputsAt, StoppedBetween, nothing},
   Slot.{Slot, is_writable},
   Swept.{AreThere, HasNoFiles},
-  Turn.fault_in,
+  InTurn.fault_in,
   FileWriter.{Breaks, IsReady as CanWrite},
 };
 ghost use Rattle.csplit_core.specs.{
@@ -20,7 +20,7 @@ ghost use Rattle.csplit_core.specs.{
   Input.newline,
   laws.InputLaws.lawful,
 };
-ghost use Rattle.csplit_core.specs.declared.progress.Turn.TheVariants as turn_is;
+ghost use Rattle.csplit_core.specs.declared.progress.Attempt.TheVariants as attempt_is;
 
 use crate::line_cutter::LineCutter;
 use crate::{Operand, Operands, Style};
@@ -118,8 +118,9 @@ impl<'o> Csplitter<'o> {
     fn wait(&mut self, bytes: &[u8]) -> Result<(), Fault>
         ensures cutter { self.new.cutter ≡ self.old.cutter }
         ensures taken { self.new.taken ≡ self.old.taken }
-        ensures past { OnOk result (self.old.cutter.aim ≡ turn_is.Below → self.new.rest ≡ self.old.rest) }
-        ensures live { OnOk result (self.old.cutter.aim ≢ turn_is.Below → self.new.rest ≡ self.old.rest ++ bytes.now) }
+        ensures past { OnOk result (self.old.cutter.aim ≡ attempt_is.Below → self.new.rest ≡ self.old.rest) }
+        ensures live { OnOk result (self.old.cutter.aim ≢ attempt_is.Below
+            → self.new.rest ≡ self.old.rest ++ bytes.now) }
         ensures err { IfErr result (λ fault. fault ≡ Fault.Memory) }
     {
         if self.cutter.is_past() {

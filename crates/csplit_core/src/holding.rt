@@ -1,7 +1,7 @@
 //! Lines that wait, and what leaves them.
 ghost use Rattle.std.specs.Prelude.{◌≡◌, ◌+◌, ◌<◌, ◌≤◌, ◌^◌, ◌++◌, [], length, take, IfOk, IfErr, OnOk};
 ghost use Rattle.seg_core.specs.{Line.but_last_lines, inner.Lines.last_lines, Window.without_first};
-ghost use Rattle.ports_core.specs.{Draft.with_bytes, FileWriter.{IsReady, seen_writer, size_of, Goes}, Turn.fault_in};
+ghost use Rattle.ports_core.specs.{Draft.with_bytes, FileWriter.{IsReady, seen_writer, size_of, Goes}, InTurn.fault_in};
 
 use ports_core::{Fault, FileWriter, Outs};
 use seg_core::line_window::LineWindow;

@@ -5,24 +5,24 @@ ghost use Rattle.std.specs.{
 };
 ghost use Rattle.bre_core.specs.Pattern.{Pattern};
 ghost use Rattle.seg_core.specs.Line.{delimiters};
-ghost use Rattle.ports_core.specs.{Slot.is_writable, Swept.AreThere, Turn.fault_in, FileWriter.{IsReady, size_of}};
+ghost use Rattle.ports_core.specs.{Slot.is_writable, Swept.AreThere, InTurn.fault_in, FileWriter.{IsReady, size_of}};
 ghost use Rattle.csplit_core.specs.{
   Csplit.verdict_of,
   Plan.{above, missed},
   Cutter.{IsFit, IsSound, load, seen},
-  inner.Cutter.{AreClear, Clears, CutAt, CutsAll, CutsOn, EndsAll, GoesOn, Judges, Opens, Holds, IsAimed, IsFound},
+  inner.Cutter.{AreClear, Clears, CutAt, CutsAll, CutsOn, EndsAll, PassesThenHolds, Judges, Opens, HoldsLines, IsAimed, IsFound},
   inner.Cutter.{IsLine, IsNoCut, IsWhole, Lacks, PassesClear, PassesCut, PassesOver, Spread, Starts, StopsAt},
   inner.Cutter.{Stretches, Takes, Tries, TriesNext, WillCut, equipped},
   Input.{newline, without_newline},
 };
-ghost use Rattle.csplit_core.specs.declared.progress.Turn.TheVariants as turn_is;
+ghost use Rattle.csplit_core.specs.declared.progress.Attempt.TheVariants as attempt_is;
 
 use crate::files::{opening_of, writer_of};
 use crate::holding::{drain, hold_last, write_front};
 use crate::lines::{skip_line, split_lines};
 use crate::matcher::{Matcher, text_of};
 use crate::next_operand::{find_matcher, find_window, is_kept, next_operand};
-use crate::progress::{Progress, Turn};
+use crate::progress::{Attempt, Progress};
 use crate::{Operand, Style, Target, Times};
 use memchr::memchr;
 use ports_core::{Fault, FileWriter, Outs, Verdict};
@@ -33,7 +33,7 @@ use std::alloc::Global;
 
 /// A cut: the line that the last pattern matched, and the line of the cut.
 #[derive(Clone, Copy)]
-pub struct Cut {
+pub struct CutPoint {
     /// The line that the last pattern matched, 0 where none was performed.
     pub matched: u64,
     /// The line of the cut.
@@ -58,7 +58,7 @@ pub struct LineCutter<'o> {
     writer: FileWriter,
     progress: Progress,
     /// What the next operand did when it was last tried; never a cut.
-    aim: Turn,
+    aim: Attempt,
     /// How many lines came in.
     lines: u64,
     /// The lines that wait.
@@ -90,7 +90,7 @@ impl<'o> LineCutter<'o> {
         let mut writer = writer_of(alloc, &style)?;
         writer.begin(opening_of(&style, is_kept(next)), outs)?;
         let progress = Progress::start();
-        let aim = progress.turn(style.suppress, operands, 0, false);
+        let aim = progress.attempt(style.suppress, operands, 0, false);
         Ok(LineCutter {
             alloc,
             operands,
@@ -142,10 +142,10 @@ impl<'o> LineCutter<'o> {
         let operand = self.operands.get(self.progress.done)?;
         let repetition = self.progress.repetition;
         match self.aim {
-            Turn::Missed => verdict_of_miss(operand, repetition),
-            Turn::Above(_, _) => verdict_of_range(operand, repetition),
-            Turn::Below => Some(Verdict::Range(operand.index, repetition)),
-            Turn::UsedUp | Turn::Cuts(_, _) => None,
+            Attempt::Missed => verdict_of_miss(operand, repetition),
+            Attempt::Above(_, _) => verdict_of_range(operand, repetition),
+            Attempt::Below => Some(Verdict::Range(operand.index, repetition)),
+            Attempt::UsedUp | Attempt::Cuts(_, _) => None,
         }
     }
 
@@ -185,10 +185,10 @@ impl<'o> LineCutter<'o> {
 
     /// Whether no line goes anywhere any more, since the last cut is below the current line.
     pub(crate) fn is_past(&self) -> bool
-        ensures past { result ≡ true → self.now.aim ≡ turn_is.Below }
-        ensures live { result ≡ false → self.now.aim ≢ turn_is.Below }
+        ensures past { result ≡ true → self.now.aim ≡ attempt_is.Below }
+        ensures live { result ≡ false → self.now.aim ≢ attempt_is.Below }
     {
-        matches!(self.aim, Turn::Below)
+        matches!(self.aim, Attempt::Below)
     }
 
     /// Takes in a beginning of a text: its first line, which has `size` bytes and may lack its newline if it is the only one, and
@@ -230,7 +230,7 @@ impl<'o> LineCutter<'o> {
     /// where the pattern that is searched for was found in it.
     fn cut_on<O: Outs>(
         &mut self,
-        cut: Cut,
+        cut: CutPoint,
         text: &[u8],
         size: usize,
         outs: &mut O,
@@ -268,8 +268,8 @@ impl<'o> LineCutter<'o> {
             < 2 ^ 63 }
         requires sound { IsSound (seen self.old) }
         requires ready { IsReady (seen self.old).writer (O.slots outs.old) }
-        ensures { GoesOn O.told (seen self.old) (drop from (take size text.now)) text.now size (O.slots outs.old)
-            (O.slots outs.new) (seen self.new) result }
+        ensures { PassesThenHolds O.told (seen self.old) (drop from (take size text.now)) text.now size
+            (O.slots outs.old) (O.slots outs.new) (seen self.new) result }
     {
         let passed = self.pass_over(&text[size..]);
         let end = size + passed.size;
@@ -301,13 +301,13 @@ impl<'o> LineCutter<'o> {
         ensures { StopsAt (seen self.old) text.now (seen self.new) result }
     {
         match self.aim {
-            Turn::Above(_, line) => unfound(self.pass_below(line, text)),
-            Turn::Missed => self.pass_unmatched(text),
-            Turn::UsedUp => {
+            Attempt::Above(_, line) => unfound(self.pass_below(line, text)),
+            Attempt::Missed => self.pass_unmatched(text),
+            Attempt::UsedUp => {
                 self.lines += count_delimiters(text, NEWLINE) as u64;
                 unfound(text.len())
             }
-            Turn::Below | Turn::Cuts(_, _) => unfound(0),
+            Attempt::Below | Attempt::Cuts(_, _) => unfound(0),
         }
     }
 
@@ -316,7 +316,7 @@ impl<'o> LineCutter<'o> {
         requires whole { IsWhole text.now }
         requires fits { self.old.lines + length text.now < 2 ^ 63 }
         requires sound { IsSound (seen self.old) }
-        requires aim { (matched : ℕ) × (self.old.aim ≡ turn_is.Above matched line) }
+        requires aim { (matched : ℕ) × (self.old.aim ≡ attempt_is.Above matched line) }
         ensures { PassesOver (seen self.old) text.now (seen self.new) result }
     {
         let count = match reach(text, line - 1 - self.lines, NEWLINE) {
@@ -335,7 +335,7 @@ impl<'o> LineCutter<'o> {
         requires whole { IsWhole text.now }
         requires fits { self.old.lines + length text.now < 2 ^ 63 }
         requires sound { IsSound (seen self.old) }
-        requires aim { self.old.aim ≡ turn_is.Missed }
+        requires aim { self.old.aim ≡ attempt_is.Missed }
         ensures { StopsAt (seen self.old) text.now (seen self.new) result }
     {
         let clear = self.pass_clear(text);
@@ -385,13 +385,13 @@ impl<'o> LineCutter<'o> {
 
     /// Counts one more line, and tries the next operand with it. `is_found` says that the pattern that is searched for was
     /// found in it. Returns its cut, if it makes one.
-    fn try_line(&mut self, line: &[u8], is_found: bool) -> Option<Cut>
+    fn try_line(&mut self, line: &[u8], is_found: bool) -> Option<CutPoint>
         requires line { IsLine line.now }
         requires found { is_found ≡ true
             → IsFound (seen self.old) (without_newline line.now) (self.old.lines + 1) true }
         requires few { self.old.lines < 2 ^ 63 }
         requires sound { IsSound (seen self.old) }
-        requires live { self.old.aim ≢ turn_is.Below }
+        requires live { self.old.aim ≢ attempt_is.Below }
         ensures same { seen self.new ≡ record (seen self.old) { lines = self.old.lines + 1; aim = self.new.aim } }
         ensures fit { IsFit (seen self.new) }
         ensures aim { IfNone result (IsAimed (seen self.new)) }
@@ -400,21 +400,21 @@ impl<'o> LineCutter<'o> {
     {
         self.lines += 1;
         match self.aim {
-            Turn::Above(matched, line) => {
+            Attempt::Above(matched, line) => {
                 if self.lines < line {
                     return None;
                 }
-                Some(Cut { matched, line })
+                Some(CutPoint { matched, line })
             }
-            Turn::Missed => self.try_last(line, is_found),
-            Turn::UsedUp => None,
-            Turn::Below | Turn::Cuts(_, _) => None,
+            Attempt::Missed => self.try_last(line, is_found),
+            Attempt::UsedUp => None,
+            Attempt::Below | Attempt::Cuts(_, _) => None,
         }
     }
 
     /// Tries the next operand, where this is the last line that came in, and none before it is to be looked at. `is_found`
     /// says that its pattern was found there. Returns its cut, if it makes one.
-    fn try_last(&mut self, line: &[u8], is_found: bool) -> Option<Cut>
+    fn try_last(&mut self, line: &[u8], is_found: bool) -> Option<CutPoint>
         requires line { IsLine line.now }
         requires found { is_found ≡ true → IsFound (seen self.old) (without_newline line.now) self.old.lines true }
         requires few { self.old.lines ≤ 2 ^ 63 }
@@ -425,15 +425,15 @@ impl<'o> LineCutter<'o> {
         ensures tries { Tries (seen self.old) line.now (seen self.new) result }
     {
         if is_found {
-            return self.turn_last(true);
+            return self.attempt_last(true);
         }
         let found = self.is_match(text_of(line), self.lines);
-        self.turn_last(found)
+        self.attempt_last(found)
     }
 
     /// Tries the next operand with the last line that came in, where `found` says whether it has the operand's pattern.
     /// Returns its cut, if it makes one.
-    fn turn_last(&mut self, found: bool) -> Option<Cut>
+    fn attempt_last(&mut self, found: bool) -> Option<CutPoint>
         requires few { self.old.lines ≤ 2 ^ 63 }
         requires fit { IsFit (seen self.old) }
         ensures same { seen self.new ≡ record (seen self.old) { aim = self.new.aim } }
@@ -443,13 +443,13 @@ impl<'o> LineCutter<'o> {
             → Tries (seen self.old) line (seen self.new) result }
     {
         let suppress = self.style().suppress;
-        let turn = self
+        let attempt = self
             .progress
-            .turn(suppress, self.operands, self.lines, found);
-        match cut_of(turn) {
+            .attempt(suppress, self.operands, self.lines, found);
+        match cut_of(attempt) {
             Some(cut) => Some(cut),
             None => {
-                self.aim = turn;
+                self.aim = attempt;
                 None
             }
         }
@@ -473,7 +473,7 @@ impl<'o> LineCutter<'o> {
     }
 
     /// Cuts the lines that wait and the last line, and then keeps of them what waits.
-    fn cut_line<O: Outs>(&mut self, cut: Cut, line: &[u8], outs: &mut O) -> Result<(), Fault>
+    fn cut_line<O: Outs>(&mut self, cut: CutPoint, line: &[u8], outs: &mut O) -> Result<(), Fault>
         requires line { IsLine line.now }
         requires few { self.old.lines ≤ 2 ^ 63 }
         requires fits { size_of self.old.writer.current + length self.old.window.held + length line.now < 2 ^ 63 }
@@ -495,7 +495,7 @@ impl<'o> LineCutter<'o> {
     /// line waits. Returns what is left, which isn't held yet.
     fn cut_often<'l, O: Outs>(
         &mut self,
-        cut: Cut,
+        cut: CutPoint,
         place: u64,
         waiting: &'l [u8],
         line: &[u8],
@@ -525,7 +525,7 @@ impl<'o> LineCutter<'o> {
     /// line waits.
     fn cut_at<'l, O: Outs>(
         &mut self,
-        cut: Cut,
+        cut: CutPoint,
         place: u64,
         waiting: &'l [u8],
         outs: &mut O,
@@ -554,7 +554,7 @@ impl<'o> LineCutter<'o> {
     }
 
     /// Goes on after a cut of the next operand, where no line waits.
-    fn pass(&mut self, cut: Cut) -> Result<(), Fault>
+    fn pass(&mut self, cut: CutPoint) -> Result<(), Fault>
         requires few { self.old.lines ≤ 2 ^ 63 }
         requires fit { IsFit (seen self.old) }
         requires none { self.old.window.held ≡ [] }
@@ -588,8 +588,8 @@ impl<'o> LineCutter<'o> {
         requires fits { size_of self.old.writer.current + length self.old.window.held + length text.now < 2 ^ 63 }
         requires fit { IsFit (seen self.old) }
         requires ready { IsReady (seen self.old).writer (O.slots outs.old) }
-        ensures { Holds O.told (seen self.old) (self.old.window.held ++ text.now) (O.slots outs.old) (O.slots outs.new)
-            (seen self.new) (fault_in result) }
+        ensures { HoldsLines O.told (seen self.old) (self.old.window.held ++ text.now) (O.slots outs.old)
+            (O.slots outs.new) (seen self.new) (fault_in result) }
     {
         if self.is_past() {
             self.window.drop_front(self.window.len());
@@ -649,16 +649,16 @@ fn verdict_of_range(operand: &Operand, repetition: u64) -> Option<Verdict>
     }
 }
 
-/// The cut of a turn, if it is one.
-fn cut_of(turn: Turn) -> Option<Cut>
-    ensures some { IfSome result (λ cut. turn ≡ turn_is.Cuts cut.matched cut.line) }
-    ensures none { IfNone result (IsNoCut turn) }
+/// The cut of an attempt, if it is one.
+fn cut_of(attempt: Attempt) -> Option<CutPoint>
+    ensures some { IfSome result (λ cut. attempt ≡ attempt_is.Cuts cut.matched cut.line) }
+    ensures none { IfNone result (IsNoCut attempt) }
 {
-    match turn {
-        Turn::Cuts(matched, line) => Some(Cut { matched, line }),
-        Turn::UsedUp => None,
-        Turn::Missed => None,
-        Turn::Above(_, _) => None,
-        Turn::Below => None,
+    match attempt {
+        Attempt::Cuts(matched, line) => Some(CutPoint { matched, line }),
+        Attempt::UsedUp => None,
+        Attempt::Missed => None,
+        Attempt::Above(_, _) => None,
+        Attempt::Below => None,
     }
 }

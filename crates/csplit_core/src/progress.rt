@@ -3,7 +3,7 @@ ghost use Rattle.std.specs.Prelude.{◌≡◌, ◌<◌, ◌≤◌, ◌-◌, ◌^
 ghost use Rattle.csplit_core.specs.{
   Operand.{Line, has_more, moved},
   Plan.{line_after, search_line, state_after},
-  inner.Cutter.{AreSeen, FallsAt, MovesOn, Turns},
+  inner.Cutter.{AreSeen, FallsAt, MovesOn, AgreesWithPlan},
   Progress.state_of,
 };
 ghost use Rattle.operand_core.specs.declared.operand.Operand.{Operand};
@@ -12,7 +12,7 @@ use crate::{Offset, Operand, Target, Times};
 
 /// What the next operand does.
 #[derive(Clone, Copy)]
-pub enum Turn {
+pub enum Attempt {
     /// None is left.
     UsedUp,
     /// Its pattern matches no line.
@@ -69,17 +69,17 @@ impl Progress {
 
     /// What the next operand does where there are `total` lines. `found` says whether the last of them has its pattern;
     /// the lines before that one don't have it, from the beginning of its search on.
-    pub fn turn(&self, suppress: bool, operands: &[Operand], total: u64, found: bool) -> Turn
+    pub fn attempt(&self, suppress: bool, operands: &[Operand], total: u64, found: bool) -> Attempt
         requires current { self.now.current < 2 ^ 64 - 1 }
         requires matched { self.now.matched < 2 ^ 64 - 1 }
         requires repetition { self.now.repetition < 2 ^ 64 - 1 }
         requires few { total < 2 ^ 64 - 1 }
         ensures says { (lines : List Line) → AreSeen suppress lines total (state_of operands.now self.now) found
-            → Turns suppress lines (state_of operands.now self.now) result }
+            → AgreesWithPlan suppress lines (state_of operands.now self.now) result }
         ensures moves { self.now.matched ≤ total → MovesOn operands.now total self.now result }
     {
         let Some(operand) = operands.get(self.done) else {
-            return Turn::UsedUp;
+            return Attempt::UsedUp;
         };
         match &operand.target {
             Target::Number(number) => {
@@ -88,10 +88,10 @@ impl Progress {
             }
             Target::Search { offset, .. } => {
                 if total < self.search_line(suppress) {
-                    return Turn::Missed;
+                    return Attempt::Missed;
                 }
                 if !found {
-                    return Turn::Missed;
+                    return Attempt::Missed;
                 }
                 fall(total, self.current, total, line_at(*offset, total))
             }
@@ -139,15 +139,15 @@ fn has_more(times: Times, repetition: u64) -> bool
 }
 
 /// Where a cut falls among `total` lines.
-fn fall(total: u64, current: u64, matched: u64, cut: u64) -> Turn
+fn fall(total: u64, current: u64, matched: u64, cut: u64) -> Attempt
     ensures { FallsAt total current matched cut result }
 {
     if total < cut {
-        Turn::Above(matched, cut)
+        Attempt::Above(matched, cut)
     } else if cut < current {
-        Turn::Below
+        Attempt::Below
     } else {
-        Turn::Cuts(matched, cut)
+        Attempt::Cuts(matched, cut)
     }
 }
 

@@ -6,8 +6,7 @@ use Rattle.std.proofs.{
     List.{append-nil, drop-append-le, length-replicate},
   },
   Common.{◌≡◌, ◌≢◌, ℕ, ◌+◌, ◌-◌, ◌<◌, ◌≤◌, zero, suc, List, [], ◌∷◌, ◌++◌, length, drop, replicate, Bool},
-  Common.{true, false},
-  Common.{cond, inl, inr, refl, sym, ◌∙◌, ap, subst, arith, append_assoc, length-append, rules},
+  Common.{true, false, cond, inl, inr, refl, sym, ◌∙◌, ap, subst, arith, append_assoc, length-append, rules},
   Math.Seq.drop-append_seam,
 }
 use Rattle.seg_core.{

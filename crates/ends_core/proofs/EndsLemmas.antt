@@ -8,9 +8,8 @@ use Rattle.std.proofs.lemmas.{
 }
 use Rattle.std.proofs.{
   Common.{◌≡◌, ℕ, ◌+◌, ◌-◌, ◌<◌, ◌≤◌, ◌&&◌, not, List, [], ◌∷◌, ◌++◌, ◌⊎◌, length, Bool, true, false},
-  Common.{IsTrue, Ok, Err},
-  Common.{Result, OnOk, nat_le, inl, inr, None, refl, sym, ◌∙◌, ap, subst, arith, length-append, ◌↔◌, replicate, lit<},
-  Common.{zero, suc, take, drop, rules},
+  Common.{IsTrue, Ok, Err, Result, OnOk, nat_le, inl, inr, None, refl, sym, ◌∙◌, ap, subst, arith, length-append},
+  Common.{◌↔◌, replicate, lit<, zero, suc, take, drop, rules},
 }
 use Rattle.ports_core.specs.{
   Slot.{Slot, is_writable, with_written, told_of},
@@ -38,7 +37,7 @@ use Rattle.ends_core.specs.{
   Stage.{waiting_of, waiting, past_in, past_of, may_lack, least_of, missing_of, work, Holds, terms, is_done},
   Stage.all_but_last,
   inner.{
-    Stage.{EndsBadly, changed, stopped, IsSilent, passed, due, due_at_end, left_waiting, is_full, unused_of},
+    Stage.{EndsBadly, changed, stopped, WritesNothing, passed, due, due_at_end, left_waiting, is_full, unused_of},
     Stage.{FullLacksNone, SameAsked, piece_for, wanted_by},
     Kept.Stops,
   },
@@ -259,7 +258,7 @@ on_ok_each (Err f) also is too three = tt
 -- what is passed over of an input before any piece is as a piece with which nothing is written
 
 -- of nothing nothing is written
-pub silent_none : (ends : Ends) → IsSilent ends []
+pub silent_none : (ends : Ends) → WritesNothing ends []
 silent_none (FromNth _ front) = (stays front front.unit).0
 silent_none ends = refl
 
@@ -273,10 +272,10 @@ pub passed_front : {told : Bool} {slot count n : ℕ} {ends next : Ends} {front 
     × (now
     ≡ record front
     { left = front.left - measure front.delim front.unit x; missing = front.missing - length x })) old new
-    → PassesOver told slot count (λ x. IsSilent ends x × (next ≡ passed ends x)) old new
+    → PassesOver told slot count (λ x. WritesNothing ends x × (next ≡ passed ends x)) old new
 passed_front is after passes = passes_so _ passes (λ x long keeps. rw (is, after, keeps.1) (keeps.0, refl))
 
-took_in : (ends : Ends) {x : List ℕ} → Holds ends [] → terms.size ends ≡ 0 → IsSilent ends x
+took_in : (ends : Ends) {x : List ℕ} → Holds ends [] → terms.size ends ≡ 0 → WritesNothing ends x
     → TookIn terms ends (passed ends x) x
 took_in (FromNth count front) {x} fresh none silent = record {
   same = refl;
@@ -302,7 +301,7 @@ took_in ends fresh none silent = rw silent (record {
 
 pub loads : (told : Bool) {slot count : ℕ} {ends next : Ends} {old new : List Source} → Holds ends []
     → terms.size ends ≡ 0
-    → PassesOver told slot count (λ x. IsSilent ends x × (next ≡ passed ends x)) old new
+    → PassesOver told slot count (λ x. WritesNothing ends x × (next ≡ passed ends x)) old new
     → Loads terms told slot count ends next old new
 loads told {ends = ends} fresh none passes =
     passes_so _ passes (λ x long keeps. rw keeps.1 (took_in ends fresh none keeps.0))

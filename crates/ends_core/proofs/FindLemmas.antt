@@ -4,9 +4,9 @@ use Rattle.std.proofs.{
   lemmas.Option.none-some,
   lemmas.List.{length-take, length-drop, length-replicate, drop-drop, take-append-drop, take-take, take_at, drop_at},
   lemmas.List.{drop_all, drop-append-le, drop-take},
-  Common.{◌≡◌, ℕ, ◌+◌, ◌-◌, ◌<◌, ◌≤◌, ◌==◌, zero, suc, List, [], ◌∷◌, ◌++◌, length, take, drop, replicate, min, Bool},
-  Common.{true, false, IsTrue, Option, Some, None, option_map, refl, sym, ◌∙◌, ap, arith, length-append, if◌then◌else◌},
-  Common.rules,
+  Common.{◌≡◌, ℕ, ◌+◌, ◌-◌, ◌<◌, ◌≤◌, ◌==◌, zero, suc, List, [], ◌∷◌, ◌++◌, length, take, drop, replicate},
+  Common.{min, Bool, true, false, IsTrue, Option, Some, None, option_map, refl, sym, ◌∙◌, ap, arith, length-append},
+  Common.{if◌then◌else◌, rules},
   Math.Seq.take-add,
 }
 use Rattle.std.specs.List.{onto_first}

@@ -14,7 +14,7 @@ ghost use Rattle.ends_core.specs.{
   Tail.tail_work,
   Shown.{head_shown, place_of, tail_shown},
   inner.{
-    Stage.{EndsBadly, FullLacksNone, IsSilent, SameAsked, passed, due, due_at_end, is_full, left_waiting, unused_of},
+    Stage.{EndsBadly, FullLacksNone, WritesNothing, SameAsked, passed, due, due_at_end, is_full, left_waiting, unused_of},
     Stage.wanted_by,
     Kept.Writes,
   },
@@ -174,7 +174,7 @@ impl Stage for Ends {
     /// are asked for, those before it.
     fn load<I: Inputs>(&mut self, slot: usize, most: usize, inputs: &mut I) -> u64
         requires { IsTrue (is_readable (I.sources inputs.old) slot) }
-        ensures passes { PassesOver I.told slot result (λ x. IsSilent self.old x × (self.new ≡ passed self.old x))
+        ensures passes { PassesOver I.told slot result (λ x. WritesNothing self.old x × (self.new ≡ passed self.old x))
             (I.sources inputs.old) (I.sources inputs.new) }
         ensures laid { I.laid inputs.new ≡ I.laid inputs.old }
     {

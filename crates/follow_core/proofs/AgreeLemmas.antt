@@ -23,8 +23,7 @@ use Rattle.watch_core.{
   proofs.WorldLemmas.{append_leads, append_grows},
 }
 use Rattle.follow_core.{
-  specs.Version.{Version, Entry, version, gap, version_in, entries_led, entries_later, entries_at_look},
-  specs.Version.entries_of,
+  specs.Version.{Version, Entry, version, gap, version_in, entries_led, entries_later, entries_at_look, entries_of},
   specs.Gain.{file_of, gain_between, gains_later, last_from, gains_after},
   specs.Run.{AreKept, name_text},
   specs.Placing.{all_edits, IsUncut, AreSeen, AllSeen},
@@ -132,7 +131,7 @@ gained by_name name last looks = gains_later last (entries_later by_name name (f
 abbrev last_seen : Bool → List ℕ → Entry → Snapshot → Entry
 last_seen by_name name last snapshot = last_from last (entries_at_look by_name name (file_of last) snapshot)
 
-stays_now : {by_name name : _} (last : Entry) {world : World} → Sound world
+stays_now : {by_name : Bool} {name : List ℕ} (last : Entry) {world : World} → Sound world
     → Stays by_name name world (last_seen by_name name last (seen_in world))
 stays_now {by_name} {name} last {world} sound = grind (arith, common_steps, look_leaves, false≢true)
 
@@ -156,7 +155,7 @@ Refines by_name name groups = (world : World) (last : Entry) → Stays by_name n
     → gained by_name name last (snapshots_from world groups)
     ≡ gained by_name name last (snapshots_from world (singles (all_edits groups)))
 
-one_group : {by_name name : _} (group : List Edit) (groups : List (List Edit)) → AreSeen group
+one_group : {by_name : Bool} {name : List ℕ} (group : List Edit) (groups : List (List Edit)) → AreSeen group
     → Refines by_name name groups → Refines by_name name (group ∷ groups)
 one_group {by_name} [] groups seen rest world last stays = idle_look by_name last _ stays ∙ rest world last stays
 one_group {by_name} {name} (edit ∷ []) groups seen rest world last stays = grind (arith, common_steps, same_first, stays_now, sound_edited)
@@ -202,7 +201,7 @@ one_group {by_name} {name} (bar other is ∷ next ∷ edits) groups seen rest wo
     one_group (next ∷ edits) groups seen rest (edited (bar other is) world) last still
     ∙ sym (idle_look by_name last (snapshots_from (edited (bar other is) world) (singles (all_edits ((next ∷ edits) ∷ groups)))) still)
 
-refines : {by_name name : _} (groups : List (List Edit)) → AllSeen groups → Refines by_name name groups
+refines : {by_name : Bool} {name : List ℕ} (groups : List (List Edit)) → AllSeen groups → Refines by_name name groups
 refines [] seen world last stays = refl
 refines (group ∷ groups) seen world last stays = one_group group groups seen.0 (refines groups seen.1) world last stays
 

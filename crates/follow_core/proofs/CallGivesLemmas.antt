@@ -2,14 +2,13 @@
 use Rattle.std.proofs.{
   lemmas.{
     Grind.common_steps,
-    List.{append-nil, take-append-le, take-append-drop, length-drop, length-take-le},
-    List.drop-drop as drop_drop,
-    Bool.{false≢true},
+    List.{append-nil, take-append-le, take-append-drop, length-drop, length-take-le, drop-drop as drop_drop},
+    Bool.false≢true,
   },
-  Common.{◌≡◌, ℕ, Bool, List, [], ◌∷◌, ◌++◌, ◌⊎◌, inr, ◌∙◌, ap, ◌+◌, ◌<◌, length, take, true},
-  Common.{false, Some, None, Option, refl, sym, arith, append_assoc, ◌-◌, ◌≤◌, drop, option_map, suc, zero},
-  Common.{IsTrue, is_some, rules},
-  Math.{Seq.take-add},
+  Common.{◌≡◌, ℕ, Bool, List, [], ◌∷◌, ◌++◌, ◌⊎◌, inr, ◌∙◌, ap, ◌+◌, ◌<◌, length, take, true, false, Some},
+  Common.{None, Option, refl, sym, arith, append_assoc, ◌-◌, ◌≤◌, drop, option_map, suc, zero, IsTrue, is_some},
+  Common.rules,
+  Math.Seq.take-add,
 }
 use Rattle.ports_core.{
   specs.{Slot.{Slot, is_open, changed_at}, declared.fault.Fault.Fault},
@@ -19,10 +18,9 @@ use Rattle.follow_core.specs.{
   Sharing.{CameTo, CanPrint},
   Telling.Tells,
   Printing.{PrinterState, broke as short_broke, no_room},
-  declared.{notice.Notice.{Notice}, visitor.Stop.{Stop, TheVariants.{Broke, Over}}},
-  inner.Giving.{IsFront, ArePut, BrokeAt, Came, CanGoOn, Copies, Ends, Follows, IfBroke, Keeps},
-  inner.Giving.{HoldsMany, Noted, Puts, WereFound, fault_by, found_all, found_before},
-  inner.Giving.{found_begun, over_by},
+  declared.{notice.Notice.Notice, visitor.Stop.{Stop, TheVariants.{Broke, Over}}},
+  inner.Giving.{IsFront, ArePut, BrokeAt, Came, CanGoOn, Copies, GivesDue, Follows, IfBroke, Keeps, HoldsMany, Noted},
+  inner.Giving.{Puts, WereFound, fault_by, found_all, found_before, found_begun, over_by},
   inner.Visits.KeepsOthers,
   Standing.IsLong,
   Reading.{AllGive, AreRead, IsRead, IsWhole, none_read, one_more},
@@ -31,13 +29,11 @@ use Rattle.follow_core.specs.{
 }
 use Rattle.follow_core.proofs.{
   EventLemmas.{begins_after, begins_all, begins_bytes, begins_more, bytes-append, lines-append},
-  CallLemmas.{tells_state, came_none, came_after, puts_after},
-  CallLemmas.puts_nothing,
+  CallLemmas.{tells_state, came_none, came_after, puts_after, puts_nothing},
 }
 use Rattle.watch_core.{
-  specs.declared.watch.{Broken.{Broken, TheVariants.{Read}}},
-  specs.Watched.{NameBreaks, GaveFrom, Watched, no_name, is_watchable},
-  specs.Watched.{open_contents, opens, watched_at},
+  specs.declared.watch.{Broken.{Broken, TheVariants.Read}},
+  specs.Watched.{NameBreaks, GaveFrom, Watched, no_name, is_watchable, open_contents, opens, watched_at},
   specs.Snapshot.{Snapshot, Found, holds_many, reads_as},
   proofs.NameLemmas.{broke_so, watchable_within},
 }
@@ -53,11 +49,13 @@ if_so None so = tt
 if_so (Some (Broke why)) so = so
 if_so (Some (Over why)) so = tt
 
-module _ {told_in told opened : Bool} {Is : List Event → Type 0} {printer after name due before old new : _} where
+module _ {told_in told opened : Bool} {Is : List Event → Type 0} {printer after : PrinterState} {name : List ℕ}
+    {due before : List Event} {old new : List Slot} where
   -- what is due may be said in another way
-  pub due_by : {other more stop : _} → (told_in ≡ true → (due ≡ other) × IfBroke stop (before ≡ more))
-      → Ends told_in Is told opened printer name due before old after new stop
-      → Ends told_in Is told opened printer name other more old after new stop
+  pub due_by : {other more : List Event} {stop : Option Stop}
+      → (told_in ≡ true → (due ≡ other) × IfBroke stop (before ≡ more))
+      → GivesDue told_in Is told opened printer name due before old after new stop
+      → GivesDue told_in Is told opened printer name other more old after new stop
   due_by {more} {stop} same ends = record {
     events = ends.events;
     are = λ t. grind (arith, common_steps, same t, ends.are t);
@@ -67,8 +65,8 @@ module _ {told_in told opened : Bool} {Is : List Event → Type 0} {printer afte
 
   -- what stops the first of two steps stops both
   pub stops_early : (more : List Event) {stop : Stop}
-      → Ends told_in Is told opened printer name due before old after new (Some stop)
-      → Ends told_in Is told opened printer name (due ++ more) before old after new (Some stop)
+      → GivesDue told_in Is told opened printer name due before old after new (Some stop)
+      → GivesDue told_in Is told opened printer name (due ++ more) before old after new (Some stop)
   stops_early more {stop} ends = record {
     events = ends.events;
     are = λ t. grind (arith, common_steps, ends.are t, begins_more);
@@ -76,13 +74,15 @@ module _ {told_in told opened : Bool} {Is : List Event → Type 0} {printer afte
     came = ends.came;
   }
 
-pub nothing_due : {told_in told : Bool} {Is : List Event → Type 0} {printer name before slots : _} → Is []
-    → Ends told_in Is told false printer name [] before slots printer slots None
+pub nothing_due : {told_in told : Bool} {Is : List Event → Type 0} {printer : PrinterState} {name : List ℕ}
+    {before : List Event} {slots : List Slot} → Is []
+    → GivesDue told_in Is told false printer name [] before slots printer slots None
 nothing_due found = record { events = []; are = λ t. refl; found = found; came = came_none }
 
 -- a call failed before anything was given
-pub broke_first : {told_in told : Bool} {Is : List Event → Type 0} {printer name due slots why : _} → Is []
-    → Ends told_in Is told false printer name due [] slots printer slots (Some (Broke why))
+pub broke_first : {told_in told : Bool} {Is : List Event → Type 0} {printer : PrinterState} {name : List ℕ}
+    {due : List Event} {slots : List Slot} {why : Fault} → Is []
+    → GivesDue told_in Is told false printer name due [] slots printer slots (Some (Broke why))
 broke_first found = record { events = []; are = λ t. refl; found = found; came = came_none }
 
 -- what reads gave
@@ -101,26 +101,27 @@ give_both Tells Is (notes notice ∷ events) more first second = (first.0, give_
 give_both Tells Is (gives bytes ∷ events) more first second = (first.0, give_both Tells Is events more first.1 second)
 
 -- from places among others
-read_from : {One Other : Option ℕ → ℕ → Type 0} {snapshot name bytes : _}
+read_from : {One Other : Option ℕ → ℕ → Type 0} {snapshot : Snapshot} {name bytes : List ℕ}
     → ((file : Option ℕ) (from : ℕ) → One file from → Other file from) → IsRead One snapshot name bytes
     → IsRead Other snapshot name bytes
 read_from so is = grind (arith, common_steps)
 
-whole_from : {One Other : Option ℕ → ℕ → Type 0} {snapshot name bytes fate : _}
+whole_from : {One Other : Option ℕ → ℕ → Type 0} {snapshot : Snapshot} {name bytes : List ℕ} {fate : Fate}
     → ((file : Option ℕ) (from : ℕ) → One file from → Other file from) → IsWhole One snapshot name fate bytes
     → IsWhole Other snapshot name fate bytes
 unfolding read_from
 whole_from so whole = record { is = read_from so whole.is; ends = whole.ends }
 
 -- of a name that came through it is so whatever becomes of it later
-sound_whole : {Begin : Option ℕ → ℕ → Type 0} {snapshot name bytes : _} (fate : Fate)
+sound_whole : {Begin : Option ℕ → ℕ → Type 0} {snapshot : Snapshot} {name bytes : List ℕ} (fate : Fate)
     → IsWhole Begin snapshot name sound bytes → IsWhole Begin snapshot name fate bytes
 sound_whole fate whole = record {
   is = whole.is;
   ends = grind (arith, common_steps, whole.ends);
 }
 
-found_from : {Tells Told : Notice → Type 0} {One Other : Option ℕ → ℕ → Type 0} {snapshot name fate stop events : _}
+found_from : {Tells Told : Notice → Type 0} {One Other : Option ℕ → ℕ → Type 0} {snapshot : Snapshot} {name : List ℕ}
+    {fate : Fate} {stop : Option Stop} {events : List Event}
     → ((notice : Notice) → Tells notice → Told notice) → ((file : Option ℕ) (from : ℕ) → One file from
     → Other file from) → WereFound Tells One snapshot name fate stop events
     → WereFound Told Other snapshot name fate stop events
@@ -131,7 +132,8 @@ found_from told so (found_begun all begins found) =
     found_begun all begins (all_give all told (λ bytes. read_from so) found)
 
 -- two steps, of which the first was done
-found_both : {Tells : Notice → Type 0} {Begin : Option ℕ → ℕ → Type 0} {snapshot name one fate stop events more : _}
+found_both : {Tells : Notice → Type 0} {Begin : Option ℕ → ℕ → Type 0} {snapshot : Snapshot} {name : List ℕ}
+    {one fate : Fate} {stop : Option Stop} {events more : List Event}
     → WereFound Tells Begin snapshot name one None events → WereFound Tells Begin snapshot name fate stop more
     → WereFound Tells Begin snapshot name fate stop (events ++ more)
 found_both {events} {more} (found_all first) (found_all second) = found_all (give_both _ _ events more first second)
@@ -142,14 +144,15 @@ found_both {events} (found_all first) (found_begun all begins second) =
     (give_both _ _ events all (all_give events (λ notice tells. tells) (λ bytes whole. whole.is) first) second)
 
 module _ {told_in told opened : Bool} {Tells : Notice → Type 0} {Begin : Option ℕ → ℕ → Type 0}
-    {snapshot known name printer after old new : _} where
+    {snapshot : Snapshot} {known name : List ℕ} {printer after : PrinterState} {old new : List Slot} where
   -- what was found may be said in another way
-  pub found_as : {Told : Notice → Type 0} {Other : Option ℕ → ℕ → Type 0} {fate due before stop : _}
-      → ((notice : Notice) → Tells notice → Told notice)
+  pub found_as : {Told : Notice → Type 0} {Other : Option ℕ → ℕ → Type 0} {fate : Fate} {due before : List Event}
+      {stop : Option Stop} → ((notice : Notice) → Tells notice → Told notice)
       → ((file : Option ℕ) (from : ℕ) → Begin file from → Other file from)
-      → Ends told_in (WereFound Tells Begin snapshot known fate stop) told opened printer name due before old after new
-      stop → Ends told_in (WereFound Told Other snapshot known fate stop) told opened printer name due before old after
-      new stop
+      → GivesDue told_in (WereFound Tells Begin snapshot known fate stop) told opened printer name due before
+      old after new stop
+      → GivesDue told_in (WereFound Told Other snapshot known fate stop) told opened printer name due before
+      old after new stop
   found_as told so ends = record {
     events = ends.events;
     are = ends.are;
@@ -158,11 +161,11 @@ module _ {told_in told opened : Bool} {Tells : Notice → Type 0} {Begin : Optio
   }
 
   -- lines alone
-  pub noted_found : {Note : Notice → Type 0} {due before : _} (over : Option Fault)
+  pub noted_found : {Note : Notice → Type 0} {due before : List Event} (over : Option Fault)
       → ((notice : Notice) → Note notice → Tells notice)
-      → Ends told_in (Noted Note) told opened printer name due before old after new (option_map Over over)
-      → Ends told_in (WereFound Tells Begin snapshot known sound (option_map Over over)) told opened printer name due
-      before old after new (option_map Over over)
+      → GivesDue told_in (Noted Note) told opened printer name due before old after new (option_map Over over)
+      → GivesDue told_in (WereFound Tells Begin snapshot known sound (option_map Over over)) told opened printer name
+      due before old after new (option_map Over over)
   noted_found {Note} over so ends = record {
     events = ends.events;
     are = ends.are;
@@ -176,11 +179,14 @@ module _ {told_in told opened : Bool} {Tells : Notice → Type 0} {Begin : Optio
         found_begun _ (begins_all ends.events) (all_give ends.events so (λ bytes none. absurd none) noted)
 
   -- once the first is done, both end as the second
-  pub goes_after : {one fate mid first none second before now stop : _}
-      → Ends told_in (WereFound Tells Begin snapshot known one None) told opened printer name first none old mid now
-      None → Ends told_in (WereFound Tells Begin snapshot known fate stop) told false mid name second before now after
-      new stop → Ends told_in (WereFound Tells Begin snapshot known fate stop) told opened printer name
-      (first ++ second) (first ++ before) old after new stop
+  pub goes_after : {one fate : Fate} {mid : PrinterState} {first none second before : List Event} {now : List Slot}
+      {stop : Option Stop}
+      → GivesDue told_in (WereFound Tells Begin snapshot known one None) told opened printer name first none
+      old mid now None
+      → GivesDue told_in (WereFound Tells Begin snapshot known fate stop) told false mid name second before
+      now after new stop
+      → GivesDue told_in (WereFound Tells Begin snapshot known fate stop) told opened printer name (first ++ second)
+      (first ++ before) old after new stop
   goes_after {second} {before} {stop} one two = record {
     events = one.events ++ two.events;
     are = λ t. grind (arith, common_steps, one.are t, two.are t, begins_after);
@@ -191,8 +197,8 @@ module _ {told_in told opened : Bool} {Tells : Notice → Type 0} {Begin : Optio
 
 -- bytes that were put are one event
 
-one_event : {told opened printer after name bytes old new over : _}
-    → Came told printer opened name bytes [] old after new over
+one_event : {told opened : Bool} {printer after : PrinterState} {name bytes : List ℕ} {old new : List Slot}
+    {over : Option Fault} → Came told printer opened name bytes [] old after new over
     → Came told printer opened name (bytes_in (gives bytes ∷ [])) [] old after new over
 one_event {bytes} came = rw (append-nil bytes) came
 
@@ -203,9 +209,10 @@ none_put None is = is
 none_put (Some why) {bytes = []} is = refl
 none_put (Some why) {bytes = byte ∷ bytes} (rest, is) = absurd (cc)
 
-pub header_only : {told_in told opened : Bool} {Is : List Event → Type 0} {printer after name before old new : _}
+pub header_only : {told_in told opened : Bool} {Is : List Event → Type 0} {printer after : PrinterState}
+    {name : List ℕ} {before : List Event} {old new : List Slot}
     (over : Option Fault) → Is [] → Puts told opened printer name [] old after new over
-    → Ends told_in Is told opened printer name [] before old after new (option_map Over over)
+    → GivesDue told_in Is told opened printer name [] before old after new (option_map Over over)
 header_only None found put = grind (arith, common_steps, none_put)
 header_only (Some why) found put =
     record { events = []; are = λ t. begins_none; found = found; came = rw (none_put (Some why) put.are) at put.came }
@@ -229,7 +236,8 @@ pub record Copied (told_in told : Bool) (snapshot : Snapshot) (known : Watched) 
   pub are : told_in ≡ true → bytes ≡ take (at - from) (drop from (open_contents snapshot known))
   pub read : AreRead snapshot known.name known.opened from bytes at
 
-pub copied_none : {told_in told snapshot known : _} {from : ℕ} {name printer slots : _}
+pub copied_none : {told_in told : Bool} {snapshot : Snapshot} {known : Watched} {from : ℕ} {name : List ℕ}
+    {printer : PrinterState} {slots : List Slot}
     → Copied told_in told snapshot known from name printer slots printer slots from None
 copied_none {snapshot} {known} {from} = record {
   bytes = [];
@@ -239,9 +247,9 @@ copied_none {snapshot} {known} {from} = record {
 }
 
 -- a piece more, or a beginning of it
-pub copied_more : {told_in told snapshot : _} {known : Watched} {from at n : ℕ}
-    {name printer mid after old now new read_old read_new : _} (tail : List ℕ) {over : _} → from ≤ at
-    → n ≤ length read_old → length read_new ≡ length read_old
+pub copied_more : {told_in told : Bool} {snapshot : Snapshot} {known : Watched} {from at n : ℕ}
+    {name read_old read_new : List ℕ} {printer mid after : PrinterState} {old now new : List Slot} (tail : List ℕ)
+    {over : Option Fault} → from ≤ at → n ≤ length read_old → length read_new ≡ length read_old
     → (told_in ≡ true → GaveFrom (open_contents snapshot known) at read_old read_new n)
     → Found snapshot known.name (reads_as known.opened at (take n read_new))
     → Copied told_in told snapshot known from name printer old mid now at None
@@ -265,8 +273,9 @@ use_after told text output error others new (Some (Broke why)) is can = search r
 use_after told text output error others new (Some (Over why)) (short_broke n part) can = grind (arith, common_steps)
 use_after told text output error others new (Some (Over why)) (no_room n within is) can = grind (arith, common_steps)
 
-pub ends_can : {told_in told opened : Bool} {Is : List Event → Type 0} {printer after name due before old new stop : _}
-    → Ends told_in Is told opened printer name due before old after new stop → CanPrint old → CanGoOn stop new
+pub ends_can : {told_in told opened : Bool} {Is : List Event → Type 0} {printer after : PrinterState} {name : List ℕ}
+    {due before : List Event} {old new : List Slot} {stop : Option Stop}
+    → GivesDue told_in Is told opened printer name due before old after new stop → CanPrint old → CanGoOn stop new
 ends_can {old = []} ends can = search rules
 ends_can {old = output ∷ []} ends can = search rules
 ends_can {told} {name} {old = output ∷ error ∷ others} {stop} ends can =
@@ -280,16 +289,17 @@ opens_same (name ∷ names) zero = refl
 opens_same (name ∷ names) (suc place) = ap (λ rest. name ∷ rest) (opens_same names place)
 
 -- the file that was opened
-pub opened_there : (names : List Watched) (place : ℕ) {file : _} → IsTrue (is_watchable names place)
+pub opened_there : (names : List Watched) (place : ℕ) {file : Option ℕ} → IsTrue (is_watchable names place)
     → watched_at (changed_at place (opens file) names) place ≡ record (watched_at names place) { opened = file }
 opened_there names place {file} can = changed_there no_name place (opens file) names (watchable_within names place can)
 
-pub opened_now : (place : ℕ) {file : _} (old : List Watched) {new : _} → new ≡ changed_at place (opens file) old
+pub opened_now : (place : ℕ) {file : Option ℕ} (old : List Watched) {new : List Watched}
+    → new ≡ changed_at place (opens file) old
     → IsTrue (is_watchable old place) → watched_at new place ≡ record (watched_at old place) { opened = file }
 opened_now place old is can = ap (λ those. watched_at those place) is ∙ opened_there old place can
 
 -- and the names that stay
-pub keeps_others : {place : ℕ} (change : Watched → Watched) {old new : _} → new ≡ changed_at place change old
+pub keeps_others : {place : ℕ} (change : Watched → Watched) {old new : List Watched} → new ≡ changed_at place change old
     → KeepsOthers place old new
 keeps_others {place} change {old} is = grind (arith, common_steps, length-changed_at, changed_elsewhere)
 
@@ -304,7 +314,7 @@ none_of (Some x) is = cc
 -- a name that broke
 
 -- a call failed on the names as they were
-pub broke_at : {place : ℕ} {old now new fate why : _} (how : Option ℕ → Broken)
+pub broke_at : {place : ℕ} {old now new : List Watched} {fate : Fate} {why : Fault} (how : Option ℕ → Broken)
     → failed_by fate None ≡ Some (how (watched_at old place).opened)
     → now ≡ old → why ≡ fault_by place fate → NameBreaks how place now new → BrokeAt place old new fate why
 broke_at {place} {old} {fate} how is same fault (reason, broken) = record {
@@ -315,7 +325,8 @@ broke_at {place} {old} {fate} how is same fault (reason, broken) = record {
 }
 
 -- calls that follow one another on the watch: a file was opened, and then a call on it kept the names, or broke this one
-pub follows_from : {told led file : _} (place : ℕ) (old : List Watched) {mid : _} (new : List Watched) (fate : Fate)
+pub follows_from : {told : Bool} {led file : Option ℕ} (place : ℕ) (old : List Watched) {mid : List Watched}
+    (new : List Watched) (fate : Fate)
     (stop : Option Stop) → mid ≡ changed_at place (opens file) old → (stop ≡ None → told ≡ true → file ≡ led)
     → Keeps place mid new fate stop → Follows told led place old new fate stop
 follows_from {file} place old new fate stop opened leads given = grind (arith, common_steps, changed_at-again)
@@ -336,9 +347,10 @@ pub some_read : (contents : List ℕ) {at len n : ℕ} {old new : List ℕ} → 
     → 0 < length old → GaveFrom contents at old new n → ⊥
 some_read contents {at} size below none room gave = grind (arith, common_steps, length-drop)
 
-module _ {told_in told : Bool} {snapshot : Snapshot} {name : List ℕ} {from place : ℕ} {watched printer slots : _} where
-  pub copies_all : (at : ℕ) {watched_new after slots_new : _} → (told_in ≡ true
-      → take (at - from) (drop from (open_contents snapshot (watched_at watched place)))
+module _ {told_in told : Bool} {snapshot : Snapshot} {name : List ℕ} {from place : ℕ} {watched : List Watched}
+    {printer : PrinterState} {slots : List Slot} where
+  pub copies_all : (at : ℕ) {watched_new : List Watched} {after : PrinterState} {slots_new : List Slot}
+      → (told_in ≡ true → take (at - from) (drop from (open_contents snapshot (watched_at watched place)))
       ≡ drop from (open_contents snapshot (watched_at watched place)))
       → Copied told_in told snapshot (watched_at watched place) from name printer slots after slots_new at None
       → (((len : ℕ) × Found snapshot (watched_at watched place).name (holds_many (watched_at watched place).opened len)
@@ -369,7 +381,8 @@ module _ {told_in told : Bool} {snapshot : Snapshot} {name : List ℕ} {from pla
     keeps = same;
   }
 
-  pub copies_part : (at : ℕ) {len : ℕ} {now watched_new after slots_new why : _} → from ≤ at → at < len
+  pub copies_part : (at : ℕ) {len : ℕ} {now watched_new : List Watched} {after : PrinterState} {slots_new : List Slot}
+      {why : Fault} → from ≤ at → at < len
       → (told_in ≡ true → len ≡ length (open_contents snapshot (watched_at watched place)))
       → Copied told_in told snapshot (watched_at watched place) from name printer slots after slots_new at None
       → now ≡ watched → why ≡ fault.Read place → NameBreaks (λ file. Read file at) place now watched_new
@@ -399,7 +412,7 @@ module _ {told_in told : Bool} {snapshot : Snapshot} {name : List ℕ} {from pla
     keeps = (broke_at (λ file. Read file at) refl same fault broken, refl);
   }
 
-  pub copies_short : (at : ℕ) {watched_new after slots_new why : _}
+  pub copies_short : (at : ℕ) {watched_new : List Watched} {after : PrinterState} {slots_new : List Slot} {why : Fault}
       → Copied told_in told snapshot (watched_at watched place) from name printer slots after slots_new at (Some why)
       → watched_new ≡ watched → Copies told_in told snapshot from place name watched printer slots watched_new after
       slots_new (Some (Over why))

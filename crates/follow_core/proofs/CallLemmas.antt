@@ -2,8 +2,7 @@
 use Rattle.std.proofs.{
   lemmas.{Grind.common_steps, List.{append-nil, take-append-le}},
   Common.{◌≡◌, ℕ, Bool, List, [], ◌∷◌, ◌++◌, inl, inr, ◌⊎◌, ◌∙◌, ◌+◌, length, take, true, false, not},
-  Common.{if◌then◌else◌, Some},
-  Common.{None, Option, refl, arith, append_assoc, length-append, bytes_eq, is_none, rules},
+  Common.{if◌then◌else◌, Some, None, Option, refl, arith, append_assoc, length-append, bytes_eq, is_none, rules},
   Math.{Seq.take-append-add, Bool.and-false},
 }
 use Rattle.ports_core.specs.{
@@ -35,7 +34,8 @@ unreasoned OwnName why is = is
 unreasoned Cutters why is = is
 
 -- of a name that can't be read, or opened
-pub failure_said : {told calling why : _} (read : Bool) (place : ℕ) (name : List ℕ) {old new : _}
+pub failure_said : {told : Bool} {calling : Calling} {why : Reason} (read : Bool) (place : ℕ) (name : List ℕ)
+    {old new : List Slot}
     → SaysOn told (tail_by calling) why (message_of (if read then fault.Read place else fault.Open place) name) old new
     → OnError (Tells told calling (failure_text (if read then fault.Read place else fault.Open place) name)) old new
 failure_said {calling} {why} read place name says = λ output error others are.
@@ -70,11 +70,11 @@ tells_after told calling (first ∷ lines) more old mid new so_far
 
 -- what is printed under headers
 
-pub no_memory : {told text slots : _} → Short told text slots slots fault.Memory
+pub no_memory : {told : Bool} {text : List ℕ} {slots : List Slot} → Short told text slots slots fault.Memory
 no_memory {told} {slots} = no_room 0 (omega arith) (none_written told 0)
 
-pub short_more : {told text : _} (more : List ℕ) {old new why : _} → Short told text old new why
-    → Short told (text ++ more) old new why
+pub short_more : {told : Bool} {text : List ℕ} (more : List ℕ) {old new : List Slot} {why : Fault}
+    → Short told text old new why → Short told (text ++ more) old new why
 short_more {told} {text} more {old} (short_broke n cut) =
     let (why, is) = cut.slots in
     short_broke n (record {
@@ -107,7 +107,7 @@ in_two printer opened name first second = by printer.headers opened first (is_la
   by true false (byte ∷ first) true is = rw (is, is, and-false (not (is_empty second))) (refl, refl)
   by true false (byte ∷ first) false is = rw (is, itself name, and-false (not (is_empty second))) (append_assoc _ (byte ∷ first) second, refl)
 
-pub short_after : {told : Bool} (first : List ℕ) {second old mid new why : _}
+pub short_after : {told : Bool} (first : List ℕ) {second : List ℕ} {old mid new : List Slot} {why : Fault}
     → mid ≡ with_written 0 (told_of told first) old → Short told second mid new why
     → Short told (first ++ second) old new why
 short_after first {second} one (short_broke n cut) =
@@ -117,7 +117,7 @@ short_after {told} first {second} {old} {mid} {new} one (no_room n within is) = 
     (rw (take-append-add first second n) (written_both told 0 first (take n second) old one is))
 
 -- a text after another that came whole, or a beginning of it
-text_after : (told : Bool) (first second : List ℕ) (old : List Slot) {mid : _} (new : List Slot)
+text_after : (told : Bool) (first second : List ℕ) (old : List Slot) {mid : List Slot} (new : List Slot)
     (over : Option Fault)
     → mid ≡ with_written 0 (told_of told first) old → CameTo told second mid new over
     → CameTo told (first ++ second) old new over
@@ -125,17 +125,17 @@ text_after told first second old new over one given = grind (arith, common_steps
 
 -- what standard output and standard error get
 
-pub wrote_text : (told : Bool) (calling : Calling) (text : List ℕ) {old : _} (new : List Slot)
+pub wrote_text : (told : Bool) (calling : Calling) (text : List ℕ) {old : List Slot} (new : List Slot)
     (over : Option Fault) → CameTo told text old new over → WroteBy told calling text [] old new over
 wrote_text told calling text new over came = grind (arith, common_steps)
 
-pub wrote_line : {told calling line old new : _} → OnError (Tells told calling line) old new
-    → WroteBy told calling [] (line ∷ []) old new None
+pub wrote_line : {told : Bool} {calling : Calling} {line : List ℕ} {old new : List Slot}
+    → OnError (Tells told calling line) old new → WroteBy told calling [] (line ∷ []) old new None
 wrote_line {told} {calling} tells = search rules
 
 -- a text and lines after others, or a beginning of them, as one text and its lines
 pub wrote_after : (told : Bool) (calling : Calling) (text more : List ℕ) {both : List ℕ} (lines further : List (List ℕ))
-    {all old mid : _} (new : List Slot)
+    {all : List (List ℕ)} {old mid : List Slot} (new : List Slot)
     (over : Option Fault) → text ++ more ≡ both → lines ++ further ≡ all → WroteBy told calling text lines old mid None
     → WroteBy told calling more further mid new over
     → WroteBy told calling both all old new over
@@ -143,10 +143,12 @@ wrote_after told calling text more lines further {old} new over same also first 
 
 -- what is given in two steps
 
-pub came_none : {told printer name slots : _} → Came told printer false name [] [] slots printer slots None
+pub came_none : {told : Bool} {printer : PrinterState} {name : List ℕ} {slots : List Slot}
+    → Came told printer false name [] [] slots printer slots None
 came_none {told} {printer} = search rules
 
-pub came_after : {told opened printer mid after name first second lines more old now new over : _}
+pub came_after : {told opened : Bool} {printer mid after : PrinterState} {name first second : List ℕ}
+    {lines more : List (List ℕ)} {old now new : List Slot} {over : Option Fault}
     → Came told printer opened name first lines old mid now None
     → Came told mid false name second more now after new over
     → Came told printer opened name (first ++ second) (lines ++ more) old after new over
@@ -158,7 +160,8 @@ came_after {opened} {printer} {name} {first} {second} {over} one two =
 
 -- bytes that are put
 
-pub puts_after : {told opened printer mid after name first second old now new over : _}
+pub puts_after : {told opened : Bool} {printer mid after : PrinterState} {name first second : List ℕ}
+    {old now new : List Slot} {over : Option Fault}
     → Puts told opened printer name first old mid now None → Puts told false mid name second now after new over
     → Puts told opened printer name (first ++ second) old after new over
 puts_after {second} {over} one two = record {
@@ -167,14 +170,16 @@ puts_after {second} {over} one two = record {
   came = came_after one.came two.came;
 }
 
-pub puts_nothing : {told printer name slots : _} → Puts told false printer name [] slots printer slots None
+pub puts_nothing : {told : Bool} {printer : PrinterState} {name : List ℕ} {slots : List Slot}
+    → Puts told false printer name [] slots printer slots None
 puts_nothing = record { bytes = []; are = refl; came = came_none }
 
 pub front_same : {X : Type 0} {given due : List X} → given ≡ due → IsFront given due
 front_same {X} {given} is = search rules
 
 -- bytes were put under the header that was due, or a beginning of both
-pub puts : {told opened : Bool} {printer : PrinterState} {after name bytes old mid new due : _} (over : Option Fault)
+pub puts : {told opened : Bool} {printer : PrinterState} {after : PrinterState} {name bytes : List ℕ}
+    {old mid new : List Slot} {due : Bool} (over : Option Fault)
     → due ≡ has_header printer.headers printer.last opened name bytes
     → mid ≡ with_written 0 (told_of told (if due then header_of name (is_none printer.last) else [])) old
     → CameTo told bytes mid new over

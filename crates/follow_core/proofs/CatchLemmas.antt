@@ -13,7 +13,7 @@ use Rattle.std.proofs.{
 use Rattle.ports_core.specs.{Slot.{Slot}}
 use Rattle.follow_core.specs.{
   Printing.PrinterState,
-  inner.Giving.{Adds, Ends, Follows, IfBroke, Leads, Noted, ReadsOf},
+  inner.Giving.{Adds, GivesDue, Follows, IfBroke, Leads, Noted, ReadsOf},
   inner.Giving.{ToldLed, ToldShort, WereFound, change_between, found_all, measures, notes_past, reads_on, stop_in},
   declared.{visitor.Stop.{Stop}, notice.Notice.{Notice, TheVariants.{Appeared, Inaccessible}}},
   Share.{Due, came_before, due_later, given_by, is_kept, led_before, left_from},
@@ -46,7 +46,7 @@ caught : (snapshot : Snapshot) (last : Entry) {file position len : ℕ} → Stan
 caught snapshot gap {file} stands long = absurd (none-some file (sym stands.file))
 caught snapshot (version v) {file} stands long = grind (arith, common_steps, eq-eqb, same_Some, nat_tests)
 
-pub caught_open : (snapshot : Snapshot) (last : Entry) {opened : _} {file position len from : ℕ} (at : ℕ)
+pub caught_open : (snapshot : Snapshot) (last : Entry) {opened : Option ℕ} {file position len from : ℕ} (at : ℕ)
     → opened ≡ Some file → StandsAt last opened position → len ≡ length (held_at snapshot opened)
     → from ≡ (if nat_lt len position then 0 else position)
     → (notes_past position len ++ gives (drop from (held_at snapshot opened)) ∷ [] ≡ events_later last
@@ -64,7 +64,7 @@ begins_so false is at = inr (at ∙ is)
 -- where the name leads
 
 -- nothing is due where nothing changed
-pub nothing_led : (snapshot : Snapshot) (last : Entry) (led : Option ℕ) {opened : _} → opened ≡ file_of last
+pub nothing_led : (snapshot : Snapshot) (last : Entry) (led : Option ℕ) {opened : Option ℕ} → opened ≡ file_of last
     → change_between opened led ≡ None
     → (events_later last (entries_led snapshot opened led) ≡ [])
     × (last_from last (entries_led snapshot opened led) ≡ last) × (led ≡ opened)
@@ -90,8 +90,8 @@ fresh_dues : (snapshot : Snapshot) (file : Option ℕ)
 fresh_dues snapshot file = grind (arith, common_steps, eq-eqb, le-leb)
 
 -- where something changed, that is told, and then the name is as its file was just opened
-pub change_led : (snapshot : Snapshot) (last : Entry) (led : Option ℕ) {opened change : _} → opened ≡ file_of last
-    → change_between opened led ≡ Some change
+pub change_led : (snapshot : Snapshot) (last : Entry) (led : Option ℕ) {opened : Option ℕ} {change : Notice}
+    → opened ≡ file_of last → change_between opened led ≡ Some change
     → (events_later last (entries_led snapshot opened led) ≡ notes change ∷ all_held snapshot led)
     × (last_from last (entries_led snapshot opened led) ≡ last_from (fresh led) (entries_open snapshot led))
     × (is_same led opened ≡ false)
@@ -103,16 +103,16 @@ pub held_notes : (snapshot : Snapshot) (file : Option ℕ) (change : Notice)
 held_notes snapshot None change = refl
 held_notes snapshot (Some file) change = refl
 
-led_then : (snapshot : Snapshot) (file : Option ℕ) (change : Notice) {opened fate : _} → ReadsOf opened fate
-    → led_before snapshot fate (notes change ∷ all_held snapshot file)
+led_then : (snapshot : Snapshot) (file : Option ℕ) (change : Notice) {opened : Option ℕ} {fate : Fate}
+    → ReadsOf opened fate → led_before snapshot fate (notes change ∷ all_held snapshot file)
     ≡ notes change ∷ came_before snapshot fate (all_held snapshot file)
 led_then snapshot file change given = grind (arith, common_steps, held_notes)
 
-other_file : (opened : Option ℕ) {file led fate : _} → ReadsOf file fate → file ≡ led
+other_file : (opened : Option ℕ) {file led : Option ℕ} {fate : Fate} → ReadsOf file fate → file ≡ led
     → is_same led opened ≡ false → is_kept opened fate ≡ false
 other_file opened given same other = grind (arith, common_steps)
 
-pub reads_meet : (by_name : Bool) {file fate : _} → ReadsOf file fate → (seeks : Bool)
+pub reads_meet : (by_name : Bool) {file : Option ℕ} {fate : Fate} → ReadsOf file fate → (seeks : Bool)
     → can_meet false by_name seeks fate ≡ true
 reads_meet by_name given seeks = grind (arith, common_steps)
 
@@ -126,7 +126,8 @@ told_led snapshot name None (Some file) {change} found is held = let those : App
 told_led snapshot name (Some other) (Some file) {change} found is held = grind (arith, common_steps)
 
 -- what was found to have changed is what changed, and is told; a name without a file, of which nothing changed, leads nowhere
-pub change_seen : {told : Bool} (snapshot : Snapshot) {old now : _} (place : ℕ) {name found id result : _}
+pub change_seen : {told : Bool} (snapshot : Snapshot) {old now : List Watched} (place : ℕ) {name : List ℕ}
+    {found : Option Seen} {id : Option ℕ} {result : Option Notice}
     → result ≡ change_between id (option_map (λ (file : Seen). file.id) found) → id ≡ (watched_at now place).opened
     → now ≡ old → (watched_at old place).name ≡ name → (told ≡ true → Finds snapshot (watched_at old place).name found)
     → Found snapshot (watched_at old place).name (leads_to (option_map (λ (file : Seen). file.id) found))
@@ -149,12 +150,12 @@ pub long_by : (snapshot : Snapshot) (name : List ℕ) (held : ℕ) (by_name : Bo
     → IsLong false snapshot name opened held → IsLong by_name snapshot name opened held
 long_by snapshot name held by_name opened lost long = grind (arith, common_steps)
 
-module _ {told_in told by_name snapshot led : _} {place : ℕ} {name : List ℕ} {position : ℕ}
-    {watched printer slots : _} where
+module _ {told_in told by_name : Bool} {snapshot : Snapshot} {led : Option ℕ} {place : ℕ} {name : List ℕ} {position : ℕ}
+    {watched : List Watched} {printer : PrinterState} {slots : List Slot} where
   -- ways out of following a name
 
-  pub leads_same : {watched_new : _} → (told_in ≡ true → change_between (watched_at watched place).opened led ≡ None)
-      → ((watched_at watched place).opened ≡ None → by_name ≡ true
+  pub leads_same : {watched_new : List Watched} → (told_in ≡ true → change_between
+      (watched_at watched place).opened led ≡ None) → ((watched_at watched place).opened ≡ None → by_name ≡ true
       → LeftOpen snapshot (watched_at watched place).name None 0) → watched_new ≡ watched
       → Leads told_in told by_name snapshot led place name position watched printer slots watched_new printer slots
       (Ok position)
@@ -176,11 +177,12 @@ module _ {told_in told by_name snapshot led : _} {place : ℕ} {name : List ℕ}
 
 -- it was told, and all that the file holds was given, or a beginning
 pub leads_opened : {told_in told is_there : Bool} {snapshot : Snapshot} {place : ℕ} {name : List ℕ} {position : ℕ}
-    {watched watched_mid watched_new printer after slots mid slots_new before change result : _}
+    {watched watched_mid watched_new : List Watched} {printer after : PrinterState} {slots mid slots_new : List Slot}
+    {before : List Event} {change : Notice} {result : Result ℕ Stop}
     → IsTrue (is_watchable watched place) → (watched_at watched place).name ≡ name
     → (told_in ≡ true → change_between (watched_at watched place).opened (snapshot.leads name) ≡ Some change)
     → ToldLed true snapshot (watched_at watched place) change
-    → Ends told_in (Noted (λ notice. notice ≡ change)) told false printer name
+    → GivesDue told_in (Noted (λ notice. notice ≡ change)) told false printer name
     (notes change ∷ []) before slots printer mid None → Reopens told_in snapshot watched watched_mid place is_there
     → Adds told_in told snapshot place name 0 watched_mid printer mid watched_new after slots_new result
     → Leads told_in told true snapshot (snapshot.leads name) place name position watched printer slots watched_new after
@@ -232,7 +234,7 @@ unchanged None = refl
 unchanged (Some file) = search rules
 
 -- where a call on the open file failed, what comes before it is given
-kept_given : (snapshot : Snapshot) (due : Due) {opened fate : _} → ReadsOf opened fate
+kept_given : (snapshot : Snapshot) (due : Due) {opened : Option ℕ} {fate : Fate} → ReadsOf opened fate
     → came_before snapshot fate due.came ≡ given_by due snapshot opened fate
 kept_given snapshot due {opened} (measures some) = grind (arith, common_steps, eq-eqb)
 kept_given snapshot due {opened} (reads_on some) = grind (arith, common_steps, eq-eqb)
@@ -259,7 +261,7 @@ pub record LooksAgain (told_in told by_name : Bool) (snapshot : Snapshot) (place
   pub ends : let known = watched_at watched place in (last : Entry)
       → (told_in ≡ true → StandsAt last known.opened position)
       → let due = due_later by_name name known.opened last snapshot in
-      Ends told_in
+      GivesDue told_in
       (WereFound (ToldAgain by_name snapshot known position) (FromFrontOr known.opened position)
       snapshot known.name fate
       (stop_in result)) told false printer name (due.came ++ due.led) (given_by due snapshot known.opened fate) slots
@@ -275,8 +277,10 @@ pub record LooksAgain (told_in told by_name : Bool) (snapshot : Snapshot) (place
       (stop_in result)
   pub met : IfBroke (stop_in result) ((seeks : Bool) → can_meet false by_name seeks fate ≡ true)
 
-module _ {told_in told snapshot : _} {place : ℕ} {name : List ℕ} {position : ℕ} {watched printer slots : _} where
-  pub stopped_looks : (by_name : Bool) {watched_new after slots_new stop : _}
+module _ {told_in told : Bool} {snapshot : Snapshot} {place : ℕ} {name : List ℕ} {position : ℕ}
+    {watched : List Watched} {printer : PrinterState} {slots : List Slot} where
+  pub stopped_looks : (by_name : Bool) {watched_new : List Watched} {after : PrinterState} {slots_new : List Slot}
+      {stop : Stop}
       → Adds told_in told snapshot place name position watched printer slots watched_new after slots_new (Err stop)
       → LooksAgain told_in told by_name snapshot place name position watched printer slots watched_new after slots_new
       (Err stop)
@@ -295,7 +299,8 @@ module _ {told_in told snapshot : _} {place : ℕ} {name : List ℕ} {position :
   }
 
   -- one call after another
-  looks_both : {by_name watched_new mid after slots_mid slots_new : _} {len : ℕ} {result : _}
+  looks_both : {by_name : Bool} {watched_new : List Watched} {mid after : PrinterState}
+      {slots_mid slots_new : List Slot} {len : ℕ} {result : Result ℕ Stop}
       → Adds told_in told snapshot place name position watched printer slots watched mid slots_mid (Ok len)
       → (leads : Leads told_in told by_name snapshot (open_after_look by_name name
       (watched_at watched place).opened snapshot) place name len watched mid slots_mid watched_new after slots_new
@@ -319,15 +324,17 @@ module _ {told_in told snapshot : _} {place : ℕ} {name : List ℕ} {position :
         met = met;
       }
 
-  pub caught_looks : {by_name watched_new after slots_new : _} {len : ℕ} → by_name ≡ false
+  pub caught_looks : {by_name : Bool} {watched_new : List Watched} {after : PrinterState} {slots_new : List Slot}
+      {len : ℕ} → by_name ≡ false
       → Adds told_in told snapshot place name position watched printer slots watched_new after slots_new (Ok len)
       → LooksAgain told_in told by_name snapshot place name position watched printer slots watched_new after slots_new
       (Ok len)
   caught_looks is adding = let adds = rw adding.keeps at adding in rw (is, adding.keeps)
       (looks_both adds (leads_same (λ t. unchanged (watched_at watched place).opened) (λ none by. absurd (false≢true by)) refl) tt)
 
-  pub led_looks : {by_name : Bool} {now : Snapshot} {watched_mid watched_new mid after slots_mid slots_new : _}
-      {len : ℕ} {result : _} → by_name ≡ true → now ≡ snapshot
+  pub led_looks : {by_name : Bool} {now : Snapshot} {watched_mid watched_new : List Watched}
+      {mid after : PrinterState} {slots_mid slots_new : List Slot}
+      {len : ℕ} {result : Result ℕ Stop} → by_name ≡ true → now ≡ snapshot
       → Adds told_in told snapshot place name position watched printer slots watched_mid mid slots_mid (Ok len)
       → Leads told_in told true now (now.leads name) place name len watched_mid mid slots_mid watched_new after
       slots_new result → LooksAgain told_in told by_name snapshot place name position watched printer slots watched_new

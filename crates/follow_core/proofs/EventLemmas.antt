@@ -7,11 +7,10 @@ use Rattle.std.proofs.{
 use Rattle.follow_core.specs.{
   declared.notice.Notice.Notice,
   Event.{Begins, begins_none, begins_within, begins_on, Event, bytes_in, events_between, events_later, gives},
-  Event.lines_in,
-  Event.notes,
+  Event.{lines_in, notes},
   Gain.{gain_between, gains_later, last_from},
   inner.Giving.IsFront,
-  Version.{Entry},
+  Version.Entry,
 }
 
 pub bytes-append : (events more : List Event) → bytes_in (events ++ more) ≡ bytes_in events ++ bytes_in more
@@ -53,12 +52,12 @@ pub begins_all : (events : List Event) → Begins events events
 begins_all [] = begins_none
 begins_all (event ∷ events) = begins_on (begins_all events)
 
-pub begins_more : {part all : _} (more : List Event) → Begins part all → Begins part (all ++ more)
+pub begins_more : {part all : List Event} (more : List Event) → Begins part all → Begins part (all ++ more)
 begins_more more begins_none = begins_none
 begins_more more (begins_within bytes) = begins_within bytes
 begins_more more (begins_on begins) = begins_on (begins_more more begins)
 
-pub begins_after : (front : List Event) {part all : _} → Begins part all
+pub begins_after : (front : List Event) {part all : List Event} → Begins part all
     → Begins (front ++ part) (front ++ all)
 begins_after [] begins = begins
 begins_after (event ∷ front) begins = begins_on (begins_after front begins)

@@ -9,7 +9,7 @@ use Rattle.std.proofs.{
   lemmas.List.{append-nil, get_or-map, get_or-set_other, get_or-set_same, length-append, length-map},
   lemmas.List.{length-set, length-take-le, get_or_past},
 }
-use Rattle.ports_core.specs.{Slot.{Slot, changed_at}}
+use Rattle.ports_core.specs.{Slot.{Slot, changed_at}, declared.fault.Fault.Fault}
 use Rattle.follow_core.specs.{
   FollowState.{AllReady, Begun, up_to},
   Look.{Fate, Look, Ways, failed_in, is_dropped, sound},
@@ -27,16 +27,18 @@ use Rattle.follow_core.proofs.{
   LookLemmas.{broken_sound, met_none},
   RunLemmas.{failed-append, last-append, messages-append, text-append},
 }
-use Rattle.watch_core.specs.{Watched.{Watched, opens, watched_at}}
+use Rattle.watch_core.specs.{Snapshot.Snapshot, Watched.{Watched, opens, watched_at}}
 
 -- A look at one name after another.
 
-pub nothing_shared : {told printer slots : _} → AllShared told printer [] slots printer slots
+pub nothing_shared : {told : Bool} {printer : PrinterState} {slots : List Slot}
+    → AllShared told printer [] slots printer slots
 nothing_shared {told} {printer} {slots} = record { printer_is = refl; slots = search rules }
 
 -- further shares
 
-pub all_both : {told printer mid after shares more old now new : _} → AllShared told printer shares old mid now
+pub all_both : {told : Bool} {printer mid after : PrinterState} {shares more : List Share} {old now new : List Slot}
+    → AllShared told printer shares old mid now
     → AllShared told mid more now after new → AllShared told printer (shares ++ more) old after new
 all_both {printer} {shares} {more} all rest = record {
   printer_is = rw (rest.printer_is, all.printer_is, last-append printer.headers printer.last shares more) refl;
@@ -54,12 +56,12 @@ shares_one ways looks look from (first ∷ names) name =
     let place : (from + 1) + length names ≡ from + suc (length names) = omega arith in
     rw (shares_one ways looks look (from + 1) names name, place) refl
 
-fate_there : (fates : List Fate) (fate : Fate) {all : _} → IsFront (fates ++ fate ∷ []) all → {place : ℕ}
+fate_there : (fates : List Fate) (fate : Fate) {all : List Fate} → IsFront (fates ++ fate ∷ []) all → {place : ℕ}
     → length fates ≡ place → slice_index_or all place sound ≡ fate
 fate_there fates fate (rest, is) count =
     rw (is, append_assoc fates (fate ∷ []) rest, ← count) (get_or-append_seam fates fate rest sound)
 
-front_before : (fates : List Fate) (fate : Fate) {all : _} → IsFront (fates ++ fate ∷ []) all
+front_before : (fates : List Fate) (fate : Fate) {all : List Fate} → IsFront (fates ++ fate ∷ []) all
     → IsFront fates all
 front_before fates fate (rest, is) = (fate ∷ rest, is ∙ append_assoc fates (fate ∷ []) rest)
 
@@ -94,8 +96,8 @@ names_next names now {place} same within = let next : place + 1 ≡ suc place = 
     refl
 
 -- what a look gives for one name more
-one_given : (looks : List Look) (look : Look) (from : ℕ) (names : List (List ℕ)) (name : List ℕ) {shares share : _}
-    → AreAtLook looks look from names shares → IsGiven looks look (from + length names) name share
+one_given : (looks : List Look) (look : Look) (from : ℕ) (names : List (List ℕ)) (name : List ℕ) {shares : List Share}
+    {share : Share} → AreAtLook looks look from names shares → IsGiven looks look (from + length names) name share
     → AreAtLook looks look from (names ++ name ∷ []) (shares ++ share ∷ [])
 one_given looks look from [] name {share} no_names given = let e : from + 0 ≡ from = omega arith in
     names_more (rw e at given) no_names
@@ -103,8 +105,10 @@ one_given looks look from (first ∷ names) name {share} (names_more is rest) gi
     let e : from + suc (length names) ≡ (from + 1) + length names = omega arith in
     names_more is (one_given looks look (from + 1) names name rest (rw e at given))
 
-pub visited_more : {told_in told : Bool} {ways : Ways} {looks snapshot names now : _} {one : NameState} {place : ℕ}
-    {printer mid after old slots new watched watched_new before failed : _} → place < length now
+pub visited_more : {told_in told : Bool} {ways : Ways} {looks : List Look} {snapshot : Snapshot}
+    {names now : List NameState} {one : NameState} {place : ℕ}
+    {printer mid after : PrinterState} {old slots new : List Slot} {watched watched_new : List Watched}
+    {before failed : Bool} → place < length now
     → Visits told_in told ways snapshot (ways.first + place) (state_at now place).text
     (state_at now place).standing watched mid slots one.standing watched_new after new (Ok failed)
     → one.text ≡ (state_at now place).text → VisitedTo told_in told ways looks snapshot place names printer old mid
@@ -161,12 +165,13 @@ visited_more {told_in} {told} {ways} {looks} {snapshot} {names} {now} {one} {pla
           (visited.stands all (fate_there sofar.fates visited.fate front sofar.count))
 
 -- a name that isn't broken
-pub unbroken_watched : {ways looks : _} {place : ℕ} {name : List ℕ} {watched : Watched} → watched.name ≡ name
+pub unbroken_watched : {ways : Ways} {looks : List Look} {place : ℕ} {name : List ℕ} {watched : Watched}
+    → watched.name ≡ name
     → watched.failed ≡ None → is_dropped place looks ≡ false → IsWatched ways looks place name watched
 unbroken_watched named unbroken kept = grind (arith, common_steps, none_of, met_none)
 
 -- how a name is watched, as it stands
-pub watched_there : (told : Bool) {ways looks : _} {place : ℕ} (name : List ℕ) (watched : Watched)
+pub watched_there : (told : Bool) {ways : Ways} {looks : List Look} {place : ℕ} (name : List ℕ) (watched : Watched)
     (standing : Standing) → Stands told ways looks place name watched standing → IsWatched ways looks place name watched
 watched_there told {place} name watched New stands = grind (arith, common_steps, unbroken_watched)
 watched_there told name watched (Followed position) stands = unbroken_watched stands.named stands.unbroken stands.kept
@@ -187,8 +192,10 @@ opens_keeps Is (name ∷ names) (suc place) zero file is here = is
 opens_keeps Is (name ∷ names) (suc place) (suc other) file is here = opens_keeps Is names place other file is (λ same. here (ap suc same))
 
 -- a look that was stopped at a name
-pub visited_short : {told_in told : Bool} {ways : Ways} {looks snapshot names now standing : _} {place : ℕ}
-    {printer mid after old slots new watched watched_new before why : _} → place < length now
+pub visited_short : {told_in told : Bool} {ways : Ways} {looks : List Look} {snapshot : Snapshot}
+    {names now : List NameState} {standing : Standing} {place : ℕ}
+    {printer mid after : PrinterState} {old slots new : List Slot} {watched watched_new : List Watched}
+    {before : Bool} {why : Fault} → place < length now
     → Visits told_in told ways snapshot (ways.first + place) (state_at now place).text
     (state_at now place).standing watched mid slots standing watched_new after new (Err why)
     → VisitedTo told_in told ways looks snapshot place names printer old mid slots watched now before
@@ -266,7 +273,7 @@ visited_short {told_in} {told} {ways} {looks} {snapshot} {names} {now} {place} {
             closed = λ broken. grind (arith, common_steps);
           }))
 
-pub next_ready : (first : ℕ) (names : List NameState) (one : NameState) {place : ℕ} {watched watched_new : _}
+pub next_ready : (first : ℕ) (names : List NameState) (one : NameState) {place : ℕ} {watched watched_new : List Watched}
     → place < length names → AllReady names first watched → KeepsOthers (first + place) watched watched_new
     → CanVisit one (watched_at watched_new (first + place)) → AllReady (set names place one) first watched_new
 next_ready first names one {place} {watched_new} within ready keeps can other inside = grind

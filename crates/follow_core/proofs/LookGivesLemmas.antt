@@ -12,7 +12,7 @@ use Rattle.follow_core.specs.{
   Version.{Entry, entries_at_look, entries_led, held_at, open_after_later, open_after_look},
   Gain.{last_from, last_of, gains_after},
   inner.{
-    Giving.{Anywhere, BrokeAt, Came, Nothing, WereFound, Ends, Follows, IfBroke, Keeps, Shared, Starts, fault_by},
+    Giving.{Anywhere, BrokeAt, Came, Nothing, WereFound, GivesDue, Follows, IfBroke, Keeps, Shared, Starts, fault_by},
     Giving.{found_all, found_before, found_begun, is_read, stop_in, text_under},
     Visits.{Visits, TellsStop, Visited},
   },
@@ -30,8 +30,7 @@ use Rattle.follow_core.proofs.{
   CallGivesLemmas.{if_so, broke_at, found_as, goes_after, held_many, if_broke, keeps_others, none_of, nothing_due},
   CallGivesLemmas.{opened_now, some_of},
   CatchLemmas.{FromFrontOr, LooksAgain, long_by, ToldAgain, at_look},
-  LookLemmas.{last_file, entries_more, failed_more, failed_sound, broken_sound, broken_more, seeing},
-  LookLemmas.IsDue,
+  LookLemmas.{last_file, entries_more, failed_more, failed_sound, broken_sound, broken_more, seeing, IsDue},
 }
 use Rattle.std.proofs.{
   lemmas.Grind.common_steps,
@@ -71,7 +70,8 @@ pub record Looked (told_in told : Bool) (ways : Ways) (before : List Look) (snap
   pub shared : Shared told printer share old after new None
 
 -- the message of a failure is told after what was given
-said_after : {told : Bool} {printer : PrinterState} {after opened name bytes lines line old mid new : _}
+said_after : {told : Bool} {printer : PrinterState} {after : PrinterState} {opened : Bool} {name bytes line : List ℕ}
+    {lines : List (List ℕ)} {old mid new : List Slot}
     → Came told printer opened name bytes lines old after mid None → OnError (Tells told printer.calling line) mid new
     → Came told printer opened name bytes (lines ++ line ∷ []) old after new None
 said_after {printer} {opened} {name} {bytes} came says = record {
@@ -87,10 +87,11 @@ fault_line place name fate broke = grind (arith, common_steps)
 abbrev shared_as : (opened : Bool) → List ℕ → List Event → Option Fault → Share
 shared_as opened name events failure = record { name = name; is_opened = opened; events = events; failure = failure }
 
-module _ {told_in told ways before snapshot name due opened : _} {printer : PrinterState} {after old mid : _}
+module _ {told_in told : Bool} {ways : Ways} {before : List Look} {snapshot : Snapshot} {name : List ℕ} {due : Due}
+    {opened : Option ℕ} {printer : PrinterState} {after : PrinterState} {old mid : List Slot}
     (dues : IsDue told_in ways before snapshot name due opened) where
   -- all that is due was given
-  pub looked_whole : {none fate : _} → Ends told_in (WereFound (IsTold before snapshot name)
+  pub looked_whole : {none : List Event} {fate : Fate} → GivesDue told_in (WereFound (IsTold before snapshot name)
       (StartsIn before name) snapshot name fate None) told (is_first before) printer name
       (due.came ++ due.led) none old after mid None → (is_first before ≡ true
       → (file : ℕ) × Found snapshot name (opens_as (Some file)))
@@ -111,10 +112,10 @@ module _ {told_in told ways before snapshot name due opened : _} {printer : Prin
   }
 
   -- a call failed: what comes before was given, and the message follows
-  pub looked_broke : (place : ℕ) {new why : _} (fate : Fate) → is_some (failed_by fate None) ≡ true
+  pub looked_broke : (place : ℕ) {new : List Slot} {why : Fault} (fate : Fate) → is_some (failed_by fate None) ≡ true
       → why ≡ fault_by place fate
       → (not (is_unopened fate) && is_first before) ≡ is_first before
-      → Ends told_in
+      → GivesDue told_in
       (WereFound (IsTold before snapshot name) (StartsIn before name) snapshot name fate (Some (Broke why))) told
       (is_first before) printer name (due.came ++ due.led) (given_by due snapshot opened fate) old after mid
       (Some (Broke why))
@@ -149,7 +150,7 @@ module _ {told_in told ways before snapshot name due opened : _} {printer : Prin
 -- the first look
 
 -- the entries of a name after it
-entries_first : (ways : Ways) {name : List ℕ} (look : Look) {led : _} → look.snapshot.leads name ≡ led
+entries_first : (ways : Ways) {name : List ℕ} (look : Look) {led : Option ℕ} → look.snapshot.leads name ≡ led
     → entries_in ways name (look ∷ []) ≡ entries_led look.snapshot None led
 entries_first ways look is = append-nil _ ∙ ap (entries_led look.snapshot None) is
 
@@ -168,7 +169,7 @@ pub record Gave (told_in told : Bool) (ways : Ways) (looks : List Look) (snapsho
   pub due : Due
   pub opened : Option ℕ
   pub is_due : IsDue told_in ways looks snapshot name due opened
-  pub ends : Ends told_in
+  pub ends : GivesDue told_in
       (WereFound (IsTold looks snapshot name) (StartsIn looks name) snapshot name fate (stop_in result)) told
       (is_first looks) printer name (due.came ++ due.led) (given_by due snapshot opened fate) slots after slots_new
       (stop_in result)
@@ -188,7 +189,8 @@ kept_more : (place : ℕ) (looks : List Look) (look : Look) {fate : Fate} → is
 kept_more place looks look kept at = ap is_some (failed_more place looks look (none_of (failed_in place looks) kept) at)
 
 -- a name that came through it stands at its last entry
-through_stands : {told : Bool} {ways : Ways} (looks : List Look) (look : Look) {place : ℕ} {name file led : _} {len : ℕ}
+through_stands : {told : Bool} {ways : Ways} (looks : List Look) (look : Look) {place : ℕ} {name : List ℕ}
+    {file led : Option ℕ} {len : ℕ}
     (watched : Watched) → watched.name ≡ name → is_none watched.failed ≡ true → is_dropped place looks ≡ false
     → fate_at place look ≡ sound → (told ≡ true → file ≡ led)
     → (told ≡ true → (ways.by_name ≡ false → is_some led ≡ true) × StandsAt
@@ -198,8 +200,9 @@ through_stands looks look watched named can kept at leads last long = grind
     (arith, common_steps, none_of, not-true, kept_more, begun_more, map-append, latest-last)
 
 -- what a look gave, and how the name stands then
-looked_visited : {told_in told ways looks snapshot : _} {place : ℕ}
-    {name printer after slots slots_new watched has_failed standing : _} (fate : Fate) → is_dropped place looks ≡ false
+looked_visited : {told_in told : Bool} {ways : Ways} {looks : List Look} {snapshot : Snapshot} {place : ℕ}
+    {name : List ℕ} {printer after : PrinterState} {slots slots_new : List Slot} {watched : Watched}
+    {has_failed : Bool} {standing : Standing} (fate : Fate) → is_dropped place looks ≡ false
     → Looked told_in told ways looks snapshot name printer slots after slots_new has_failed fate
     → ((fates : List Fate) → fate_at place (seeing snapshot fates) ≡ fate
     → Stands told_in ways (looks ++ seeing snapshot fates ∷ []) place name watched standing)
@@ -214,8 +217,8 @@ looked_visited fate kept looked stands = record {
   stands = stands;
 }
 
-module _ {told_in told : Bool} {ways : Ways} {snapshot : _} {place : ℕ} {name standing old new printer : _}
-    {after : PrinterState} {slots slots_new : _} where
+module _ {told_in told : Bool} {ways : Ways} {snapshot : Snapshot} {place : ℕ} {name : List ℕ} {standing : Standing}
+    {old new : List Watched} {printer after : PrinterState} {slots slots_new : List Slot} where
   visits_by : (now : Standing) {failed : Bool} (change : Watched → Watched) → new ≡ changed_at place change old
       → IsTrue (is_watchable old place)
       → CanVisit (record { text = name; standing = now }) (change (watched_at old place))
@@ -250,7 +253,7 @@ module _ {told_in told : Bool} {ways : Ways} {snapshot : _} {place : ℕ} {name 
       }))
 
   -- it came through; what stopped it is told, or ends following
-  pub gave_through : {led : _} {len : ℕ} (fate : Fate) → (watched_at old place).name ≡ name
+  pub gave_through : {led : Option ℕ} {len : ℕ} (fate : Fate) → (watched_at old place).name ≡ name
       → IsTrue (is_watchable old place) → Follows told_in led place old new fate None
       → ((looks : List Look) → Stands told_in ways looks place name (watched_at old place) standing
       → Gave told_in told ways looks snapshot place name led printer slots after slots_new fate (Ok len))
@@ -264,7 +267,8 @@ module _ {told_in told : Bool} {ways : Ways} {snapshot : _} {place : ℕ} {name 
       (λ fates at. through_stands looks (seeing snapshot fates) (watched_at old place) named can made.kept at leads
       (λ t. ((made.last t).0, (made.last t).1 fates)) (rw (opened_now place old is can, named) at long)))
 
-  pub gave_fails : {led mid : _} (fate : Fate) (stop : Stop) {now result : _} → (watched_at old place).name ≡ name
+  pub gave_fails : {led : Option ℕ} {mid : List Slot} (fate : Fate) (stop : Stop) {now : Standing}
+      {result : Result Bool Fault} → (watched_at old place).name ≡ name
       → IsTrue (is_watchable old place) → Follows told_in led place old new fate (Some stop)
       → ((looks : List Look) → Stands told_in ways looks place name (watched_at old place) standing
       → Gave told_in told ways looks snapshot place name led printer slots after mid fate (Err stop))
@@ -306,8 +310,8 @@ module _ {told_in told : Bool} {ways : Ways} {snapshot : _} {place : ℕ} {name 
 
 -- ways out of the first look
 
-pub first_missing : {told_in told : Bool} {ways : Ways} {snapshot : _} {place : ℕ} {name : List ℕ}
-    {printer : PrinterState} {slots slots_new old new is_there reason : _}
+pub first_missing : {told_in told : Bool} {ways : Ways} {snapshot : Snapshot} {place : ℕ} {name : List ℕ}
+    {printer : PrinterState} {slots slots_new : List Slot} {old new : List Watched} {is_there : Bool} {reason : Reason}
     → Reopens told_in snapshot old new place is_there → is_there ≡ false → (watched_at old place).name ≡ name
     → IsTrue (is_watchable old place) → SaysOn told (tail_by printer.calling) reason
     (message_of (Open place) name) slots slots_new
@@ -364,8 +368,10 @@ first_missing {told_in} {told} {ways} {snapshot} {place} {name} {printer} {slots
         });
       }
 
-pub first_unopened : {told_in told ways : _} {snapshot : Snapshot} {place : ℕ} {name : List ℕ} {printer : PrinterState}
-    {slots slots_new old new why now result : _} → (watched_at old place).name ≡ name → IsTrue (is_watchable old place)
+pub first_unopened : {told_in told : Bool} {ways : Ways} {snapshot : Snapshot} {place : ℕ} {name : List ℕ}
+    {printer : PrinterState}
+    {slots slots_new : List Slot} {old new : List Watched} {why : Fault} {now : Standing} {result : Result Bool Fault}
+    → (watched_at old place).name ≡ name → IsTrue (is_watchable old place)
     → why ≡ Open place → NameBreaks (λ file. broken.Open) place old new → snapshot.breaks ≡ true
     → TellsStop told printer.calling name slots now slots_new (Broke why) result
     → Visits told_in told ways snapshot place name New old printer slots now new printer slots_new result
@@ -395,13 +401,14 @@ first_unopened {place} {name} {old} {why} named can is broke fails (tells, left,
 
 -- the file was opened: its start part was given under its header, or what comes before a call that failed
 pub first_gave : {told_in told : Bool} {ways : Ways} {snapshot : Snapshot} {place : ℕ}
-    {name contents printer inside after slots slots_new old mid : _} (new : List Watched) {is_there fate result : _}
+    {name contents : List ℕ} {printer inside after : PrinterState} {slots slots_new : List Slot}
+    {old mid : List Watched} (new : List Watched) {is_there : Bool} {fate : Fate} {result : Result ℕ Stop}
     → inside ≡ printer → Reopens told_in snapshot old mid place is_there → is_there ≡ true
     → (watched_at old place).name ≡ name → (told_in ≡ true → contents ≡ held_at snapshot (snapshot.leads name))
     → Keeps place mid new fate (stop_in result)
     → IfBroke (stop_in result) (can_meet true ways.by_name ways.seeks fate ≡ true)
     → IfOk result (λ len. told_in ≡ true → len ≡ length contents)
-    → Ends told_in (WereFound Nothing Anywhere snapshot name fate (stop_in result)) told true inside name
+    → GivesDue told_in (WereFound Nothing Anywhere snapshot name fate (stop_in result)) told true inside name
     (gives (ways.start contents) ∷ []) (led_before snapshot fate (gives (ways.start contents) ∷ [])) slots after
     slots_new (stop_in result) → (looks : List Look) → Stands told_in ways looks place name (watched_at old place) New
     → Gave told_in told ways looks snapshot place name (snapshot.leads name) printer slots after slots_new fate result
@@ -435,18 +442,21 @@ first_gave {told_in} {told} {ways} {snapshot} {place} {name} {contents} {after} 
           → IfBroke (stop_in result) ((not (is_unopened fate) && true) ≡ true)
       opens_so result keeps = grind (arith, common_steps)
 
-pub first_long : {told_in snapshot : _} {place : ℕ} {old mid new is_there : _} (seen : Snapshot) (len : ℕ)
-    (by_name : Bool) → Reopens told_in snapshot old mid place is_there → is_there ≡ true
+pub first_long : {told_in : Bool} {snapshot : Snapshot} {place : ℕ} {old mid new : List Watched} {is_there : Bool}
+    (seen : Snapshot) (len : ℕ) (by_name : Bool) → Reopens told_in snapshot old mid place is_there → is_there ≡ true
     → IsTrue (is_watchable old place) → new ≡ mid
     → IsLong false seen (watched_at mid place).name (watched_at mid place).opened len
     → IsLong by_name seen (watched_at new place).name (watched_at new place).opened len
 first_long {place} {old} {mid} seen len by_name reopens there can same long = grind (arith, common_steps, long_by, opened_now)
 
-pub first_started : {told_in told : Bool} {ways : Ways} {snapshot : Snapshot} {now : _} {place : ℕ}
-    {name printer inside middle after slots slots_mid slots_new old mid : _} (new : List Watched)
-    {is_there none result : _} → inside ≡ printer → Reopens told_in snapshot old mid place is_there → is_there ≡ true
+pub first_started : {told_in told : Bool} {ways : Ways} {snapshot : Snapshot} {now : Snapshot} {place : ℕ}
+    {name : List ℕ} {printer inside middle after : PrinterState} {slots slots_mid slots_new : List Slot}
+    {old mid : List Watched} (new : List Watched)
+    {is_there : Bool} {none : List Event} {result : Result ℕ Stop} → inside ≡ printer
+    → Reopens told_in snapshot old mid place is_there → is_there ≡ true
     → (watched_at old place).name ≡ name → IsTrue (is_watchable old place) → now ≡ snapshot
-    → ((Is : List Event → Type 0) → Is [] → Ends told_in Is told true inside name [] none slots middle slots_mid None)
+    → ((Is : List Event → Type 0) → Is []
+    → GivesDue told_in Is told true inside name [] none slots middle slots_mid None)
     → (starts : Starts told_in told ways.seeks now ways.start place name mid middle slots_mid new after slots_new
     (stop_in result)) → IfOk result (λ len. told_in ≡ true → len ≡ length (open_contents now (watched_at mid place)))
     → (looks : List Look) → Stands told_in ways looks place name (watched_at old place) New
@@ -465,8 +475,9 @@ first_started {told_in} {told} {ways} {snapshot} {now} {place} {name} {inside} {
       known = rw (opened_now place old reopens.names can) named
 
 -- a later look at a name whose file was seen so far
-pub later_gave : {told_in told : Bool} {ways : Ways} {snapshot : _} {place : ℕ} {name : List ℕ} {position : ℕ}
-    {printer after slots slots_new old new result : _} → (again : LooksAgain told_in told ways.by_name snapshot place
+pub later_gave : {told_in told : Bool} {ways : Ways} {snapshot : Snapshot} {place : ℕ} {name : List ℕ} {position : ℕ}
+    {printer after : PrinterState} {slots slots_new : List Slot} {old new : List Watched} {result : Result ℕ Stop}
+    → (again : LooksAgain told_in told ways.by_name snapshot place
     name position old printer slots new after slots_new result) → (looks : List Look)
     → Stands told_in ways looks place name (watched_at old place) (Followed position)
     → Gave told_in told ways looks snapshot place name (open_after_look ways.by_name name
@@ -523,8 +534,8 @@ still_open : (name : List ℕ) (opened : Option ℕ) (snaps : List Snapshot)
 still_open name opened [] = refl
 still_open name opened (snapshot ∷ snaps) = still_open name opened snaps
 
-still_left : {told ways : _} (looks : List Look) (look : Look) {place : ℕ} {name watched : _}
-    → fate_at place look ≡ sound → IsLeft told ways looks place name watched
+still_left : {told : Bool} {ways : Ways} (looks : List Look) (look : Look) {place : ℕ} {name : List ℕ}
+    {watched : Watched} → fate_at place look ≡ sound → IsLeft told ways looks place name watched
     → IsLeft told ways (looks ++ look ∷ []) place name watched
 still_left [] look fine left = absurd (false≢true (sym left.begun))
 still_left {ways} (before ∷ looks) look {place} {name} {watched} fine left = record {
@@ -547,7 +558,8 @@ still_left {ways} (before ∷ looks) look {place} {name} {watched} fine left = r
   ];
 }
 
-pub left_visited : {told_in told ways snapshot : _} {place : ℕ} {name printer slots watched : _} (looks : List Look)
+pub left_visited : {told_in told : Bool} {ways : Ways} {snapshot : Snapshot} {place : ℕ} {name : List ℕ}
+    {printer : PrinterState} {slots : List Slot} {watched : Watched} (looks : List Look)
     → IsLeft told_in ways looks place name watched
     → Visited told_in told ways looks snapshot place name printer slots printer slots watched Left false
 left_visited {told_in} {ways} {snapshot} {place} {name} looks left = elim left.why [
@@ -570,7 +582,7 @@ left_visited {told_in} {ways} {snapshot} {place} {name} looks left = elim left.w
 
 -- where no call can fail
 
-sound_among : {before : _} {look : Look} (from : ℕ) (names : List (List ℕ)) {shares : _}
+sound_among : {before : List Look} {look : Look} (from : ℕ) (names : List (List ℕ)) {shares : List Share}
     → AreAtLook before look from names shares → look.snapshot.breaks ≡ false → (place : ℕ) → place < length names
     → failed_in (from + place) before ≡ None → fate_at (from + place) look ≡ sound
 sound_among from [] given unbroken place within kept = absurd (omega arith)

@@ -1,11 +1,10 @@
 -- A look at a name: what it gives, from where the looks before left it, what is told of it, and how it stands then.
 use Rattle.follow_core.specs.{
   Standing.{BrokeIn, StandsAt},
-  Version.{Entry, entries_at_look, entries_later, held_at, open_after},
-  Version.{open_after_later, open_after_look},
+  Version.{Entry, entries_at_look, entries_later, held_at, open_after, open_after_later, open_after_look},
   Gain.{file_of, last_from, last_of, gains_after},
   Look.{Fate, Look, Ways, can_meet, are_met, entries_in, failed_by, failed_in, fate_at, is_dropped, snapshots, sound},
-  Look.{is_first},
+  Look.is_first,
   Run.{AreKept, name_text},
   Notice.is_missing,
   Share.{Due, due_at, gain, gains_from, opened_in},
@@ -83,7 +82,7 @@ pub look_leaves : (by_name : Bool) (name : List ℕ) (opened : Option ℕ) (snap
     (length (held_at snapshot (open_after_look by_name name opened snapshot)))
 look_leaves by_name name opened snapshot last = grind (arith, common_steps, eqb-true)
 
-later_file : (by_name : Bool) (name : List ℕ) {opened : _} (last : Entry) (snaps : List Snapshot)
+later_file : (by_name : Bool) (name : List ℕ) {opened : Option ℕ} (last : Entry) (snaps : List Snapshot)
     → opened ≡ file_of last
     → open_after_later by_name name opened snaps ≡ file_of (last_from last (entries_later by_name name opened snaps))
 later_file by_name name last [] is = is
@@ -135,12 +134,12 @@ met_more first by_name seeks place (one ∷ looks) look so_far met =
     rw both.0 (met_more false by_name seeks place looks look both.1 (rw (and-false (is_first looks)) met))
 
 -- one look more, through which it comes
-pub broken_sound : {ways : Ways} (looks : List Look) (look : Look) {place : ℕ} {failed : _} → fate_at place look ≡ sound
-    → BrokeIn ways looks place failed → BrokeIn ways (looks ++ look ∷ []) place failed
+pub broken_sound : {ways : Ways} (looks : List Look) (look : Look) {place : ℕ} {failed : Option Broken}
+    → fate_at place look ≡ sound → BrokeIn ways looks place failed → BrokeIn ways (looks ++ look ∷ []) place failed
 broken_sound {ways} looks look {place} fine so_far = grind (arith, common_steps, failed_sound, met_more)
 
 -- or it broke at that look
-pub broken_more : {ways : Ways} (looks : List Look) (look : Look) {place : ℕ} {failed fate : _}
+pub broken_more : {ways : Ways} (looks : List Look) (look : Look) {place : ℕ} {failed : Option Broken} {fate : Fate}
     → failed ≡ failed_by fate None → is_dropped place looks ≡ false → fate_at place look ≡ fate
     → can_meet (is_first looks) ways.by_name ways.seeks fate ≡ true → BrokeIn ways (looks ++ look ∷ []) place failed
 broken_more {ways} looks look {place} {fate} broke kept at met = grind (arith, common_steps, none_of, failed_more, met_more, met_none, and-true)

@@ -1,9 +1,8 @@
 -- Looks at all names, one after another
 use Rattle.std.proofs.{
-  Common.{◌≡◌, ℕ, zero, suc, ◌<◌, ◌≤◌, ◌+◌, ◌-◌, Bool, true, false, IsTrue, List, []},
-  Common.{◌∷◌, ◌++◌},
-  Common.{length, take, slice_index_or, refl, sym, ◌∙◌, ap, subst, arith, inl, inr, ◌⊎◌, Option, Some, Err},
-  Common.{map, Ok, Result, None, is_some, rules},
+  Common.{◌≡◌, ℕ, zero, suc, ◌<◌, ◌≤◌, ◌+◌, ◌-◌, Bool, true, false, IsTrue, List, [], ◌∷◌, ◌++◌, length, take},
+  Common.{slice_index_or, refl, sym, ◌∙◌, ap, subst, arith, inl, inr, ◌⊎◌, Option, Some, Err, map, Ok, Result, None},
+  Common.{is_some, rules},
   Math.{Bool.{or-false as or_none, and-false as and_none}, Seq.take-append_seam},
   lemmas.Grind.common_steps,
   lemmas.Bool.{cases_lt, false≢true},
@@ -12,18 +11,19 @@ use Rattle.std.proofs.{
 }
 use Rattle.ports_core.specs.{Slot.{Slot, adds}, declared.{fault.Fault.Fault, calling.Calling.Calling}}
 use Rattle.follow_core.specs.{
-  FollowState.{AllReady, CanLook, FollowState, Holds, IsCause, IsOther, LooksOn, StandsIn, goes_on_at},
-  FollowState.{is_alive, is_alive_from, new_state, nothing, lacks_memory, output_broke},
-  FollowState.opened_follow,
+  FollowState.{AllReady, CanLook, FollowState, Holds, IsCause, IsOther, LooksOn, StandsIn, goes_on_at, is_alive},
+  FollowState.{is_alive_from, new_state, nothing, lacks_memory, output_broke, opened_follow},
   Look.{Look, Ways, snapshots, ways_of},
+  Printing.PrinterState,
   inner.{
-    Visits.{StandFrom, VisitedTo, VisitsAll, any_goes_on, goes_on_as, AddsSome, Begins, MakesLook, LookedAll},
+    Visits.{StandFrom, VisitedTo, VisitsAll, any_goes_on, goes_on_as, AddsSome, BeginsLook, MakesLook, LookedAll},
     Giving.{IsFront, HasStopped},
   },
   Reading.{looks_more, no_looks},
   Sharing.CanPrint,
   Standing.{AllStand, NoneGoesOn, NameState, Stands, no_state, state_at, texts, AreWatched},
-  declared.{name.Standing.{Standing, TheVariants.{New}}, follow.Stage.{Stage, TheVariants.{Fresh, Looking, Over}}},
+  declared.start.Start.Start,
+  declared.{name.Standing.{Standing, TheVariants.New}, follow.Phase.{Phase, TheVariants.{Fresh, Looking, Over}}},
   Ending.{AreMost, FollowEndsAs, FollowEndsBy, is_over, until_over, Made},
 }
 use Rattle.follow_core.proofs.{
@@ -40,7 +40,7 @@ use Rattle.ports_core.specs.declared.fault.Fault.TheVariants as fault
 -- names that are looked at
 
 -- as many names
-length_names : (follow : FollowState) {names : _} → texts follow.names ≡ names
+length_names : (follow : FollowState) {names : List (List ℕ)} → texts follow.names ≡ names
     → length follow.names ≡ length names
 length_names follow same = rw (← same) (sym (length_texts follow.names follow.names refl))
 
@@ -60,15 +60,15 @@ added_ready names {first} before first_is place within = grind (arith, common_st
 
 -- following stands as before, but that its names are watched, after those that were
 pub record IsAdded (old mid : FollowState) (watched watched_mid : List Watched) : Type 0 where
-  pub fresh : old.stage ≡ Fresh
-  pub mid_is : mid ≡ record old { stage = Looking; first = mid.first }
+  pub fresh : old.phase ≡ Fresh
+  pub mid_is : mid ≡ record old { phase = Looking; first = mid.first }
   pub watched_is : watched_mid ≡ watched ++ map added (texts old.names)
   pub first_is : 0 < length old.names → mid.first ≡ length watched
 
-pub added_begins : {told_in old mid watched watched_mid : _} → IsAdded old mid watched watched_mid
-    → Begins told_in old watched mid watched_mid
+pub added_begins : {told_in : Bool} {old mid : FollowState} {watched watched_mid : List Watched}
+    → IsAdded old mid watched watched_mid → BeginsLook told_in old watched mid watched_mid
 added_begins {told_in} {old} {mid} {watched} {watched_mid} is = record {
-  stage = ap (λ (f : FollowState). f.stage) is.mid_is;
+  phase = ap (λ (f : FollowState). f.phase) is.mid_is;
   ready = rw (is.mid_is, is.watched_is) (added_ready old.names watched is.first_is);
   -- a name that others added is before them
   others = λ number other. search (rules, get_or_append_left);
@@ -112,14 +112,14 @@ alive_from ways looks from (name ∷ names) all =
           let next : from + suc place ≡ 1 + from + place = omega arith in rw next at (all (suc place) (omega arith))),
     ) refl
 
-new_there : {names : _} {place : ℕ} → place < length names → names ≡ map new_state (texts names)
+new_there : {names : List NameState} {place : ℕ} → place < length names → names ≡ map new_state (texts names)
     → (state_at names place).standing ≡ New
 new_there {names} {place} within new =
     let inside : place < length (texts names) = rw (length_texts names names refl) within in
     ap (λ (those : List NameState). (state_at those place).standing) new
     ∙ ap (λ (n : NameState). n.standing) (get_or-map new_state (texts names) place [] no_state inside)
 
-pub fresh_alive : (ways : Ways) {looks names : _} → looks ≡ []
+pub fresh_alive : (ways : Ways) {looks : List Look} {names : List NameState} → looks ≡ []
     → names ≡ map new_state (texts names) → (place : ℕ) → place < length names
     → goes_on_as ways.by_name (state_at names place).standing
     ≡ goes_on_at ways looks (ways.first + place) (state_at names place).text
@@ -142,19 +142,19 @@ no_more_of told ways looks place name watched standing stands some none = grind 
 -- why a look was stopped
 
 -- following isn't over
-can_print : (old : FollowState) (watched : List Watched) (slots : List Slot) → (old.stage ≡ Over → ⊥)
+can_print : (old : FollowState) (watched : List Watched) (slots : List Slot) → (old.phase ≡ Over → ⊥)
     → CanLook old watched slots → CanPrint slots
 can_print old watched slots live can = grind (arith, common_steps)
 
-cause_is : {old : FollowState} {slots slots_new why : _} (watched : List Watched)
-    → (old.stage ≡ Over → ⊥) → CanLook old watched slots → HasStopped why slots_new → IsCause old slots slots_new why
+cause_is : {old : FollowState} {slots slots_new : List Slot} {why : Fault} (watched : List Watched)
+    → (old.phase ≡ Over → ⊥) → CanLook old watched slots → HasStopped why slots_new → IsCause old slots slots_new why
 cause_is {old} {slots} {slots_new} watched live can (inl memory, error) = rw memory lacks_memory
 cause_is {old} {slots} {slots_new} watched live can (inr (is, broken), error) = grind (arith, common_steps, can_print, output_broke)
 
 -- by what the names broke
 
 -- before the first look none broke, of those that were added
-none_broken : {ways : Ways} {looks : _} (names : List (List ℕ)) (before watched : List Watched) → looks ≡ []
+none_broken : {ways : Ways} {looks : List Look} (names : List (List ℕ)) (before watched : List Watched) → looks ≡ []
     → length before ≡ ways.first → IsFront watched (before ++ map added names) → AreWatched ways looks names watched
 none_broken names before watched none first_is (rest, are) = rw none (
   (let size = sizes in omega arith),
@@ -167,26 +167,27 @@ none_broken names before watched none first_is (rest, are) = rw none (
   sizes : length before + length names ≡ length watched + length rest
   sizes = rw (length-append, length-append, length-map) at (ap length are)
 
-module _ {told_in told calling : _} {ways : Ways} {headers names looks first slots : _} {follow : FollowState}
-    {watched : _} (holds : Holds told_in told calling ways headers names looks first follow watched slots) where
+module _ {told_in told : Bool} {calling : Calling} {ways : Ways} {headers : Bool} {names : List (List ℕ)}
+    {looks : List Look} {first slots : List Slot} {follow : FollowState} {watched : List Watched}
+    (holds : Holds told_in told calling ways headers names looks first follow watched slots) where
   pub none_going : 0 < length looks → any_goes_on follow.by_name follow.names ≡ false → NoneGoesOn ways watched
-  none_going some none = stage follow.stage holds.stand where
-    stage : (stage : Stage) → StandsIn told_in ways looks follow.names watched stage → NoneGoesOn ways watched
-    stage Fresh stand = absurd (let empty = ap length stand.0 in omega arith)
-    stage Looking stand = λ place within.
+  none_going some none = phase follow.phase holds.stand where
+    phase : (phase : Phase) → StandsIn told_in ways looks follow.names watched phase → NoneGoesOn ways watched
+    phase Fresh stand = absurd (let empty = ap length stand.0 in omega arith)
+    phase Looking stand = λ place within.
         let inside : place < length follow.names = (let as_many = stand.1 in omega arith) in
         no_more_of told_in ways looks (ways.first + place) _ (watched_at watched (ways.first + place))
         (state_at follow.names place).standing (stand.0 place inside) some
         (rw (ap (λ (those : Ways). those.by_name) holds.asked)
         (none_before follow.by_name follow.names place inside none))
-    stage Over stand = absurd stand
+    phase Over stand = absurd stand
 
   pub watched_are : AreWatched ways looks names watched
-  watched_are = stage follow.stage holds.stand where
-    stage : (stage : Stage) → StandsIn told_in ways looks follow.names watched stage
+  watched_are = phase follow.phase holds.stand where
+    phase : (phase : Phase) → StandsIn told_in ways looks follow.names watched phase
         → AreWatched ways looks names watched
-    stage Fresh stand = none_broken names watched watched stand.0 stand.2 (map added names, refl)
-    stage Looking stand =
+    phase Fresh stand = none_broken names watched watched stand.0 stand.2 (map added names, refl)
+    phase Looking stand =
         let many = rw (length_names follow holds.same) at stand.1 in (
           omega arith,
           (λ above. many),
@@ -196,10 +197,10 @@ module _ {told_in told calling : _} {ways : Ways} {headers names looks first slo
               (watched_there told_in _ (watched_at watched (ways.first + place)) (state_at follow.names place).standing
               (stand.0 place inside)),
         )
-    stage Over stand = absurd stand
+    phase Over stand = absurd stand
 
   -- they stand as the looks before left them
-  stand_from : follow.stage ≡ Looking
+  stand_from : follow.phase ≡ Looking
       → StandFrom told_in (ways_of ways.first follow.by_name follow.start) looks follow.first follow.names watched
   stand_from looking = let (stand, many) = rw looking at holds.stand in
       rw (← holds.asked) (record {
@@ -210,8 +211,9 @@ module _ {told_in told calling : _} {ways : Ways} {headers names looks first slo
 
 -- A look from where following stands
 
-module _ {told_in told snapshot seen seen_new : _} {old : FollowState} {new watched watched_new slots why : _}
-    (live : old.stage ≡ Over → ⊥) (can : CanLook old watched slots) (is : why ≡ fault.Memory)
+module _ {told_in told : Bool} {snapshot : Snapshot} {seen seen_new : List Snapshot} {old : FollowState}
+    {new : FollowState} {watched watched_new : List Watched} {slots : List Slot} {why : Fault}
+    (live : old.phase ≡ Over → ⊥) (can : CanLook old watched slots) (is : why ≡ fault.Memory)
     (same : seen_new ≡ seen) where
   -- there was no memory to begin one: some names were added, or all, and no call was made on one
   makes_none : ((calling ways headers names looks first : _)
@@ -235,7 +237,7 @@ module _ {told_in told snapshot seen seen_new : _} {old : FollowState} {new watc
     };
     seen_is = tt;
     saw = inl same;
-    stage = tt;
+    phase = tt;
     ready = tt;
     can = tt;
     cause = rw is lacks_memory;
@@ -243,16 +245,16 @@ module _ {told_in told snapshot seen seen_new : _} {old : FollowState} {new watc
     others = others;
   }
 
-  pub makes_few : old.stage ≡ Fresh → AddsSome (texts old.names) watched watched_new
+  pub makes_few : old.phase ≡ Fresh → AddsSome (texts old.names) watched watched_new
       → MakesLook told_in told snapshot seen old watched slots seen_new new watched_new slots (Err why)
   makes_few fresh adds = makes_none
       (λ calling ways headers names looks first holds.
       let stand = rw fresh at holds.stand in
       none_broken names watched watched_new stand.0 stand.2 (rw holds.same at adds.front))
       (λ number other. rw adds.kept.1 (get_or_append_left watched adds.kept.0 no_name number
-      (subst (λ stage. IsOther (record old { stage = stage }) watched number) fresh other)))
+      (subst (λ phase. IsOther (record old { phase = phase }) watched number) fresh other)))
 
-  pub makes_all : {mid watched_mid : _} → Begins told_in old watched mid watched_mid
+  pub makes_all : {mid : FollowState} {watched_mid : List Watched} → BeginsLook told_in old watched mid watched_mid
       → watched_new ≡ watched_mid
       → MakesLook told_in told snapshot seen old watched slots seen_new new watched_new slots (Err why)
   makes_all begins added_now = makes_none
@@ -261,20 +263,22 @@ module _ {told_in told snapshot seen seen_new : _} {old : FollowState} {new watc
       (λ number other. rw added_now (begins.others number other).1)
 
 -- the names were looked at, once they were watched and the watch saw what the files hold
-pub makes_look : {told_in told snapshot seen seen_new : _} {old mid : FollowState}
-    {names_new watched watched_mid watched_new printer slots slots_new result : _} → (old.stage ≡ Over → ⊥)
-    → CanLook old watched slots → Begins told_in old watched mid watched_mid → seen_new ≡ seen ++ snapshot ∷ []
+pub makes_look : {told_in told : Bool} {snapshot : Snapshot} {seen seen_new : List Snapshot} {old mid : FollowState}
+    {names_new : List NameState} {watched watched_mid watched_new : List Watched} {printer : PrinterState}
+    {slots slots_new : List Slot} {result : Result Bool Fault} → (old.phase ≡ Over → ⊥)
+    → CanLook old watched slots → BeginsLook told_in old watched mid watched_mid → seen_new ≡ seen ++ snapshot ∷ []
     → VisitsAll told_in told snapshot mid.by_name mid.start mid.first mid.names watched_mid mid.printer slots names_new
     watched_new printer slots_new result → MakesLook told_in told snapshot seen old watched slots seen_new
     (record mid { names = names_new; printer = printer }) watched_new slots_new result
 makes_look {told_in} {told} {snapshot} {seen} {seen_new} {old} {mid} {names_new} {watched} {watched_mid} {watched_new}
     {printer} {slots} {slots_new} {result} live can begins saw = by result where
-      others : {those : _} → VisitsAll told_in told snapshot mid.by_name mid.start mid.first mid.names watched_mid
+      others : {those : Result Bool Fault}
+          → VisitsAll told_in told snapshot mid.by_name mid.start mid.first mid.names watched_mid
           mid.printer slots names_new watched_new printer slots_new those → (number : ℕ) → IsOther old watched number
           → watched_at watched_new number ≡ watched_at watched number
       others visits number other =
           let (others, same) = begins.others number other in
-          visits.others number (subst (λ stage. IsOther (record mid { stage = stage }) watched_mid number) begins.stage others) ∙ same
+          visits.others number (subst (λ phase. IsOther (record mid { phase = phase }) watched_mid number) begins.phase others) ∙ same
 
       by : (result : Result Bool Fault)
           → VisitsAll told_in told snapshot mid.by_name mid.start mid.first mid.names watched_mid mid.printer slots
@@ -284,7 +288,7 @@ makes_look {told_in} {told} {snapshot} {seen} {seen_new} {old} {mid} {names_new}
       by (Ok failed) visits = record {
         looked = λ calling ways headers names looks first before.
             let holds = begins.holds told calling ways headers names looks first slots before in
-            let stood = stand_from holds begins.stage in
+            let stood = stand_from holds begins.phase in
             let visited : VisitedTo told_in told ways looks snapshot (length mid.names) mid.names mid.printer slots printer
             slots_new watched_new names_new failed = rw holds.asked (visits.visited ways.first looks stood) in
             let look : Look = record { snapshot = snapshot; fates = visited.fates } in
@@ -298,7 +302,7 @@ makes_look {told_in} {told} {snapshot} {seen} {seen_new} {old} {mid} {names_new}
                 asked = holds.asked;
                 same = visited.same ∙ holds.same;
                 numbered = holds.numbered;
-                stand = subst (StandsIn told_in ways (looks ++ look ∷ []) names_new watched_new) (sym begins.stage) (
+                stand = subst (StandsIn told_in ways (looks ++ look ∷ []) names_new watched_new) (sym begins.phase) (
                   (λ place within. visited.done visited.fates front place (omega (arith, within, many))),
                   rw (← many) (visits.count ∙ stood.many),
                 );
@@ -312,7 +316,7 @@ makes_look {told_in} {told} {snapshot} {seen} {seen_new} {old} {mid} {names_new}
         stopped = tt;
         seen_is = saw;
         saw = tt;
-        stage = begins.stage;
+        phase = begins.phase;
         ready = visits.ready;
         can = visits.can;
         cause = tt;
@@ -324,7 +328,7 @@ makes_look {told_in} {told} {snapshot} {seen} {seen_new} {old} {mid} {names_new}
         stopped = λ calling ways headers names looks first before.
             let holds = begins.holds told calling ways headers names looks first slots before in
             let (whole, part, begun, printer, reached, shared, short) =
-            visits.stopped ways.first looks (stand_from holds begins.stage) in record {
+            visits.stopped ways.first looks (stand_from holds begins.phase) in record {
               shares = holds.shares;
               are = holds.are;
               found = holds.found;
@@ -338,7 +342,7 @@ makes_look {told_in} {told} {snapshot} {seen} {seen_new} {old} {mid} {names_new}
             };
         seen_is = tt;
         saw = inr saw;
-        stage = tt;
+        phase = tt;
         ready = tt;
         can = tt;
         cause = cause_is watched live can visits.error;
@@ -359,8 +363,10 @@ pub record Progress (told_in told : Bool) (calling : Calling) (ways : Ways) (hea
   pub ends : going ≡ false → NoneGoesOn ways watched
   pub holds : Holds told_in told calling ways headers names looks first follow watched slots
 
-module _ {told_in told calling ways headers names : _} {shows : ℕ → Snapshot} {first : _} where
-  pub one_more : {made : ℕ} {now : ℕ → Snapshot} {old new seen seen_new watched watched_new slots slots_new going : _}
+module _ {told_in told headers : Bool} {calling : Calling} {ways : Ways} {names : List (List ℕ)}
+    {shows : ℕ → Snapshot} {first : List Slot} where
+  pub one_more : {made : ℕ} {now : ℕ → Snapshot} {old new : FollowState} {seen seen_new : List Snapshot}
+      {watched watched_new : List Watched} {slots slots_new : List Slot} {going : Bool}
       → now ≡ shows → Progress told_in told calling ways headers names shows first made true old seen watched slots
       → LooksOn told_in told (now (length seen)) old watched slots new watched_new slots_new
       → seen_new ≡ seen ++ now (length seen) ∷ [] → ((told calling ways headers names looks first slots watched : _)
@@ -395,8 +401,8 @@ module _ {told_in told calling ways headers names : _} {shows : ℕ → Snapshot
       }
 
   -- no further look was made: as many were asked for, or it could give nothing
-  pub ended : {made count : ℕ} {going follow seen watched slots : _} → made ≤ count
-      → (made < count → (0 < made) × (going ≡ false))
+  pub ended : {made count : ℕ} {going : Bool} {follow : FollowState} {seen : List Snapshot} {watched : List Watched}
+      {slots : List Slot} → made ≤ count → (made < count → (0 < made) × (going ≡ false))
       → Progress told_in told calling ways headers names shows first made going follow seen watched slots
       → LookedAll told_in told calling ways headers names count shows first follow seen watched slots
   ended within over p = let count = p.count in record {
@@ -449,7 +455,7 @@ most_made true process shows count made within left = (
 )
 
 -- and one more, where not all were made
-pub most_more : {told process : _} {shows : ℕ → Snapshot} {count made : ℕ}
+pub most_more : {told : Bool} {process : Option ℕ} {shows : ℕ → Snapshot} {count made : ℕ}
     → (told ≡ true → until_over process shows 0 count ≡ made + until_over process shows made (count - made))
     → made < count → (most : ℕ) × AreMost told process shows count most × (made + 1 ≤ most)
 most_more {told} {process} {shows} {count} {made} is below = most_made told process shows count (made + 1) (omega arith)
@@ -463,7 +469,7 @@ pub until_more : (process : Option ℕ) {shows now : ℕ → Snapshot} {made cou
 until_more process {shows} {now} {made} {count} {seen} is below told runs same at = grind (arith, common_steps, until_step)
 
 -- the last one, before which it is gone
-pub until_last : {told process : _} {shows now : ℕ → Snapshot} {made count seen : ℕ} {gone : Bool}
+pub until_last : {told : Bool} {process : Option ℕ} {shows now : ℕ → Snapshot} {made count seen : ℕ} {gone : Bool}
     → (told ≡ true → until_over process shows 0 count ≡ made + until_over process shows made (count - made))
     → made < count → (IsTrue gone → IsTrue (is_over process (now seen))) → gone ≡ true → now ≡ shows → seen ≡ made
     → AreMost told process shows count (made + 1)
@@ -479,8 +485,10 @@ until_last {process} {shows} {now} {made} {count} {seen} is below found gone sam
 
 -- a whole run
 
-pub ends_by : {told_in told calling ways headers names : _} {count : ℕ} {shows : ℕ → Snapshot}
-    {first seen watched new : _} {status : ℕ} (process : Option ℕ) (most : ℕ) → AreMost told_in process shows count most
+pub ends_by : {told_in told headers : Bool} {calling : Calling} {ways : Ways} {names : List (List ℕ)} {count : ℕ}
+    {shows : ℕ → Snapshot}
+    {first new : List Slot} {seen : List Snapshot} {watched : List Watched} {status : ℕ} (process : Option ℕ)
+    (most : ℕ) → AreMost told_in process shows count most
     → FollowEndsAs told_in told calling ways headers names most shows first seen watched new status
     → FollowEndsBy process told_in told calling ways headers names count shows first seen watched new status
 ends_by (Some process) most are ends = (most, are, ends)
@@ -493,7 +501,8 @@ texts_of_new : (names : List (List ℕ)) → texts (map new_state names) ≡ nam
 texts_of_new [] = refl
 texts_of_new (name ∷ names) = ap (λ rest. name ∷ rest) (texts_of_new names)
 
-pub open_holds : {told_in told by_name calling start headers names follow watched slots : _}
+pub open_holds : {told_in told by_name headers : Bool} {calling : Calling} {start : Start} {names : List (List ℕ)}
+    {follow : FollowState} {watched : List Watched} {slots : List Slot}
     → follow ≡ opened_follow calling by_name start headers names → watched ≡ []
     → Holds told_in told calling (ways_of 0 by_name start) headers names [] slots follow watched slots
 open_holds {names} is unwatched = rw is (record {

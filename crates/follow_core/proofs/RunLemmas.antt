@@ -25,11 +25,11 @@ record Begun (v : Version) (entries : List Entry) : Type 0 where
   last : last_contents (v ∷ run) ≡ v.contents ++ more
   gains : gains_later (version v) entries ≡ more ++ whole_text others
 
-whole_of : {v : Version} {entries : _} (b : Begun v entries)
+whole_of : {v : Version} {entries : List Entry} (b : Begun v entries)
     → whole_text (runs_of (version v ∷ entries)) ≡ v.contents ++ gains_later (version v) entries
 whole_of {v} b = rw (b.runs, b.last, b.gains) (append_assoc v.contents b.more (whole_text b.others))
 
-goes : {v w : Version} {entries : _} → Begun w entries → IsBeginning v.contents w.contents → goes_on v w ≡ true
+goes : {v w : Version} {entries : List Entry} → Begun w entries → IsBeginning v.contents w.contents → goes_on v w ≡ true
     → Begun v (version w ∷ entries)
 goes {v} {w} {entries} b (rest, is) test = record {
   run = w ∷ b.run;
@@ -40,7 +40,7 @@ goes {v} {w} {entries} b (rest, is) test = record {
   gains = rw (test, b.gains, is, drop_front v.contents rest) (sym (append_assoc rest b.more (whole_text b.others)));
 }
 
-stops : {v w entries : _} → Begun w entries → goes_on v w ≡ false → Begun v (version w ∷ entries)
+stops : {v w : Version} {entries : List Entry} → Begun w entries → goes_on v w ≡ false → Begun v (version w ∷ entries)
 stops {v} {w} {entries} b test = record {
   run = [];
   others = runs_of (version w ∷ entries);
@@ -50,7 +50,7 @@ stops {v} {w} {entries} b test = record {
   gains = rw test (sym (whole_of b));
 }
 
-either : {v w : Version} {entries : _} → Begun w entries → (test : Bool) → goes_on v w ≡ test
+either : {v w : Version} {entries : List Entry} → Begun w entries → (test : Bool) → goes_on v w ≡ test
     → (test ≡ true → IsBeginning v.contents w.contents) → Begun v (version w ∷ entries)
 either b true is kept = goes b (kept refl) is
 either b false is kept = stops b is

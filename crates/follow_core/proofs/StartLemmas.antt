@@ -19,7 +19,7 @@ use Rattle.ends_core.{specs.laws.EndsLaws.after_of-append, proofs.FindLemmas.blo
 -- filling a block of a watched file, read by read
 
 -- what an open file holds, where nothing changed
-pub contents_same : {seen seen_old names names_old : _} (place : ℕ) → seen ≡ seen_old
+pub contents_same : {seen seen_old : List Snapshot} {names names_old : List Watched} (place : ℕ) → seen ≡ seen_old
     → names ≡ names_old
     → open_contents (latest seen) (watched_at names place)
     ≡ open_contents (latest seen_old) (watched_at names_old place)
@@ -44,8 +44,9 @@ more_bytes contents {read_new} now from {filled} {n} within long few gave are = 
 room_of : (filled : ℕ) (now : List ℕ) → length (take (length now - filled) (drop filled now)) ≡ length now - filled
 room_of filled now = grind (arith, common_steps)
 
-pub fill_more : {told_in contents now_contents : _} {from filled n : ℕ}
-    {old now read_new seen_old seen_now seen_new watched_old watched_now watched_new : _}
+pub fill_more : {told_in : Bool} {contents now_contents : List ℕ} {from filled n : ℕ}
+    {old now read_new : List ℕ} {seen_old seen_now seen_new : List Snapshot}
+    {watched_old watched_now watched_new : List Watched}
     → Filling told_in contents from filled old now seen_old seen_now watched_old watched_now → now_contents ≡ contents
     → filled < length now → length now ≡ length old
     → length read_new ≡ length (take (length now - filled) (drop filled now))
@@ -58,8 +59,8 @@ fill_more {contents} {from} {filled} {n} {now} {read_new} f same less long wide 
     (arith, common_steps, room_of, more_bytes)
 
 -- a read that gives none stands at the file's end
-pub fill_ends : {told_in contents now_contents : _} {from filled : ℕ}
-    {old now read_new seen_old seen_now watched_old watched_now : _}
+pub fill_ends : {told_in : Bool} {contents now_contents : List ℕ} {from filled : ℕ}
+    {old now read_new : List ℕ} {seen_old seen_now : List Snapshot} {watched_old watched_now : List Watched}
     → Filling told_in contents from filled old now seen_old seen_now watched_old watched_now → now_contents ≡ contents
     → filled < length now → (told_in ≡ true
     → GaveFrom now_contents (from + filled) (take (length now - filled) (drop filled now)) read_new 0) → told_in ≡ true

@@ -9,7 +9,11 @@ use Rattle.ports_core.specs.{
 }
 use Rattle.watch_core.specs.{Snapshot.Snapshot, Watched.{Watched, watched_at}}
 use Rattle.follow_core.specs.{
-  declared.{follow.Stage.{Stage, TheVariants.{Fresh, Looking, Over}}, name.Standing.TheVariants.New, start.Start.Start},
+  declared.{
+    follow.Phase.{Phase, TheVariants.{Fresh, Looking, Over}},
+    name.Standing.TheVariants.New,
+    start.Start.Start,
+  },
   Sharing.{CanPrint, AllShared, AllShort},
   Followed.any_failed,
   Look.{Fate, Look, Ways, is_dropped, snapshots, ways_of},
@@ -27,7 +31,7 @@ pub record FollowState : Type 0 where
   -- the number of the first of them, once they are watched
   pub first : ℕ
   pub printer : PrinterState
-  pub stage : Stage
+  pub phase : Phase
   -- a name was missing at the first look, a call on one failed, or a fault ended following
   pub has_failed : Bool
 
@@ -43,7 +47,7 @@ opened_follow calling by_name start headers names =
       names = map new_state names;
       first = 0;
       printer = fresh_printer calling headers;
-      stage = Fresh;
+      phase = Fresh;
       has_failed = false;
     }
 
@@ -54,7 +58,7 @@ AllReady names first watched =
 
 -- the next look can be made: the first one whatever others watch; one that ended following takes nothing
 abbrev pub CanLook : FollowState → List Watched → List Slot → Type 0
-CanLook follow watched slots = elim follow.stage [
+CanLook follow watched slots = elim follow.phase [
   | Fresh ↦ CanPrint slots
   | Looking ↦ AllReady follow.names follow.first watched × CanPrint slots
   | Over ↦ Unit {0}
@@ -62,7 +66,7 @@ CanLook follow watched slots = elim follow.stage [
 
 -- a look leaves the watched name of this number as it is: others added it, or following is over
 abbrev pub IsOther : FollowState → List Watched → ℕ → Type 0
-IsOther follow watched number = elim follow.stage [
+IsOther follow watched number = elim follow.phase [
   | Fresh ↦ number < length watched
   | Looking ↦ (place : ℕ) → place < length follow.names → number ≡ follow.first + place → ⊥
   | Over ↦ Unit {0}
@@ -70,7 +74,7 @@ IsOther follow watched number = elim follow.stage [
 
 -- Before the first look the names are new, and will come after those that are watched already; then they are watched
 -- after these, and stand as after these looks.
-abbrev pub StandsIn : Bool → Ways → List Look → List NameState → List Watched → Stage → Type 0
+abbrev pub StandsIn : Bool → Ways → List Look → List NameState → List Watched → Phase → Type 0
 StandsIn told ways looks names watched Fresh = (looks ≡ []) × (names ≡ map new_state (texts names))
     × (length watched ≡ ways.first)
 StandsIn told ways looks names watched Looking = AllStand told ways looks names watched
@@ -84,8 +88,8 @@ pub record Holds (told_in told : Bool) (calling : Calling) (ways : Ways) (header
     (first : List Slot) (follow : FollowState) (watched : List Watched) (slots : List Slot) : Type 0 where
   pub asked : ways ≡ ways_of ways.first follow.by_name follow.start
   pub same : texts follow.names ≡ names
-  pub numbered : follow.stage ≡ Looking → 0 < length names → follow.first ≡ ways.first
-  pub stand : StandsIn told_in ways looks follow.names watched follow.stage
+  pub numbered : follow.phase ≡ Looking → 0 < length names → follow.first ≡ ways.first
+  pub stand : StandsIn told_in ways looks follow.names watched follow.phase
   pub shares : List Share
   pub are : told_in ≡ true → shares ≡ shares_of ways names looks
   pub found : AreFound ways names looks shares
@@ -132,7 +136,7 @@ pub record Halted (told_in told : Bool) (calling : Calling) (ways : Ways) (heade
 pub data IsCause (old : FollowState) (slots slots_new : List Slot) : Fault → Type 0 where
   lacks_memory : IsCause old slots slots_new Memory
   output_broke : Rose 0 slots slots_new → IsCause old slots slots_new (Write 0)
-  was_over : old.stage ≡ Over → IsCause old slots slots_new Failed
+  was_over : old.phase ≡ Over → IsCause old slots slots_new Failed
 
 -- a look that was stopped saw the files, or didn't come to that
 abbrev pub SawOrNot : List Snapshot → Snapshot → List Snapshot → Type 0

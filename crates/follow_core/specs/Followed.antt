@@ -1,7 +1,7 @@
 -- What following writes and says, and whether anything failed.
 use Rattle.std.specs.{
-  Prelude.{is_none, is_some, ℕ, Bool, true, false, not, ◌&&◌, ◌||◌, List, [], ◌∷◌, ◌++◌, Option, Some, None, bytes_eq},
-  Prelude.if◌then◌else◌,
+  Prelude.{is_none, is_some, ℕ, Bool, true, false, not, ◌&&◌, ◌||◌, List, [], ◌∷◌, ◌++◌, Option, Some, None},
+  Prelude.{bytes_eq, if◌then◌else◌},
 }
 use Rattle.ports_core.specs.Text.{header_of}
 use Rattle.follow_core.specs.{Look.{Ways, Look}, Share.{Share, bytes_of, lines_of, shares_of}}

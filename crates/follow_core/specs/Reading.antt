@@ -1,7 +1,7 @@
 -- What comes of a name whatever is watched, also where files don't tell their bytes: what the calls on it found.
 use Rattle.std.specs.{
-  Prelude.{◌≡◌, ◌⊎◌, ◌<◌, ◌≤◌, ◌+◌, ℕ, true, false, not, ◌&&◌, List, [], ◌∷◌, ◌++◌, Option, Some, None, is_some},
-  Prelude.length,
+  Prelude.{◌≡◌, ◌⊎◌, ◌<◌, ◌≤◌, ◌+◌, ℕ, true, false, not, ◌&&◌, List, [], ◌∷◌, ◌++◌, Option, Some, None},
+  Prelude.{is_some, length},
 }
 use Rattle.watch_core.specs.Snapshot.{Snapshot, Found, latest, holds_many, leads_to, opens_as, reads_as}
 use Rattle.follow_core.specs.{

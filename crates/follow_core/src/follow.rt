@@ -6,7 +6,7 @@ ghost use Rattle.ports_core.specs.{Slot.Slot, declared.calling.Calling.Calling};
 ghost use Rattle.watch_core.specs.Watched.{Watched, watched_at};
 ghost use Rattle.follow_core.specs.{
   Sharing.HasError,
-  inner.Visits.{AddsSome, Begins, CanBegin, MakesLook},
+  inner.Visits.{AddsSome, BeginsLook, CanBegin, MakesLook},
   FollowState.{CanLook, FollowState, Holds, IsCause, IsOther, LooksOn, SawOrNot, StopsOn, is_alive, opened_follow},
   Look.{Look, Ways},
   Standing.{NoneGoesOn, texts},
@@ -22,7 +22,7 @@ use watch_core::Watch;
 
 /// Where following stands.
 #[derive(Clone, Copy, Debug, PartialEq, Eq)]
-pub enum Stage {
+pub enum Phase {
     /// No look was made yet.
     Fresh,
     /// The names are watched, and were looked at.
@@ -44,7 +44,7 @@ pub struct Follow {
     /// The number that the watch gave the first name, once it did.
     first: usize,
     visitor: Visitor,
-    stage: Stage,
+    phase: Phase,
     has_failed: bool,
 }
 
@@ -57,7 +57,7 @@ impl Model for Follow {
       names = f.names.items;
       first = f.first;
       printer = f.visitor;
-      stage = f.stage;
+      phase = f.phase;
       has_failed = f.has_failed;
     } };
 
@@ -90,7 +90,7 @@ impl Follow {
             names: new_names(alloc, names)?,
             first: 0,
             visitor: Visitor::new(alloc, calling, headers)?,
-            stage: Stage::Fresh,
+            phase: Phase::Fresh,
             has_failed: false,
         })
     }
@@ -117,29 +117,29 @@ impl Follow {
             ≡ W.seen watch.old ++ W.shows watch.old (length (W.seen watch.old)) ∷ []) }
         ensures saw { IfErr result
             (λ _. SawOrNot (W.seen watch.old) (W.shows watch.old (length (W.seen watch.old))) (W.seen watch.new)) }
-        ensures stage { OnOk result (self.new.stage ≡ Stage.Looking) }
+        ensures phase { OnOk result (self.new.phase ≡ Phase.Looking) }
         ensures error { HasError (O.slots outs.old) → HasError (O.slots outs.new) }
         ensures can { OnOk result (CanLook self.new (W.watched watch.new) (O.slots outs.new)) }
         ensures cause { IfErr result (IsCause self.old (O.slots outs.old) (O.slots outs.new)) }
-        ensures err { IfErr result (λ _. self.new.stage ≡ Stage.Over) }
-        ensures over { self.old.stage ≡ Stage.Over
+        ensures err { IfErr result (λ _. self.new.phase ≡ Phase.Over) }
+        ensures over { self.old.phase ≡ Phase.Over
             → (result ≡ Err Fault.Failed) × (O.slots outs.new ≡ O.slots outs.old)
             × (W.watched watch.new ≡ W.watched watch.old) × (W.seen watch.new ≡ W.seen watch.old)
             × (self.new ≡ self.old) }
-        ensures failed { (self.old.stage ≡ Stage.Over → ⊥) → IfErr result (λ _. self.new.has_failed ≡ true) }
+        ensures failed { (self.old.phase ≡ Phase.Over → ⊥) → IfErr result (λ _. self.new.has_failed ≡ true) }
         ensures shows { W.shows watch.new ≡ W.shows watch.old }
         ensures others { (number : ℕ) → IsOther self.old (W.watched watch.old) number
             → watched_at (W.watched watch.new) number ≡ watched_at (W.watched watch.old) number }
     {
-        match self.stage {
-            Stage::Over => Err(Fault::Failed),
-            Stage::Fresh | Stage::Looking => match self.make_look(watch, outs) {
+        match self.phase {
+            Phase::Over => Err(Fault::Failed),
+            Phase::Fresh | Phase::Looking => match self.make_look(watch, outs) {
                 Ok(failed) => {
                     self.has_failed |= failed;
                     Ok(())
                 }
                 Err(fault) => {
-                    self.stage = Stage::Over;
+                    self.phase = Phase::Over;
                     self.has_failed = true;
                     Err(fault)
                 }
@@ -175,7 +175,7 @@ impl Follow {
     ///
     /// As `look`.
     fn make_look<W: Watch, O: Outs>(&mut self, watch: &mut W, outs: &mut O) -> Result<bool, Fault>
-        requires live { self.old.stage ≡ Stage.Over → ⊥ }
+        requires live { self.old.phase ≡ Phase.Over → ⊥ }
         requires can { CanLook self.old (W.watched watch.old) (O.slots outs.old) }
         ensures makes { MakesLook W.told O.told (W.shows watch.old (length (W.seen watch.old)))
             (W.seen watch.old) self.old (W.watched watch.old) (O.slots outs.old) (W.seen watch.new) self.new
@@ -206,21 +206,21 @@ impl Follow {
     /// `Memory` where there was none for a name.
     fn begin<W: Watch>(&mut self, watch: &mut W) -> Result<(), Fault>
         requires { CanBegin self.old (W.watched watch.old) }
-        ensures begins { OnOk result (Begins W.told self.old (W.watched watch.old) self.new (W.watched watch.new)) }
+        ensures begins { OnOk result (BeginsLook W.told self.old (W.watched watch.old) self.new (W.watched watch.new)) }
         ensures err { IfErr result
-            (λ fault. (fault ≡ Fault.Memory) × (self.old.stage ≡ Stage.Fresh)
+            (λ fault. (fault ≡ Fault.Memory) × (self.old.phase ≡ Phase.Fresh)
             × AddsSome (texts self.old.names) (W.watched watch.old) (W.watched watch.new)) }
         ensures seen { W.seen watch.new ≡ W.seen watch.old }
         ensures shows { W.shows watch.new ≡ W.shows watch.old }
     {
-        match self.stage {
-            Stage::Fresh => {
+        match self.phase {
+            Phase::Fresh => {
                 let first = add_all(&self.names, watch)?;
                 self.first = first;
-                self.stage = Stage::Looking;
+                self.phase = Phase::Looking;
                 Ok(())
             }
-            Stage::Looking | Stage::Over => Ok(()),
+            Phase::Looking | Phase::Over => Ok(()),
         }
     }
 }

@@ -10,7 +10,7 @@ mod run;
 mod start;
 mod visitor;
 
-pub use follow::{Follow, Stage};
+pub use follow::{Follow, Phase};
 pub use laws::{
     forgiven_names_stay, looks_agree, notices_are_no_failures, one_look_more, text_goes_on,
 };

@@ -11,7 +11,7 @@ ghost use Rattle.follow_core.specs.{
   Event.notes,
   Printing.{PrinterState, fresh_printer},
   inner.{
-    Giving.{Adds, CanGoOn, Copies, Ends, HoldsMany, IsPast, Leads, Noted, Starts, change_between, notes_past, over_in},
+    Giving.{Adds, CanGoOn, Copies, GivesDue, HoldsMany, IsPast, Leads, Noted, Starts, change_between, notes_past, over_in},
     Giving.stop_in,
     Visits.{TellsStop, Visits},
   },
@@ -403,7 +403,7 @@ fn begin_at<O: Outs>(
 ) -> Result<u64, Fault>
     requires can { CanPrint (O.slots outs.old) }
     ensures ends { (told_in : Bool) (printer : PrinterState)
-        → Ends told_in (Noted (IsPast position len)) O.told false printer name.now (notes_past position len) []
+        → GivesDue told_in (Noted (IsPast position len)) O.told false printer name.now (notes_past position len) []
         (O.slots outs.old) printer (O.slots outs.new) (over_in result) }
     ensures from { IfOk result (λ from. from ≡ (if nat_lt len position then 0 else position)) }
     ensures can { CanGoOn (over_in result) (O.slots outs.new) }
@@ -425,7 +425,7 @@ fn begin_at<O: Outs>(
 fn tell<O: Outs>(alloc: Global, found: Notice, name: &str, outs: &mut O) -> Result<(), Fault>
     requires can { CanPrint (O.slots outs.old) }
     ensures ends { (told_in : Bool) (printer : PrinterState)
-        → Ends told_in (Noted (λ notice. notice ≡ found)) O.told false printer name.now (notes found ∷ []) []
+        → GivesDue told_in (Noted (λ notice. notice ≡ found)) O.told false printer name.now (notes found ∷ []) []
         (O.slots outs.old) printer (O.slots outs.new) (over_in result) }
     ensures can { CanGoOn (over_in result) (O.slots outs.new) }
 {

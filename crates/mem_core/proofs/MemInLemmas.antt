@@ -1,20 +1,22 @@
 -- Lemmas on inputs in memory: how far one was read, where it breaks off, and what opening one finds.
 use Rattle.std.proofs.{
-  Common.{◌≡◌, ℕ, ◌+◌, ◌-◌, ◌<◌, ◌≤◌, max, Bool, true, IsTrue, List, Option, [], ◌∷◌, ◌++◌, Some, None, length, take},
-  Common.{drop, get_or, set, eqb, refl, sym, ◌∙◌, ap, subst, arith, length-take, length-drop, take-take, drop-drop},
-  Common.{take-add, if◌then◌else◌, leb, not, ◌&&◌, ◌==◌},
+  Common.{◌≡◌, ℕ, ◌+◌, ◌-◌, ◌<◌, ◌≤◌, max, Bool, true, IsTrue, List, Option, [], ◌∷◌, ◌++◌, Some, None, length},
+  Common.{take, drop, get_or, set, eqb, refl, sym, ◌∙◌, ap, subst, arith, length-take, length-drop, take-take},
+  Common.{drop-drop, take-add, if◌then◌else◌, leb, not, ◌&&◌, ◌==◌},
   lemmas.{List.{drop-take, take-append-drop}, Bool.{cond_both, le-leb, lt-ltb}},
 }
 use Rattle.ports_core.{
   specs.{
     Slot.changed_at,
-    Source.{Content, Opens, OpensNothing, Source, broke, counted, cut, gets_back, gives, is_readable, missing, no_room},
-    Source.{skips, source_of},
+    Source.{Content, Opens, OpensNothing, Source, broke, counted, cut, gets_back, gives, is_readable, missing},
+    Source.{no_room, skips, source_of},
     declared.reason.Reason.Reason,
   },
   proofs.SourceLemmas.{one_changes, readable_within},
 }
-use Rattle.mem_core.specs.MemInState.{MemInState, Laid, laid_at, laid_in, breaks_in, content_in, content_of, with_break}
+use Rattle.mem_core.specs.{
+  MemInState.{MemInState, Laid, laid_at, laid_in, breaks_in, content_in, content_of, with_break},
+}
 use Rattle.ports_core.specs.declared.fault.Fault.TheVariants as fault
 
 -- whatever it shows

@@ -1,15 +1,15 @@
 -- Reading operands, and that there is one reading.
 use Rattle.std.proofs.{
   lemmas.{Grind.common_steps, List.{append-nil, drop-map}},
-  Common.{◌≡◌, ℕ, ◌+◌, ◌-◌, ◌<◌, ◌≤◌, Bor, get_or, List, [], ◌∷◌, ◌++◌, map, length, drop, Option, Some, None, Result},
-  Common.{Ok, Err, refl, sym, ◌∙◌, ap, subst, arith, append_assoc, rules, ◌==◌, true},
+  Common.{◌≡◌, ℕ, ◌+◌, ◌-◌, ◌<◌, ◌≤◌, Bor, get_or, List, [], ◌∷◌, ◌++◌, map, length, drop, Option, Some, None},
+  Common.{Result, Ok, Err, refl, sym, ◌∙◌, ap, subst, arith, append_assoc, rules, ◌==◌, true},
 }
 use Rattle.operand_core.specs.{
   Operand.{Target, Number, Search, Times, Count, Operand},
   Word.spelling,
   Reading.{Aim, line, match, Spelled, aims, fails, aim_of, least_after, times_by, Words, failed, with_operand},
-  Reading.{words_from, words_of, IsTarget, IsRead, AreRead, IsFault, Asks, HasRefused, is_wrong, is_refused, no_memory},
-  Reading.IsOfWords,
+  Reading.{words_from, words_of, IsTarget, IsRead, AreRead, IsFault, Asks, HasRefused, is_wrong, is_refused},
+  Reading.{no_memory, IsOfWords},
   inner.{
     Aiming.{IsAimed, is_target, is_wrong, is_refused, no_memory},
     Repeating.{least_by, SayTimes, no_word, again, other},

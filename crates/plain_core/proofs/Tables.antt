@@ -1,7 +1,7 @@
 -- What is found by tables is what the pattern's tests say.
 use Rattle.std.proofs.{
-  Common.{◌≡◌, ℕ, suc, zero, ◌+◌, ◌<◌, ◌≤◌, Bool, nat_le, ◌&&◌, List, [], ◌∷◌, ◌++◌, length, Option, Some, arith, refl},
-  Common.{rules, ap, sym, ◌∙◌, drop, slice_index_or, subst},
+  Common.{◌≡◌, ℕ, suc, zero, ◌+◌, ◌<◌, ◌≤◌, Bool, nat_le, ◌&&◌, List, [], ◌∷◌, ◌++◌, length, Option, Some, arith},
+  Common.{refl, rules, ap, sym, ◌∙◌, drop, slice_index_or, subst},
   lemmas.{Grind.common_steps, List.{get_or_read_under, same_from_push}},
 }
 use Rattle.bre_core.{

@@ -1,23 +1,16 @@
 -- Lemmas on what all continuations agree on.
 use Rattle.std.proofs.{
-  lemmas.{
-    Grind.common_steps,
-    List.{append-nil, get_or_append_left, get_or-replicate, length-map, length-replicate},
-    Bool.cases_lt,
-  },
+  lemmas.{Grind.common_steps, List.{append-nil, length-map}, Bool.cases_lt},
   Common.{◌≡◌, ◌≢◌, ℕ, ◌+◌, ◌-◌, ◌<◌, ◌≤◌, zero, suc, List, [], ◌∷◌, ◌++◌, length, get_or, replicate, inl},
-  Common.{inr, sym},
-  Common.{◌∙◌, ap, arith, length-append, lit<, map, take, drop, refl, rules, subst},
+  Common.{inr, sym, ◌∙◌, ap, arith, length-append, lit<, map, take, drop, refl, rules, subst},
   Math.Seq.{drop-append_seam, get_or-append_right, take-append_seam},
 }
-use Rattle.ports_core.{
-  specs.{
-    Part.{IsBeginning, Begins, File, Part, FilesBegin},
-    Work.{Work, IsLawful},
-    Agreed.{AgreeOn, CanCome, DifferOn, outputs_of, output_at, IsAgreed, Spot, spot, spots_from, GoesTo, ArePlaced},
-  },
-  proofs.PartLemmas.{part_trans, no_fewer},
+use Rattle.ports_core.specs.{
+  Part.{IsBeginning, Begins, File, Part, FilesBegin},
+  Work.{Work, IsLawful},
+  Agreed.{AgreeOn, CanCome, DifferOn, outputs_of, output_at, IsAgreed, Spot, spot, spots_from, GoesTo, ArePlaced},
 }
+use Rattle.ports_core.proofs.PartLemmas.{part_trans, no_fewer}
 
 -- Some continuations
 
@@ -25,7 +18,7 @@ pub none_comes : CanCome []
 none_comes = search rules
 
 pub one_comes : (byte : ℕ) (bytes : List ℕ) → byte < 256 → CanCome bytes → CanCome (byte ∷ bytes)
-one_comes byte bytes less can = grind (arith, common_steps)
+one_comes byte bytes less can = search rules
 
 pub copies_come : (count byte : ℕ) → byte < 256 → CanCome (replicate count byte)
 copies_come count byte less = grind (arith, common_steps)
@@ -36,8 +29,8 @@ other zero = 1
 other (suc delim) = 0
 
 pub other_differs : (delim : ℕ) → delim ≢ other delim
-other_differs zero is = grind (arith, common_steps)
-other_differs (suc delim) is = grind (arith, common_steps)
+other_differs zero is = search rules
+other_differs (suc delim) is = search rules
 
 pub other_comes : (delim : ℕ) → other delim < 256
 other_comes zero = lit< tt
@@ -63,7 +56,7 @@ agreed_as few y begin few_come come no_more short =
 -- Nothing waits, where what follows decides nothing of what came in.
 pub nothing_waits : {A G : Type 0} {comes : List A → Type 0} {goes : List A → ℕ → G} {x : List A}
     → ((i : ℕ) → i < length x → (y z : List A) → goes (x ++ y) i ≡ goes (x ++ z) i) → DifferOn comes goes x []
-nothing_waits same = grind (arith, common_steps, append-nil)
+nothing_waits same = search rules
 
 -- what is settled begins the whole of every continuation
 pub common : (work : Work) → IsLawful work → (x y : List ℕ) → Begins (work.settled x) (work.whole (x ++ y))
@@ -74,7 +67,7 @@ pub agreed_by : (work : Work) (x few y : List ℕ) (more : List (List ℕ))
     → ((z : List ℕ) → Begins (work.settled x) (work.whole (x ++ z))) → CanCome few → CanCome y
     → length (outputs_of (work.whole (x ++ few))) ≡ length (outputs_of (work.settled x))
     → outputs_of (work.whole (x ++ y)) ≡ outputs_of (work.settled x) ++ more → IsAgreed work x (work.settled x)
-agreed_by work x few y more begin few_bytes bytes no_more same = agreed_as few y (λ z can. begin z) few_bytes bytes no_more
+agreed_by work x few y more begin few_bytes bytes no_more same = agreed_as _ y (λ z can. begin z) few_bytes bytes no_more
     (λ place less. (let here : output_at (work.whole (x ++ y)) place ≡ output_at (work.settled x) place =
     grind (arith, common_steps) in
     omega (arith, ap length here)))
@@ -91,11 +84,11 @@ agreed_now work x begin same =
 
 pub spot_in : (place i : ℕ) (bytes : List ℕ) (outputs : List (List ℕ)) → i < length bytes
     → spots_from place (bytes ∷ outputs) i ≡ spot place i ∷ []
-spot_in place i bytes outputs less = grind (arith, common_steps)
+spot_in place i bytes outputs less = search rules
 
 pub spot_past : (place i : ℕ) (bytes : List ℕ) (outputs : List (List ℕ)) → length bytes ≤ i
     → spots_from place (bytes ∷ outputs) i ≡ spots_from (place + 1) outputs (i - length bytes)
-spot_past place i bytes outputs past = grind (arith, common_steps)
+spot_past place i bytes outputs past = grind arith
 
 pub only_spot : {at one : Spot} → GoesTo at (one ∷ []) → at ≡ one
 only_spot (inl is) = is
@@ -107,10 +100,10 @@ some_spot one spots is = cc
 -- no byte of outputs from a place on goes to an output before it
 pub none_before : (from i place offset : ℕ) (outputs : List (List ℕ)) → place < from
     → spots_from from outputs i ≡ spot place offset ∷ [] → ⊥
-none_before from i place offset [] before is = grind (arith, common_steps)
+none_before from i place offset [] before is = grind arith
 none_before from i place offset (bytes ∷ outputs) before is = elim (cases_lt i (length bytes)) [
-  | inl within ↦ (omega (arith, ap (λ those. (get_or those 0 (spot from i)).place) (sym (spot_in from i bytes outputs within) ∙ is)))
-  | inr past ↦ none_before (from + 1) (i - length bytes) place offset outputs (omega arith) (sym (spot_past from i bytes outputs past) ∙ is)
+  | inl within ↦ (omega (arith, ap (λ those. (get_or those 0 (spot from i)).place) (sym (spot_in _ i _ _ within) ∙ is)))
+  | inr past ↦ none_before (from + 1) _ _ _ outputs (omega arith) (sym (spot_past _ i _ _ past) ∙ is)
 ]
 
 -- Outputs that are, one after another, a stretch of their input: their spots are right.
@@ -132,7 +125,7 @@ in_text : (outputs : List (List ℕ)) (text : List ℕ) (k offset : ℕ) → Are
 in_text [] text k offset are less = search rules
 in_text (bytes ∷ outputs) text zero offset (rest, is, are) less = grind (arith, common_steps)
 in_text (bytes ∷ outputs) text (suc k) offset (rest, is, are) less =
-    omega (arith, in_text outputs rest k offset are less, ap length is ∙ length-append bytes rest)
+    omega (arith, in_text outputs _ k _ are less, ap length is ∙ length-append bytes rest)
 
 byte_at : (outputs : List (List ℕ)) (text : List ℕ) (k offset : ℕ) → AreFront outputs text
     → offset < length (get_or outputs k [])
@@ -140,15 +133,15 @@ byte_at : (outputs : List (List ℕ)) (text : List ℕ) (k offset : ℕ) → Are
 byte_at [] text k offset are less = search rules
 byte_at (bytes ∷ outputs) text zero offset (rest, is, are) less = grind (arith, common_steps)
 byte_at (bytes ∷ outputs) text (suc k) offset (rest, is, are) less =
-    grind (arith, common_steps, get_or-append_right, byte_at outputs rest k offset are less)
+    grind (arith, get_or-append_right, byte_at outputs _ k _ are less)
 
 -- where it stands, there its spot is that
 spot_at : (place : ℕ) (outputs : List (List ℕ)) (k offset : ℕ) → offset < length (get_or outputs k [])
     → spots_from place outputs (bytes_of k outputs + offset) ≡ spot (place + k) offset ∷ []
 spot_at place [] k offset less = search rules
-spot_at place (bytes ∷ outputs) zero offset less = grind (arith, common_steps)
+spot_at place (bytes ∷ outputs) zero offset less = grind arith
 spot_at place (bytes ∷ outputs) (suc k) offset less =
-    grind (arith, common_steps, spot_past, spot_at (place + 1) outputs k offset less)
+    grind (arith, spot_past, spot_at (place + 1) _ k _ less)
 
 -- a byte that goes to a spot is one of an output
 record IsIn (place : ℕ) (outputs : List (List ℕ)) (i : ℕ) (at : Spot) : Type 0 where
@@ -161,9 +154,9 @@ goes_in : (place : ℕ) (outputs : List (List ℕ)) (i : ℕ) {at : Spot} → Go
     → IsIn place outputs i at
 goes_in place [] i goes = absurd goes
 goes_in place (bytes ∷ outputs) i {at} goes = elim (cases_lt i (length bytes)) [
-  | inl less ↦ (let is = only_spot (subst (GoesTo at) (spot_in place i bytes outputs less) goes) in
+  | inl less ↦ (let is = only_spot (subst (GoesTo at) (spot_in _ i _ _ less) goes) in
       rw is (record { k = 0; there = omega arith; within = less; is = omega arith }))
-  | inr past ↦ (let rest = goes_in (place + 1) outputs (i - length bytes) (subst (GoesTo at) (spot_past place i bytes outputs past) goes) in
+  | inr past ↦ (let rest = goes_in (place + 1) outputs _ (subst (GoesTo at) (spot_past _ i _ _ past) goes) in
       record { k = suc rest.k; there = omega arith; within = rest.within; is = omega arith })
 ]
 
@@ -182,26 +175,26 @@ pub record IsStretch (whole : List ℕ → Part) (spots_of : List ℕ → ℕ �
 -- the outputs that aren't empty
 past_empty : (place k : ℕ) (outputs : List (List ℕ))
     → get_or (replicate place [] ++ outputs) (place + k) [] ≡ get_or outputs k []
-past_empty place k outputs = grind (arith, common_steps, get_or-append_right, length-replicate)
+past_empty place k outputs = grind (arith, common_steps)
 
 empty_before : (place n : ℕ) (outputs : List (List ℕ)) → n < place → get_or (replicate place [] ++ outputs) n [] ≡ []
-empty_before place n outputs less = grind (arith, common_steps, get_or_append_left, length-replicate, get_or-replicate)
+empty_before place n outputs less = grind (arith, common_steps)
 
 module _ (work : Work) {spots_of : List ℕ → ℕ → List Spot} (place : ℕ) {outputs : List ℕ → List (List ℕ)}
     (stretch : IsStretch work.whole spots_of place outputs) where
   stretched : (x : List ℕ) (i : ℕ) {at : Spot} → GoesTo at (spots_of x i)
       → (length (stretch.before x) ≤ i) × IsIn place (outputs x) (i - length (stretch.before x)) at
-  stretched x i goes = grind (arith, common_steps, cases_lt, goes_in)
+  stretched x i goes = grind (arith, cases_lt, goes_in)
 
   output_is : (x : List ℕ) {n : ℕ} (k : ℕ) → n ≡ place + k → output_at (work.whole x) n ≡ get_or (outputs x) k []
-  output_is x k there = grind (arith, common_steps, past_empty)
+  output_is x k there = grind (arith, past_empty)
 
   filled : (x : List ℕ) (at : Spot) → at.offset < length (output_at (work.whole x) at.place)
       → (i : ℕ) × (i < length x) × GoesTo at (spots_of x i)
   filled x at less = elim (cases_lt at.place place) [
     | inl before ↦ absurd (omega (
       arith,
-      ap length (ap (λ those. get_or those at.place []) (stretch.are x) ∙ empty_before place at.place (outputs x) before),
+      ap length (ap (λ those. get_or those at.place []) (stretch.are x) ∙ empty_before _ _ _ before),
     ))
     | inr past ↦ (
         let k = at.place - place in
@@ -212,25 +205,25 @@ module _ (work : Work) {spots_of : List ℕ → ℕ → List Spot} (place : ℕ)
           i,
           omega (
             arith,
-            in_text (outputs x) (stretch.rest x) k at.offset (stretch.front x) within,
+            in_text _ _ k _ (stretch.front x) within,
             ap length (stretch.parts x)
                 ∙ length-append (stretch.before x) (stretch.rest x),
           ),
           subst (GoesTo at) (sym (stretch.there x i (omega arith) ∙ ap (spots_from place (outputs x)) after
-              ∙ spot_at place (outputs x) k at.offset within)) (inl (ap (λ n. spot n at.offset) there)),
+              ∙ spot_at _ _ k _ within)) (inl (ap (λ n. spot n at.offset) there)),
         ))
   ]
 
   pub stretch_placed : ArePlaced work spots_of
   stretch_placed = record {
-    stands = λ x i at less goes. (let one = stretched x i goes in let has = output_is x one.1.k one.1.there in (
+    stands = λ x i at less goes. (let one = stretched x i goes in let has = output_is x _ one.1.there in (
       omega (arith, ap length has),
-      ap (λ those. get_or those at.offset 0) has ∙ byte_at (outputs x) (stretch.rest x) one.1.k at.offset (stretch.front x) one.1.within
+      ap (λ those. get_or those at.offset 0) has ∙ byte_at _ _ _ _ (stretch.front x) one.1.within
           ∙ sym (ap (λ those. get_or those i 0) (stretch.parts x) ∙ get_or-append_right (stretch.before x) (stretch.rest x) i 0 one.0
           ∙ ap (λ n. get_or (stretch.rest x) n 0) one.1.is),
     ));
     filled = filled;
-    apart = grind (arith, common_steps, stretched);
+    apart = grind (arith, stretched);
   }
 
 -- There is one list of outputs that all continuations agree on, and one stretch of bytes that is undecided.
@@ -246,7 +239,7 @@ lists_same : {A : Type 0} (one other : List (List A)) → length one ≡ length 
 lists_same [] [] count same = refl
 lists_same (bytes ∷ one) (those ∷ other) count same =
     ap (λ first. first ∷ one) (same zero (omega arith)) ∙ ap (λ rest. those ∷ rest)
-    (lists_same one other (omega arith) (λ place less. same (suc place) (omega arith)))
+    (lists_same _ _ (omega arith) (λ place less. same (suc place) (omega arith)))
 lists_same one other count same = cc
 
 files_at : (low high : List File) (place : ℕ) → FilesBegin low high
@@ -256,20 +249,17 @@ files_at : (low high : List File) (place : ℕ) → FilesBegin low high
 files_at [] high place begins less = search rules
 files_at (file ∷ low) [] place begins less = absurd begins
 files_at (file ∷ low) (whole ∷ high) zero begins less = begins.4
-files_at (file ∷ low) (whole ∷ high) (suc place) begins less = files_at low high place begins.5 (omega arith)
-
-outputs_fewer : {low high : Part} → Begins low high → length (outputs_of low) ≤ length (outputs_of high)
-outputs_fewer begins = grind (arith, common_steps, no_fewer, length-map)
+files_at (file ∷ low) (whole ∷ high) (suc place) begins less = files_at low _ _ begins.5 (omega arith)
 
 begins_at : {low high : Part} (place : ℕ) → Begins low high → place < length (outputs_of low)
     → IsBeginning (output_at low place) (output_at high place)
 begins_at zero begins less = begins.out
-begins_at {low} {high} (suc place) begins less = files_at low.files high.files place begins.files (omega arith)
+begins_at (suc place) begins less = files_at _ _ _ begins.files (omega arith)
 
 -- as many outputs
 no_more : (work : Work) {x : List ℕ} (one other : Part) → IsAgreed work x one → IsAgreed work x other
     → length (outputs_of one) ≤ length (outputs_of other)
-no_more work one other agreed also = grind (arith, common_steps, outputs_fewer, common)
+no_more work one other agreed also = grind (arith, common_steps, no_fewer, length-map, common)
 
 -- and in each as many bytes
 no_longer : (work : Work) {x : List ℕ} (one other : Part) (place : ℕ) → IsAgreed work x one → IsAgreed work x other
@@ -277,27 +267,27 @@ no_longer : (work : Work) {x : List ℕ} (one other : Part) (place : ℕ) → Is
     → length (output_at one place) ≤ length (output_at other place)
 no_longer work one other place agreed also less within =
     let two = also.longest place within in
-    two.4 (output_at one place) (begins_at place (agreed.common two.0 two.2) less) (begins_at place (agreed.common two.1 two.3) less)
+    two.4 (output_at one place) (begins_at _ (agreed.common two.0 two.2) less) (begins_at _ (agreed.common two.1 two.3) less)
 
 pub one_is_agreed : (work : Work) (x : List ℕ) (one other : Part) → IsAgreed work x one → IsAgreed work x other
     → outputs_of one ≡ outputs_of other
 one_is_agreed work x one other agreed also =
     let count : length (outputs_of one) ≡ length (outputs_of other) =
-    (let few = no_more work one other agreed also in omega (arith, no_more work other one also agreed)) in
-    lists_same (outputs_of one) (outputs_of other) count (λ place less.
+    (let few = no_more work _ _ agreed also in omega (arith, no_more work _ _ also agreed)) in
+    lists_same _ _ count (λ place less.
     let within : place < length (outputs_of other) = rw count at less in
-    beginnings_same (output_at one place) (output_at other place) (output_at (work.whole (x ++ [])) place)
-    (begins_at place (agreed.common [] none_comes) less) (begins_at place (also.common [] none_comes) within)
+    beginnings_same _ _ _
+    (begins_at _ (agreed.common [] none_comes) less) (begins_at _ (also.common [] none_comes) within)
     (let short = no_longer work one other place agreed also less within in omega (arith, no_longer work other one place also agreed within less)))
 
 module _ {A G : Type 0} {comes : List A → Type 0} (goes : List A → ℕ → G) (x : List A) where
   begins_no_later : (one other : List A) (here : DifferOn comes goes x one) (there : DifferOn comes goes x other)
       → length here.before ≤ length there.before
-  begins_no_later one other here there = grind (arith, common_steps, cases_lt, length-append)
+  begins_no_later one other here there = grind (arith, common_steps)
 
   pub one_is_undecided : (one other : List A) → DifferOn comes goes x one → DifferOn comes goes x other → one ≡ other
   one_is_undecided one other here there =
-      let low = begins_no_later one other here there in let high = begins_no_later other one there here in
+      let low = begins_no_later _ _ here there in let high = begins_no_later _ _ there here in
       sym (ap (drop (length here.before)) here.are_last ∙ drop-append_seam here.before one)
       ∙ ap (λ n. drop n x) (let same : length here.before ≡ length there.before = omega arith in same)
       ∙ ap (drop (length there.before)) there.are_last ∙ drop-append_seam there.before other

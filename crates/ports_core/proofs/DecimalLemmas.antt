@@ -1,29 +1,22 @@
 -- Numbers in decimal, as the library prints them, filled with zeros.
 use Rattle.std.proofs.{
   lemmas.{
-    Grind.common_steps,
     List.length-append,
     Fmt.{decimal_by_steps, decimal_is_IsNumeral, decimal_nonempty, length-decimal-le},
     Int.Digits.digits_value-lt,
   },
   Common.{◌≡◌, ℕ, ◌+◌, ◌-◌, ◌/◌, ◌%◌, ◌^◌, ◌<◌, ◌≤◌, zero, suc, max, List, [], ◌∷◌, ◌++◌, length},
-  Common.{replicate, decimal},
-  Common.{refl, sym, ◌∙◌, ap, subst, arith, append_assoc, rules},
+  Common.{replicate, decimal, refl, sym, ◌∙◌, ap, arith, append_assoc, rules},
 }
-use Rattle.ports_core.{
-  specs.{
-    declared.{alphabet.Alphabet.TheVariants.Digits, form.Form.Form},
-    Name.{decimal_form, digit_count, digits_written, formatted, marked, written, zero_filled},
-  },
-  proofs.{CounterLemmas.more_digits, FormLemmas.{below_more, digits_enough, digits_needed}},
+use Rattle.ports_core.specs.{
+  declared.{alphabet.Alphabet.TheVariants.Digits, form.Form.Form},
+  Name.{decimal_form, digit_count, digits_written, formatted, marked, written, zero_filled},
 }
+use Rattle.ports_core.proofs.{CounterLemmas.more_digits, FormLemmas.{below_more, digits_enough, digits_needed}}
 
 zeros : (width : ℕ) → written Digits width 0 ≡ replicate width 48
 zeros zero = refl
-zeros (suc width) = grind (arith, common_steps, zeros width)
-
-front_digits : (width : ℕ) {n : ℕ} → n < 10 ^ suc width → n / 10 < 10 ^ width
-front_digits width small = grind (arith, common_steps)
+zeros (suc width) = grind (arith, zeros width)
 
 last_digit : (width : ℕ) {n : ℕ} → n < 10 ^ suc width
     → written Digits (suc width) n ≡ written Digits width (n / 10) ++ (48 + n % 10) ∷ []
@@ -38,7 +31,7 @@ fills_one : (n : ℕ) → n < 10 → Fills n ((48 + n) ∷ [])
 fills_one n digit width small =
     let count : suc width - 1 ≡ width = omega arith in
     let front : n / 10 ≡ 0 = omega arith in
-    let last : n % 10 ≡ n = omega arith in cc (last_digit width small, zeros width)
+    let last : n % 10 ≡ n = omega arith in cc (last_digit _ small, zeros _)
 
 fills_more : (n : ℕ) (digits : List ℕ) → 10 ≤ n → Fills (n / 10) digits → Fills n (digits ++ (48 + n % 10) ∷ [])
 fills_more n digits ten fills zero small = search rules
@@ -46,7 +39,7 @@ fills_more n digits ten fills (suc width) small =
     let count : suc (suc width) - length (digits ++ (48 + n % 10) ∷ []) ≡ suc width - length digits = omega
     (arith, length-append digits ((48 + n % 10) ∷ [])) in
     ap (λ zeros. replicate zeros 48 ++ (digits ++ (48 + n % 10) ∷ [])) count ∙ sym (append_assoc (replicate (suc width - length digits) 48) digits _)
-    ∙ ap (λ front. front ++ (48 + n % 10) ∷ []) (fills width (front_digits (suc width) small)) ∙ sym (last_digit (suc width) small)
+    ∙ ap (λ front. front ++ (48 + n % 10) ∷ []) (fills _ (search rules)) ∙ sym (last_digit _ small)
 
 pub fills : (width n : ℕ) → 0 < width → n < 10 ^ width → n < 2 ^ 64
     → zero_filled width (decimal n) ≡ written Digits width n
@@ -56,8 +49,7 @@ fills (suc width) n some small least = decimal_by_steps Fills fills_one fills_mo
 -- it has as many digits as it needs, and one for 0
 long_enough : (n : ℕ) → n < 2 ^ 64 → digit_count Digits n ≤ length (decimal n)
 long_enough n least =
-    let is = decimal_is_IsNumeral n least in
-    digits_needed Digits n (length (decimal n)) (subst (λ value. value < 10 ^ length (decimal n)) is.1 (digits_value-lt 10 (decimal n) is.0.1))
+    grind (arith, decimal_is_IsNumeral, digits_needed, digits_value-lt)
 
 no_longer : (n : ℕ) → n < 2 ^ 64 → length (decimal n) ≤ max 1 (digit_count Digits n)
 no_longer n least = length-decimal-le (max 1 (digit_count Digits n)) n (omega arith) (below_more Digits (digits_enough Digits n) (omega arith)) least

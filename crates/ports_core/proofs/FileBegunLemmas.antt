@@ -1,59 +1,49 @@
 -- What the writer of files does with what is begun: it has no file yet, gets one, and ends
 use Rattle.std.proofs.{
-  lemmas.{Grind.common_steps, Bool.cases_lt, List.length-map},
-  Common.{◌≡◌, ℕ, ◌+◌, ◌<◌, ◌≤◌, ◌^◌, suc, eqb, Bool, false, IsTrue, List, [], ◌∷◌, ◌++◌, length, map, decimal, Option},
+  lemmas.{Grind.common_steps, List.length-map},
+  Common.{◌≡◌, ℕ, ◌+◌, ◌<◌, ◌^◌, suc, eqb, Bool, false, IsTrue, List, [], ◌∷◌, ◌++◌, length, map, decimal, Option},
   Common.{Some, None, IfSome, Result, Ok, Err, IfErr, refl, sym, ◌∙◌, ap, subst, arith, rules, append-nil},
   Common.{append_assoc, length-append},
 }
 use Rattle.ports_core.specs.{
-  Draft.{Manner, AreNamed, Draft, share, files_from, told_before, told_of_files, part_with, part_of, opening_line},
-  Draft.{size_of_file, output_of, made_of, shares_of, draft_part, with_bytes, with_next, manner_by},
+  Draft.{Manner, AreNamed, Draft, share, told_before, told_of_files, part_with, part_of, opening_line, size_of_file},
+  Draft.{output_of, made_of, shares_of, draft_part, with_bytes, with_next, manner_by},
   FileWriter.{WriterState, Writes, IsCounted, IsCurrent, IsLast, IsOpenAt, IsReady, IsWrite, CanTell, RunsShort},
   FileWriter.{KeepsFiles, KeepsOrBreaks, Leaves, Goes, paused},
   Names.{next_name, has_next, line_next, told_next, OpensNone, no_name},
-  Part.{File as PartFile, Begins, IsBeginning, Output, gets_none, gets_bytes, gets_lines, gets_openings, lines_for},
-  Part.writes,
+  Part.{File as PartFile, Begins, IsBeginning, Output, gets_lines, gets_openings, lines_for, writes},
   Slot.{SlotBreaks, Slot, with_written, told_of, changed_at, opened, closes, is_writable},
   inner.{FileWriter.{MakesNone, Made, Appends, TellsSize, CountsOn, files_with}, Write.Wrote},
-  Turn.{AllClosed, fault_in},
-  declared.fault.Fault.{Fault, TheVariants.Verdict},
-  declared.verdict.Verdict.TheVariants.Suffixes,
-  declared.file_writer.Current.{Current, TheVariants.{File, Unopened, Skipped, Due}},
-  declared.file_writer.Opening.{Opening, TheVariants.{Never, AtOnce}},
-  declared.file_writer.Tells.{Tells, TheVariants.{Nothing, Sizes, Openings}},
-  declared.slot.Mode.TheVariants.Fresh,
+  InTurn.{AllClosed, fault_in},
+  declared.{
+    fault.Fault.{Fault, TheVariants.Verdict},
+    verdict.Verdict.TheVariants.Suffixes,
+    file_writer.{
+      Current.{Current, TheVariants.{File, Unopened, Due}},
+      Opening.{Opening, TheVariants.{Never, AtOnce}},
+      Tells.{Tells, TheVariants.{Nothing, Sizes, Openings}},
+    },
+    slot.Mode.TheVariants.Fresh,
+  },
 }
 use Rattle.ports_core.proofs.{
   PartLemmas.{begins_itself, nothing_begins, files_begin_themselves, part_trans},
-  PartSteps.{Becomes, becomes_again, with_last, begun_out, file_begins, file_of, line_begins, out_added, writes_to},
-  PartSteps.{opens, falls_wider, close_begins, closes_last, closes_not},
+  PartSteps.{Becomes, becomes_again, with_last, begun_out, file_of, line_begins, out_added, writes_to, opens},
+  PartSteps.{falls_wider, front_begins, closes_last, closes_not, more_files},
   OpenLemmas.{IsNextName, opens_not, stops_opening},
-  ShareLemmas.{stopped_part, part_grows, closed_files, ended_files, name_after, open_part, closed_part, none_part},
+  ShareLemmas.{stopped_part, part_grows, closed_files, ended_files, name_after, open_part, none_part, next_shares},
+  ShareLemmas.part_last,
   SlotLemmas.length-changed_at,
-  SlotSteps.{KeepsMade, opened_last, writable_within, close_rose, keeps_write, written_writable, keeps_open},
-  SlotSteps.{writable_before, made_again, opened_writable, made_close, made_break, keeps_close, writable_elsewhere},
+  SlotSteps.{KeepsMade, writable_within, close_rose, keeps_write, written_writable, keeps_open, writable_before},
+  SlotSteps.{made_again, opened_writable, made_close, made_break, keeps_close},
   WriteLemmas.none_written,
   FileWriterLemmas.{tells_line, reaches_by, reaches_as, made_count, where_well, in_any, leaves_again, leaves_still},
-  FileWriterLemmas.{at_file, last_file, can_tell, there_same, owned_same, owned_opened, owned_unopened, make_breaks},
-  FileWriterLemmas.{line_breaks, now_is, file_named, goes_still, never_short, wrote_leaves, appends_leaves, counted_on},
-  FileWriterLemmas.none_counted,
+  FileWriterLemmas.{at_file, last_file, can_tell, there_same, owned_opened, owned_unopened, make_breaks, line_breaks},
+  FileWriterLemmas.{now_is, file_named, never_short, wrote_leaves, appends_leaves, counted_on, none_counted},
 }
 use Rattle.ports_core.specs.inner.Write as short
 use Rattle.ports_core.specs.declared.fault.Fault.TheVariants as fault
 use Rattle.ports_core.specs.declared.slot.State.TheVariants as state
-
--- What makes no file
-
-pub never_made : (draft : Draft) → draft.opening ≡ Never → made_of draft.opening draft.bytes ≡ []
-never_made draft is = search rules
-
-pub skipped_made : (tells : Tells) {current : Current} → current ≡ Skipped → (draft : Draft)
-    → IsCurrent tells draft.opening draft.bytes current → made_of draft.opening draft.bytes ≡ []
-skipped_made tells is draft now = search rules
-
-pub due_made : (tells : Tells) {current : Current} → current ≡ Due → (draft : Draft)
-    → IsCurrent tells draft.opening draft.bytes current → made_of draft.opening draft.bytes ≡ []
-due_made tells is draft now = search rules
 
 -- A file is made for what is begun.
 
@@ -66,63 +56,62 @@ pub record Unwritten (draft next : Draft) : Type 0 where
 unmade_shares : (draft : Draft) → made_of draft.opening draft.bytes ≡ [] → length (shares_of draft) ≡ length draft.ended
 unmade_shares draft none = search (rules, length-map)
 
-unmade_count : {manner : Manner} {writer : WriterState} {draft : Draft} → made_of draft.opening draft.bytes ≡ []
-    → Writes manner writer draft → writer.names.drawn ≡ length draft.ended
-unmade_count {draft = draft} none writes = writes.made ∙ unmade_shares draft none
+module _ {manner : Manner} {writer : WriterState} {draft : Draft} (none : made_of draft.opening draft.bytes ≡ [])
+    (writes : Writes manner writer draft) where
+  unmade_count : writer.names.drawn ≡ length draft.ended
+  unmade_count = writes.made ∙ unmade_shares _ none
 
--- its name
-due_name : {manner : Manner} {writer : WriterState} {draft : Draft} → made_of draft.opening draft.bytes ≡ []
-    → Writes manner writer draft → next_name writer.names ≡ name_after manner draft
-due_name none writes = grind (arith, common_steps, unmade_count)
+  -- its name
+  due_name : next_name writer.names ≡ name_after manner draft
+  due_name = grind (arith, unmade_count)
 
--- whether it has one
-due_has : {manner : Manner} {writer : WriterState} {draft : Draft} → writer.names.drawn < 2 ^ 64
-    → made_of draft.opening draft.bytes ≡ [] → Writes manner writer draft
-    → has_next writer.names ≡ manner.has_name (length draft.ended)
-due_has few none writes = grind (arith, common_steps, unmade_count)
+  -- what standard output is told of it first
+  line_told : line_next writer.tells writer.names ≡ told_before manner.output (name_after manner draft)
+  line_told = grind (arith, due_name)
 
--- all files up to it have names then
-due_named : {manner : Manner} {writer : WriterState} {draft : Draft} (next : Draft) → writer.names.drawn < 2 ^ 64
-    → Unwritten draft next → Writes manner writer draft → IsTrue (has_next writer.names)
-    → AreNamed manner (suc (length next.ended))
-due_named next few so writes has =
-    grind (arith, common_steps, cases_lt, unmade_shares, due_has)
+  -- all files up to it have names then
+  due_named : (next : Draft) → writer.names.drawn < 2 ^ 64 → Unwritten draft next → IsTrue (has_next writer.names)
+      → AreNamed manner (suc (length next.ended))
+  due_named next few so has = grind (arith, common_steps)
 
-made_size : {writer next : WriterState} {slot : ℕ} {old new : List Slot} → Made writer old new next slot
-    → length new ≡ length old + 1
-made_size made = grind (arith, common_steps, length-append)
+  -- the part with it
+  due_part : (next : Draft) → writer.names.drawn < 2 ^ 64 → Unwritten draft next → IsTrue (has_next writer.names)
+      → draft_part manner next
+      ≡ with_last (begun_out manner.output (ended_files manner draft) (name_after manner draft))
+      (ended_files manner draft) (file_of (name_after manner draft) next.bytes state.Open)
+  due_part next few so has = grind (arith, open_part, due_named)
 
-made_ready : {writer next : WriterState} {slot : ℕ} {old new : List Slot} → IsReady writer old
-    → Made writer old new next slot → IsReady next new
-made_ready ready made = record {
-  streams = grind (arith, common_steps, made_size);
-  output = grind (arith, common_steps, can_tell, writable_before);
-  files = (owned_opened ready.streams made).there ready.files;
-  current = grind (arith, common_steps, opened_writable);
-}
+module _ {writer next : WriterState} {slot : ℕ} {old new : List Slot} (ready : IsReady writer old)
+    (made : Made writer old new next slot) where
+  made_ready : IsReady next new
+  made_ready = record {
+    streams = grind (arith, common_steps, length-append);
+    output = grind (arith, common_steps, can_tell, writable_before);
+    files = (owned_opened ready.streams made).there ready.files;
+    current = grind (arith, common_steps, opened_writable);
+  }
 
-made_leaves : {writer next : WriterState} {slot : ℕ} {old new : List Slot} → IsReady writer old
-    → Made writer old new next slot → Leaves writer next old new None
-made_leaves {old = old} {new = new} ready made = record {
-  naming = grind (arith, common_steps);
-  tells = ap (λ (w : WriterState). w.tells) made.same;
-  keeps = ap (λ (w : WriterState). w.keeps) made.same;
-  open_alone = grind (arith, common_steps, files_with);
-  owns = owned_opened ready.streams made;
-  slots = keeps_open _ old new made.added;
-  output = grind (arith, common_steps, writable_before);
-  ready = made_ready ready made;
-}
+  made_leaves : Leaves writer next old new None
+  made_leaves = record {
+    naming = grind (arith, common_steps);
+    tells = ap (λ (w : WriterState). w.tells) made.same;
+    keeps = ap (λ (w : WriterState). w.keeps) made.same;
+    open_alone = grind (arith, common_steps, files_with);
+    owns = owned_opened ready.streams made;
+    slots = keeps_open _ _ _ made.added;
+    output = grind (arith, common_steps, writable_before);
+    ready = made_ready;
+  }
 
 unmade_leaves : {told : Bool} {writer next : WriterState} {old new : List Slot} {f : Fault} → CanTell writer.tells old
     → MakesNone told writer old new next f → Leaves writer next old new (Some f)
-unmade_leaves {told} {writer} {next} {old} {new} {f} can makes = rw makes.same (record {
+unmade_leaves can makes = rw makes.same (record {
   naming = makes.naming;
   tells = refl;
   keeps = refl;
   open_alone = λ alone. refl;
   owns = owned_unopened makes.none;
-  slots = make_breaks told writer.tells can makes.none;
+  slots = make_breaks _ _ can makes.none;
   output = tt;
   ready = tt;
 })
@@ -132,34 +121,18 @@ unmade_leaves {told} {writer} {next} {old} {new} {f} can makes = rw makes.same (
 last_same : (current : Current) (first : ℕ) (old new : List Slot) → length new ≡ length old → IsLast current first old
     → IsLast current first new
 last_same (File slot size) first old new same last = (last.0, last.1 ∙ sym same)
-last_same Skipped first old new same last = tt
-last_same Due first old new same last = tt
-last_same Unopened first old new same last = tt
+last_same current first old new same last = tt
 
 open_same : (current : Current) (bytes : List ℕ) (slots : List Slot) → IsOpenAt current slots
     → IsOpenAt current (with_written 0 bytes slots)
-open_same (File slot size) bytes slots at = (at.0, written_writable slots _ slot 0 bytes at.1 refl)
-open_same Skipped bytes slots at = tt
-open_same Due bytes slots at = tt
+open_same (File slot size) bytes slots at = grind (arith, written_writable)
 open_same Unopened bytes slots at = at
+open_same current bytes slots at = tt
 
 line_leaves : (told : Bool) {writer : WriterState} {old : List Slot} → IsReady writer old
     → Leaves writer writer old (told_next told writer.tells writer.names old) None
-line_leaves told {writer} {old} ready = wrote_leaves told 0 (line_next writer.tells writer.names) None refl
-    (λ first last. last_same writer.current first old _ (length-changed_at 0 _ old) last) (keeps_write 0 _ old _ refl) (open_same writer.current _ old ready.current) ready refl
-
-line_told : {manner : Manner} {writer : WriterState} {draft : Draft} → made_of draft.opening draft.bytes ≡ []
-    → Writes manner writer draft
-    → line_next writer.tells writer.names ≡ told_before manner.output (name_after manner draft)
-line_told {manner} {writer} none writes = grind (arith, common_steps, due_name)
-
--- the part with the file that is due
-due_part : {manner : Manner} {writer : WriterState} {draft : Draft} (next : Draft) → writer.names.drawn < 2 ^ 64
-    → Unwritten draft next → Writes manner writer draft → IsTrue (has_next writer.names)
-    → draft_part manner next ≡ with_last (begun_out manner.output (ended_files manner draft) (name_after manner draft))
-    (ended_files manner draft) (file_of (name_after manner draft) next.bytes state.Open)
-due_part {manner} {writer} {draft} next few so writes has = open_part manner next (due_named next few so writes has) so.makes
-    ∙ ap (λ ended. with_last (begun_out manner.output (files_from manner 0 (map (share state.Closed) ended)) (manner.name (length ended))) (files_from manner 0 (map (share state.Closed) ended)) (file_of (manner.name (length ended)) next.bytes state.Open)) so.same
+line_leaves told {writer} ready = wrote_leaves told 0 (line_next writer.tells writer.names) None refl
+    (λ first last. last_same _ _ _ _ (length-changed_at 0 _ _) last) (keeps_write 0 _ _ _ refl) (open_same _ _ _ ready.current) ready refl
 
 -- it was made
 made_becomes : {told : Bool} (manner : Manner) {writer made : WriterState} (draft : Draft) {slot : ℕ}
@@ -169,8 +142,8 @@ made_becomes : {told : Bool} (manner : Manner) {writer made : WriterState} (draf
     → Becomes manner.output told (part_with manner.output (ended_files manner draft))
     (with_last (begun_out manner.output (ended_files manner draft) (name_after manner draft)) (ended_files manner draft)
     (file_of (name_after manner draft) [] state.Open)) old new None
-made_becomes {told} manner draft {old = old} {mid} {new} name line made = becomes_again (line_begins (told_before manner.output (name_after manner draft))) (out_added told (told_before manner.output (name_after manner draft)) old line)
-    (opens manner.output told (begun_out manner.output (ended_files manner draft) (name_after manner draft)) (ended_files manner draft) (name_after manner draft) (made.added ∙ ap (λ those. mid ++ opened those Fresh ∷ []) name))
+made_becomes {told} manner draft {mid} name line made = becomes_again (line_begins _) (out_added _ _ _ line)
+    (opens _ _ _ _ _ (made.added ∙ ap (λ those. mid ++ opened those Fresh ∷ []) name))
 
 -- it could not be made
 module _ {told : Bool} {writer next : WriterState} {change : Draft → Draft} {old new : List Slot} {f : Fault}
@@ -178,7 +151,8 @@ module _ {told : Bool} {writer next : WriterState} {change : Draft → Draft} {o
     → Unwritten draft (change draft)) (makes : MakesNone told writer old new next f) where
   unmade_begins : (manner : Manner) (draft : Draft) → Unwritten draft (change draft)
       → Begins (part_with manner.output (ended_files manner draft)) (draft_part manner (change draft))
-  unmade_begins manner draft so = subst (λ part. Begins part (draft_part manner (change draft))) (ap (λ ended. part_of manner (map (share state.Closed) ended ++ [])) so.same ∙ ap (part_of manner) (append-nil (map (share state.Closed) draft.ended)))
+  unmade_begins manner draft so = subst (λ part. Begins part (draft_part manner (change draft)))
+      (ap (λ ended. part_of manner (map (share state.Closed) ended ++ [])) so.same ∙ ap (part_of manner) (append-nil (map (share state.Closed) draft.ended)))
       (part_grows manner (map (share state.Closed) (change draft).ended) [] _ tt)
 
   -- the file that is due
@@ -188,7 +162,7 @@ module _ {told : Bool} {writer next : WriterState} {change : Draft → Draft} {o
       × (draft_part manner (change draft) ≡ with_last
       (begun_out manner.output (ended_files manner draft) (next_name writer.names)) (ended_files manner draft)
       (file_of (next_name writer.names) bytes state.Open))
-  unmade_due manner draft so writes (few, has, same) = ((change draft).bytes, rw (due_name so.none writes) (due_part (change draft) few so writes has))
+  unmade_due manner draft so writes (few, has, same) = ((change draft).bytes, rw (due_name so.none writes) (due_part so.none writes (change draft) few so has))
 
   -- names ran out: the part after the change has no file more
   unmade_short : f ≡ Verdict Suffixes → (manner : Manner) (draft : Draft) → Writes manner writer draft
@@ -201,18 +175,20 @@ module _ {told : Bool} {writer next : WriterState} {change : Draft → Draft} {o
         → RunsShort told writer change manner draft old new
     ran (no_name few none same) =
         let lacks : manner.has_name (length (change draft).ended) ≡ false =
-        grind (arith, common_steps, due_has, none) in record {
+        grind (arith, common_steps, unmade_count, none) in record {
           none = lacks;
           begun = so.makes;
-          all = grind (arith, common_steps, same, stopped_part, append-nil);
+          all = grind (arith, same, stopped_part, append-nil);
         }
 
   pub goes_unmade : Goes told writer change old new next (Some f)
   goes_unmade = record {
     leaves = unmade_leaves ready.output makes;
     reaches = λ manner draft writes. let so = of draft writes.current in
-        reaches_as (none_part manner draft so.none) refl (reaches_by (unmade_leaves ready.output makes).owns (λ first last. opens_not (ended_files manner draft)
-        (ap (λ output. told_before output (next_name writer.names)) writes.same.output) (closed_files manner 0 draft.ended) (unmade_begins manner draft so) (unmade_due manner draft so writes)
+        reaches_as (none_part manner draft so.none) refl (reaches_by (unmade_leaves ready.output makes).owns
+        (λ first last. opens_not (ended_files manner draft)
+        (ap (λ output. told_before output (next_name writer.names)) writes.same.output)
+        (closed_files manner 0 draft.ended) (unmade_begins manner draft so) (unmade_due manner draft so writes)
         (stops_opening (let two = ready.streams in omega arith) makes.none)));
     short = unmade_short;
     writes = tt;
@@ -229,10 +205,14 @@ goes_made {told} {writer} {made} {next} {change} {slot} bytes {old} {mid} {new} 
   leaves = leaves;
   reaches = λ manner draft writes. let (so, are) = of draft writes.current in
       reaches_as (none_part manner draft so.none)
-      (due_part (change draft) makes.few so writes makes.named ∙ ap (λ those. with_last (begun_out manner.output (ended_files manner draft) (name_after manner draft)) (ended_files manner draft) (file_of (name_after manner draft) those state.Open)) are)
-      (reaches_by leaves.owns (λ first last. becomes_again (part_trans _ _ _ (line_begins (told_before manner.output (name_after manner draft))) (file_begins (ended_files manner draft) (file_of (name_after manner draft) [] state.Open)))
+      (due_part so.none writes (change draft) makes.few so makes.named ∙ ap
+      (λ those. with_last (begun_out manner.output (ended_files manner draft) (name_after manner draft))
+      (ended_files manner draft) (file_of (name_after manner draft) those state.Open)) are)
+      (reaches_by leaves.owns (λ first last. becomes_again
+      (part_trans _ _ _ (line_begins (told_before manner.output (name_after manner draft))) (grind (arith, begins_itself, more_files)))
       (made_becomes manner draft (due_name so.none writes) (ap (λ line. with_written 0 (told_of told line) old) (line_told so.none writes)) makes)
-      (writes_to manner.output told (ended_files manner draft) (name_after manner draft) [] bytes mid fault (closed_files manner 0 draft.ended) (opened_last _ mid slot (next_name writer.names) Fresh makes.place makes.added) appends.wrote)));
+      (writes_to manner.output told (ended_files manner draft) (name_after manner draft) [] bytes mid fault
+      (closed_files manner 0 draft.ended) (grind (arith, common_steps)) appends.wrote)));
   short = grind (arith, common_steps, never_short);
   writes = where_well fault appends.current (λ current manner draft writes. let (so, are) = of draft writes.current in
       let count : length (shares_of (change draft)) ≡ length draft.ended + 1 =
@@ -251,7 +231,8 @@ goes_made {told} {writer} {made} {next} {change} {slot} bytes {old} {mid} {new} 
   is_file = ap (λ (w : WriterState). w.current) makes.same
 
   leaves : Leaves writer next old new fault
-  leaves = leaves_again (line_leaves told ready) (leaves_again (made_leaves line_ready makes) (appends_leaves is_file (made_ready line_ready makes) appends))
+  leaves = leaves_again (line_leaves told ready) (leaves_again (made_leaves line_ready makes)
+      (appends_leaves bytes is_file (made_ready line_ready makes) appends))
 
 -- The first bytes of what gets its file with them
 pub first_bytes : (tells : Tells) {current : Current} (bytes : List ℕ) → current ≡ Due → false ≡ eqb (length bytes) 0
@@ -261,38 +242,18 @@ first_bytes tells bytes is some draft now = search rules
 
 -- What is begun where nothing is
 
-paused_ready : {writer : WriterState} {slots : List Slot} → IsReady writer slots → IsReady (paused writer) slots
-paused_ready ready = grind (arith, common_steps)
+pub paused_ready : {writer : WriterState} {slots : List Slot} → IsReady writer slots → IsReady (paused writer) slots
+paused_ready ready = grind arith
 
 -- what was begun had no file
-ended_none : (draft : Draft) → made_of draft.opening draft.bytes ≡ []
+pub ended_none : (draft : Draft) → made_of draft.opening draft.bytes ≡ []
     → draft.ended ++ made_of draft.opening draft.bytes ≡ draft.ended
 ended_none draft none = search rules
-
--- what has no file is begun, after what has none
-pub begins_none : {told : Bool} {writer : WriterState} {opening : Opening} (current : Current) {slots : List Slot}
-    → ((draft : Draft) → IsCurrent writer.tells draft.opening draft.bytes writer.current
-    → made_of draft.opening draft.bytes ≡ [])
-    → made_of opening [] ≡ [] → IsCurrent writer.tells opening [] current → IsOpenAt current slots
-    → ((first : ℕ) → IsLast current first slots) → IsReady writer slots
-    → Goes told writer (with_next opening) slots slots (record writer { current = current }) None
-begins_none current before none is_current at last ready =
-    grind (arith, common_steps, goes_still, ended_none)
-
-pub begin_none : {told : Bool} {writer : WriterState} {opening : Opening} (current : Current) {slots : List Slot}
-    → made_of opening [] ≡ [] → IsCurrent writer.tells opening [] current → IsOpenAt current slots
-    → ((first : ℕ) → IsLast current first slots) → IsReady writer slots
-    → Goes told (paused writer) (with_next opening) slots slots (record writer { current = current }) None
-begin_none current none is_current at last ready = grind (arith, common_steps, begins_none, never_made, paused_ready)
 
 -- what has one at once is begun
 pub at_once : {opening : Opening} → opening ≡ AtOnce → (draft : Draft) → draft.opening ≡ Never
     → Unwritten draft (with_next opening draft)
-at_once is draft never = record {
-  same = ended_none draft (never_made draft never);
-  none = never_made draft never;
-  makes = ap (λ those. made_of those []) is;
-}
+at_once is draft never = grind (arith, common_steps)
 
 -- it could not be made
 pub begin_unmade : {told : Bool} {writer next : WriterState} {opening : Opening} {old new : List Slot} {f : Fault}
@@ -301,79 +262,57 @@ pub begin_unmade : {told : Bool} {writer next : WriterState} {opening : Opening}
 begin_unmade is ready makes = goes_unmade (paused_ready ready) (at_once is) (record { same = makes.same; naming = makes.naming; none = makes.none })
 
 counts_none : (tells : Tells) → CountsOn tells 0 [] 0
-counts_none Nothing = omega arith
 counts_none Sizes = refl
-counts_none Openings = omega arith
+counts_none tells = omega arith
 
 pub begin_made : {told : Bool} {writer next : WriterState} {opening : Opening} {slot : ℕ} {old new : List Slot}
     → opening ≡ AtOnce → IsReady writer old → Made writer (told_next told writer.tells writer.names old) new next slot
     → Goes told (paused writer) (with_next opening) old new next None
 begin_made {told} {next = next} {slot = slot} is ready made =
-    goes_made [] (λ draft never. (at_once is draft never, refl)) (paused_ready ready) (record { few = made.few; named = made.named; place = made.place; added = made.added; same = made.same })
+    goes_made [] (λ draft never. (at_once is draft never, refl)) (paused_ready ready)
+    (record { few = made.few; named = made.named; place = made.place; added = made.added; same = made.same })
     (record { same = refl; current = (0, ap (λ (w : WriterState). w.current) made.same, counts_none next.tells); still = tt; wrote = none_written told slot })
 
--- What is begun ends, and what is next begins.
-
--- it has no file
-pub end_none : {told : Bool} {writer : WriterState} {current : Current} {slots : List Slot} → current ≡ Skipped
-    → ((draft : Draft) → IsCurrent writer.tells draft.opening draft.bytes writer.current
-    → made_of draft.opening draft.bytes ≡ []) → IsReady writer slots
-    → Goes told writer (with_next Never) slots slots (record writer { current = current }) None
-end_none is none ready = grind (arith, common_steps, begins_none)
-
--- it has one
+-- What is begun ends, where it has a file.
 
 file_ends : {manner : Manner} {writer : WriterState} {draft : Draft} (slot size : ℕ) → writer.current ≡ File slot size
     → Writes manner writer draft → Writes manner (paused writer) (with_next Never draft)
-file_ends {manner} {draft = draft} slot size is writes =
-    let makes = (now_is is writes).0 in
-    let count : length (shares_of draft) ≡ length (shares_of (with_next Never draft)) =
-    grind (arith, common_steps, made_count, makes, length-append, length-map) in record {
-      same = writes.same;
-      made = writes.made ∙ count;
-      kept = λ all. writes.kept all ∙ count;
-      named = subst (AreNamed manner) count writes.named;
-      current = refl;
-    }
+file_ends slot size is writes =
+    grind (arith, common_steps)
 
 file_closed : {writer : WriterState} {old new : List Slot} → KeepsMade old new
     → KeepsFiles writer (paused writer) old new
-file_closed keeps = owned_same refl refl (λ first last. tt) keeps
-
-closed_can : (slot : ℕ) (old new : List Slot) → 2 ≤ slot → new ≡ changed_at slot closes old → IsTrue (is_writable old 0)
-    → IsTrue (is_writable new 0)
-closed_can slot old new two closed can = writable_elsewhere old new 0 slot closes (λ same. omega arith) closed can
+file_closed keeps = search (rules, there_same)
 
 closed_leaves : {writer : WriterState} (slot size : ℕ) {old new : List Slot} → writer.current ≡ File slot size
     → IsReady writer old → new ≡ changed_at slot closes old → Leaves writer (paused writer) old new None
-closed_leaves slot size {old} {new} is ready closed =
+closed_leaves slot size is ready closed =
     let at = at_file is ready in
-    let made = made_close slot old new at.1 closed in record {
+    let made = made_close _ _ _ at.1 closed in record {
       naming = refl;
       tells = refl;
       keeps = refl;
       open_alone = λ alone. refl;
       owns = file_closed made;
-      slots = keeps_close slot old new closed;
-      output = closed_can slot old new at.0 closed;
-      ready = grind (arith, common_steps, can_tell, closed_can, there_same);
+      slots = keeps_close _ _ _ closed;
+      output = grind (arith, common_steps);
+      ready = grind (arith, can_tell, common_steps, there_same);
     }
 
 -- the file breaks as it is closed
 -- what standard output is told as a file is opened begins what it is told of it in all
 closed_told : (output : Output) (name bytes : List ℕ)
     → IsBeginning (told_before output name) (told_of_files output (file_of name bytes state.Closed ∷ []))
-closed_told gets_none name bytes = begins_itself []
-closed_told gets_bytes name bytes = begins_itself []
 closed_told (gets_lines line) name bytes = nothing_begins _
 closed_told (gets_openings line) name bytes = ([], refl)
+closed_told output name bytes = begins_itself []
 
 closed_begins : (output : Output) (front : List PartFile) (name bytes : List ℕ)
     → Begins (with_last (begun_out output front name) front (file_of name bytes state.Closed))
     (with_last (told_of_files output front ++ told_of_files output (file_of name bytes state.Closed ∷ [])) front
     (file_of name bytes state.Closed))
 closed_begins output front name bytes = let (rest, is) = closed_told output name bytes in record {
-  out = grind (arith, common_steps, is, append_assoc);
+  out = grind (arith, append_assoc);
   files = files_begin_themselves _;
 }
 
@@ -381,56 +320,59 @@ pub close_not : {told : Bool} {writer : WriterState} (slot size : ℕ) {old new 
     → writer.current ≡ File slot size → IsReady writer old → f ≡ fault.Write slot
     → SlotBreaks slot (changed_at slot closes old) new
     → Goes told writer (with_next Never) old new (paused writer) (Some f)
-close_not {told} {writer} slot size {old} {new} is ready which broken = subst (λ f. Goes told writer (with_next Never) old new (paused writer) (Some f)) (sym which) (record {
-  leaves = record {
-    naming = refl;
-    tells = refl;
-    keeps = refl;
-    open_alone = λ alone. refl;
-    owns = owns;
-    slots = (let at = at_file is ready in (
-      λ none. absurd (omega arith),
-      close_rose slot old new at.1
-          (writable_within slot old at.1) broken,
-    ));
-    output = tt;
-    ready = tt;
-  };
-  reaches = λ manner draft writes. let now = now_is is writes in let named = file_named now.0 writes in
-      reaches_as (open_part manner draft named now.0) (closed_part manner draft named now.0)
-      (reaches_by owns (λ first last. falls_wider (closes_not manner.output told (ended_files manner draft) (name_after manner draft) draft.bytes old
-      (closed_files manner 0 draft.ended) (last_file writer old is last).1 broken) (closed_begins manner.output (ended_files manner draft) (name_after manner draft) draft.bytes)));
-  short = λ short_is. absurd (cc);
-  writes = tt;
-}) where
-  owns : KeepsFiles writer (paused writer) old new
-  owns = file_closed (made_again old (changed_at slot closes old) new (made_close slot old _ (at_file is ready).1 refl) (made_break slot _ new broken))
+close_not {told} {writer} slot size {old} {new} is ready which broken = subst (λ f. Goes told writer
+    (with_next Never) old new (paused writer) (Some f)) (sym which) (record {
+      leaves = record {
+        naming = refl;
+        tells = refl;
+        keeps = refl;
+        open_alone = λ alone. refl;
+        owns = owns;
+        slots = (let at = at_file is ready in (
+          λ none. absurd (omega arith),
+          close_rose slot old new at.1
+              (writable_within slot old at.1) broken,
+        ));
+        output = tt;
+        ready = tt;
+      };
+      reaches = λ manner draft writes. let now = now_is is writes in let named = file_named now.0 writes in
+          reaches_as (open_part manner draft named now.0) (grind (arith, common_steps, next_shares, part_last))
+          (reaches_by owns (λ first last. falls_wider (closes_not manner.output told (ended_files manner draft) (name_after manner draft) draft.bytes old
+          (closed_files manner 0 draft.ended) (last_file writer old is last).1 broken) (closed_begins manner.output
+          (ended_files manner draft) (name_after manner draft) draft.bytes)));
+      short = λ short_is. absurd (cc);
+      writes = tt;
+    }) where
+      owns : KeepsFiles writer (paused writer) old new
+      owns = file_closed (made_again old (changed_at slot closes old) new (made_close slot old _ (at_file is ready).1 refl) (made_break slot _ new broken))
 
 -- it is told of, or standard output breaks
 tells_file : (tells : Tells) (output : Output) (told : Bool) (size : ℕ) (front : List PartFile) (file : PartFile)
     (old : List Slot) {new : List Slot} (fault : Option Fault) → output_of tells ≡ output → file.state ≡ state.Closed
-    → size ≡ length file.bytes
-    → AllClosed front → 0 < length old → TellsSize told tells size old new fault
+    → IsCounted tells file.bytes size → AllClosed front → 0 < length old → TellsSize told tells size old new fault
     → Becomes output told (with_last (begun_out output front file.name) front file)
     (with_last (told_of_files output front ++ told_of_files output (file ∷ [])) front file) old new fault
 tells_file Nothing output told size front file old fault is shut size_is closed some (well, same) = rw (well, same, ← is) (record { gets = λ before at. at })
-tells_file Openings output told size front file old fault is shut size_is closed some (well, same) = rw (well, same, ← is, append-nil (opening_line file.name)) (record { gets = λ before at. at })
-tells_file Sizes output told size front file old {new} fault is shut size_is closed some wrote = rw (← is) (rw (append-nil (lines_for size_of_file front), line_told) (tells_line size_of_file told front file shut old fault closed some (subst (λ n. Wrote told 0 (decimal n ++ 10 ∷ []) old new fault) size_is wrote))) where
-  line_told : lines_for size_of_file (file ∷ []) ≡ size_of_file file
-  line_told = grind (arith, common_steps)
+tells_file Openings output told size front file old fault is shut size_is closed some (well, same) = rw
+    (well, same, ← is, append-nil (opening_line file.name)) (record { gets = λ before at. at })
+tells_file Sizes output told size front file old {new} fault is shut size_is closed some wrote = rw (← is)
+    (rw (append-nil (lines_for size_of_file front), line_told) (tells_line _ _ _ _ shut _ _ closed some
+    (subst (λ n. Wrote told 0 (decimal n ++ 10 ∷ []) old new fault) size_is wrote))) where
+      line_told : lines_for size_of_file (file ∷ []) ≡ size_of_file file
+      line_told = grind (arith, common_steps)
 
 told_leaves : (told : Bool) (writer : WriterState) (size : ℕ) {old new : List Slot} (fault : Option Fault)
     (tells : Tells) → writer.tells ≡ tells → IsReady (paused writer) old → TellsSize told tells size old new fault
     → Leaves (paused writer) (paused writer) old new fault
-told_leaves told writer size fault Nothing is ready (well, same) = rw (well, same) (leaves_still ready)
-told_leaves told writer size fault Openings is ready (well, same) = rw (well, same) (leaves_still ready)
 told_leaves told writer size {old} {new} fault Sizes is ready wrote =
-    let can : IsTrue (is_writable old 0) = grind (arith, common_steps, is) in
-    wrote_leaves told 0 (decimal size ++ 10 ∷ []) fault refl (λ first last. tt) (rw is (slots fault can wrote)) (in_any fault tt) ready wrote where
+    let can : IsTrue (is_writable old 0) = grind (arith, is) in
+    wrote_leaves told 0 (decimal size ++ 10 ∷ []) fault refl (λ first last. tt) (rw is (slots fault can wrote)) (in_any _ tt) ready wrote where
       slots : (fault : Option Fault) → IsTrue (is_writable old 0) → Wrote told 0 (decimal size ++ 10 ∷ []) old new fault
           → KeepsOrBreaks (manner_by writer.names.naming (output_of Sizes)) old new fault
-      slots None can wrote = keeps_write 0 _ old new wrote
-      slots (Some f) can wrote = grind (arith, common_steps, line_breaks)
+      slots None can wrote = keeps_write 0 _ _ _ wrote
+      slots (Some f) can wrote = grind (arith, line_breaks)
+told_leaves told writer size fault tells is ready (well, same) = rw (well, same) (leaves_still ready)
 
 -- what can go wrong there is a write
 pub tells_write : (told : Bool) (tells : Tells) (size : ℕ) (old new : List Slot) (result : Result (Unit {0}) Fault)
@@ -440,20 +382,11 @@ tells_write told Nothing size old new (Err f) (well, same) = absurd (cc)
 tells_write told Sizes size old new (Err _) (short.broke n cut) = (0, refl)
 tells_write told Openings size old new (Err f) (well, same) = absurd (cc)
 
--- where sizes are told, what is told is that of the file
-is_size : (tells : Tells) (bytes : List ℕ) (size : ℕ) → IsCounted tells bytes size
-    → (told : Bool) (old new : List Slot) (fault : Option Fault) → TellsSize told tells size old new fault
-    → TellsSize told tells (length bytes) old new fault
-is_size Nothing bytes size is told old new fault tells = tells
-is_size Openings bytes size is told old new fault tells = tells
-is_size Sizes bytes size is told old new fault tells = grind (arith, common_steps)
-
 -- telling a size wants no names
 told_short : (P : Type 0) (told : Bool) (tells : Tells) (size : ℕ) (old new : List Slot) (fault : Option Fault)
     → TellsSize told tells size old new fault → IfSome fault (λ fault. fault ≡ Verdict Suffixes → P)
-told_short P told Nothing size old new fault (well, same) = rw well tt
-told_short P told Openings size old new fault (well, same) = rw well tt
-told_short P told Sizes size old new fault wrote = never_short P told 0 (decimal size ++ 10 ∷ []) old new fault wrote
+told_short P told Sizes size old new fault wrote = never_short P told 0 (decimal size ++ 10 ∷ []) _ _ _ wrote
+told_short P told tells size old new fault (well, same) = rw well tt
 
 pub end_told : {told : Bool} {writer : WriterState} (slot size : ℕ) {old mid new : List Slot} {fault : Option Fault}
     → writer.current ≡ File slot size → IsReady writer old → mid ≡ changed_at slot closes old
@@ -462,11 +395,13 @@ pub end_told : {told : Bool} {writer : WriterState} (slot size : ℕ) {old mid n
 end_told {told} {writer} slot size {old} {mid} {new} {fault} is ready closed tells = record {
   leaves = leaves;
   reaches = λ manner draft writes. let now = now_is is writes in let named = file_named now.0 writes in
-      reaches_as (open_part manner draft named now.0) (closed_part manner draft named now.0) (reaches_by leaves.owns (λ first last. becomes_again
-      (close_begins _ (ended_files manner draft) (name_after manner draft) draft.bytes)
+      reaches_as (open_part manner draft named now.0) (grind (arith, common_steps, next_shares, part_last))
+      (reaches_by leaves.owns (λ first last. becomes_again
+      (grind (arith, begins_itself, front_begins))
       (closes_last manner.output told _ (ended_files manner draft) (name_after manner draft) draft.bytes old (last_file writer old is last).1 closed)
-      (tells_file writer.tells manner.output told (length draft.bytes) (ended_files manner draft) (file_of (name_after manner draft) draft.bytes state.Closed) mid fault writes.same.output refl refl (closed_files manner 0 draft.ended)
-      (let two = paused_now.streams in omega arith) (is_size writer.tells draft.bytes size now.1 told mid new fault tells))));
+      (tells_file writer.tells manner.output told size (ended_files manner draft)
+      (file_of (name_after manner draft) draft.bytes state.Closed) mid fault writes.same.output refl now.1 (closed_files manner 0 draft.ended)
+      (let two = paused_now.streams in omega arith) tells)));
   short = told_short _ told writer.tells size mid new fault tells;
   writes = grind (arith, common_steps, in_any, file_ends, is);
 } where

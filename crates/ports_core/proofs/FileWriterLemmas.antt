@@ -1,9 +1,9 @@
 -- What the writer of files does: what it writes, whose the outputs are, and which faults come.
 use Rattle.std.proofs.{
-  lemmas.{Grind.common_steps, Bool.{false≢true, cases_lt}, List.{length-map, take-append-drop, Recursion.or_push}},
-  Common.{◌≡◌, ℕ, ◌+◌, ◌<◌, ◌≤◌, ◌^◌, zero, suc, eqb, eq-eqb, ne_eqb, Bool, true, ◌||◌, IsTrue, List, [], ◌∷◌, ◌++◌},
-  Common.{length, take, drop, replicate, decimal, Option, Some, None, IfNone, IfSome, Result, OnOk, IsErrAnd, inl, inr},
-  Common.{refl, sym, ◌∙◌, ap, subst, arith, rules, append-nil, length-append},
+  lemmas.{Grind.common_steps, Bool.{false≢true, cases_lt}, List.{take-append-drop, Recursion.or_push}},
+  Common.{◌≡◌, ℕ, ◌+◌, ◌<◌, ◌≤◌, ◌^◌, zero, suc, eqb, eq-eqb, ne_eqb, Bool, true, ◌||◌, IsTrue, List, [], ◌∷◌},
+  Common.{◌++◌, length, take, drop, replicate, decimal, Option, Some, None, IfNone, IfSome, Result, OnOk, IsErrAnd},
+  Common.{inl, inr, refl, sym, ◌∙◌, ap, subst, arith, rules, length-append},
   Math.{Bool.or-false, Seq.{take-append-add, take-append_seam, drop-append_seam}},
 }
 use Rattle.ports_core.specs.{
@@ -16,25 +16,29 @@ use Rattle.ports_core.specs.{
   Slot.{Slot, with_written, told_of, Rose, has_file, slot_at, opened, is_writable, KeepsBroken},
   Swept.{AreThere, is_among},
   inner.{FileWriter.{Made, Appends, CountsOn, files_with}, Write.{Wrote, WritesShort}},
-  Turn.{AllClosed, InTurn, IsThere, LinesTo, fault_in},
+  InTurn.{AllClosed, InTurn, IsThere, LinesTo, fault_in},
   Write.BrokeAfter,
-  declared.fault.Fault.{Fault, TheVariants.{Memory, Verdict}},
-  declared.verdict.Verdict.TheVariants.Suffixes,
-  declared.file_writer.Current.{Current, TheVariants.{File, Unopened, Skipped}},
-  declared.file_writer.Keeps.{Keeps, TheVariants.{Open as OpenOne, All}},
-  declared.file_writer.Tells.{Tells, TheVariants.{Nothing, Sizes, Openings}},
-  declared.names.Names.Names,
-  declared.slot.Mode.TheVariants.Fresh,
+  declared.{
+    fault.Fault.{Fault, TheVariants.{Memory, Verdict}},
+    verdict.Verdict.TheVariants.Suffixes,
+    file_writer.{
+      Current.{Current, TheVariants.{File, Unopened}},
+      Keeps.{Keeps, TheVariants.{Open as OpenOne, All}},
+      Tells.{Tells, TheVariants.{Nothing, Sizes, Openings}},
+    },
+    names.Names.Names,
+    slot.Mode.TheVariants.Fresh,
+  },
 }
 use Rattle.ports_core.proofs.{
   HandedOn.handed_on,
   PartLemmas.{take_begins_after, files_begin_themselves, part_begins_itself, turn_between, turn_next, turn_last},
   PartSteps.{Becomes, becomes_again, with_last, halts_here, there_from, line_begins, lines_all, lines_of_last},
   PartSteps.{out_added, writes_to},
-  ShareLemmas.{closed_files, ended_files, name_after, open_part, none_part, still_made, made_or},
+  ShareLemmas.{closed_files, ended_files, open_part, none_part, still_made, made_or},
   SlotLemmas.length-changed_at,
-  SlotSteps.{KeepsFiled, KeepsMade, filed_more, filed_same, none_past, file_before, at_end, write_rose, keeps_write},
-  SlotSteps.{made_write, written_writable, made_short, open_rose, rose_later, keeps_again},
+  SlotSteps.{KeepsFiled, KeepsMade, filed_more, filed_same, none_past, write_rose, keeps_write, made_write},
+  SlotSteps.{written_writable, made_short, rose_later},
   SweepLemmas.by_place,
 }
 use Rattle.ports_core.specs.inner.Write as short
@@ -52,10 +56,11 @@ module _ (line : PartFile → List ℕ) (told : Bool) (front : List PartFile) (f
       (length front) (fault.Write 0)
   cut_short n high = record {
     next = take n (line file);
-    all = grind (arith, common_steps, take-append_seam);
+    all = grind (arith, take-append_seam);
     cut = inr (
       refl,
-      subst (IsBeginning (take n (line file))) (sym (ap (λ files. lines_for line (take 1 files)) (drop-append_seam front (file ∷ [])) ∙ told_line)) (drop n (line file), sym (take-append-drop n (line file))),
+      subst (IsBeginning (take n (line file))) (sym (ap (λ files. lines_for line (take 1 files))
+          (drop-append_seam front (file ∷ [])) ∙ told_line)) (drop n (line file), sym (take-append-drop n (line file))),
     );
   } where
     told_line : lines_for line (file ∷ []) ≡ line file
@@ -65,20 +70,20 @@ module _ (line : PartFile → List ℕ) (told : Bool) (front : List PartFile) (f
       → Wrote told 0 (line file) old new fault
       → Becomes (gets_lines line) told (with_last (lines_for line front) front file)
       (with_last (lines_for line front ++ line file) front file) old new fault
-  tells_line old None closed some wrote = out_added told (line file) old wrote
+  tells_line old None closed some wrote = out_added _ _ _ wrote
   tells_line old (Some _) closed some (short.broke n cut) =
-      becomes_again (line_begins (take n (line file))) (out_added told (take n (line file)) old refl) (halts_here (record { out = take_begins_after n (lines_for line front) (line file); files = files_begin_themselves (front ++ file ∷ []) })
-      (turn_last front file (length front) refl closed)
+      becomes_again (line_begins _) (out_added _ _ _ refl) (halts_here (record { out = take_begins_after n _ _; files = files_begin_themselves _ })
+      (turn_last _ _ _ refl closed)
       (cut_short n (with_last (lines_for line front ++ line file) front file)) (
         let size : length (with_written 0 (told_of told (take n (line file))) old) ≡ length old =
-            length-changed_at 0 _ old in omega arith,
+            length-changed_at 0 _ _ in omega arith,
         cut.slots,
       ) (λ before at. inl refl))
 
 -- a `?` handed a fault on
 pub stop_is : {T : Type 0} (P : Option Fault → Type 0) (result : Result T Fault) (fault : Fault)
     → IsErrAnd result (λ given. given ≡ fault) → P (Some fault) → P (fault_in result)
-stop_is P result fault handed holds = grind (arith, common_steps, handed_on)
+stop_is P result fault handed holds = grind (arith, handed_on)
 
 -- From one state of the outputs to another. The writers follow from the steps.
 
@@ -86,36 +91,37 @@ pub reaches_again : {output : Output} {told : Bool} {low middle high : Part} {ol
     {fault : Option Fault} {one two three : WriterState} → Begins low middle
     → Reaches output told one two low middle old mid None
     → Reaches output told two three middle high mid new fault → Reaches output told one three low high old new fault
-reaches_again {output} {told} {high = high} {new = new} {fault} begins first second = record { there = λ before at. there_from output told _ before high new fault begins (second.there before (first.there before at)) }
+reaches_again begins first second = grind (arith, there_from)
 
 -- it was stopped on its way to more
 pub stops_wider : {output : Output} {told : Bool} {low middle high : Part} {old new : List Slot} {fault : Fault}
     {writer next : WriterState} → Reaches output told writer next low middle old new (Some fault) → Begins middle high
     → Reaches output told writer next low high old new (Some fault)
-stops_wider {output} {told} {low} {middle} {high} {new = new} {fault = fault} stops begins =
-    record { there = λ before at. turn_between output told before low low middle high fault new (part_begins_itself low) (stops.there before at) begins }
+stops_wider stops begins =
+    record { there = λ before at. turn_between _ _ _ _ _ _ _ _ _ (part_begins_itself _) (stops.there before at) begins }
 
 -- a step that is known of the outputs alone, as long as the open file is the last
 pub reaches_by : {output : Output} {told : Bool} {low high : Part} {old new : List Slot} {fault : Option Fault}
     {writer next : WriterState} → KeepsFiles writer next old new
     → ((first : ℕ) → IsLast writer.current first old → Becomes output told low high old new fault)
     → Reaches output told writer next low high old new fault
-reaches_by {output} {told} {low} {high} {old} {new} {fault} {writer} {next} keeps becomes = record { there = λ before at. by fault before at ((becomes (length before) at.owns.last).gets before at.outputs) } where
-  by : (fault : Option Fault) (before : List Slot) → At told writer before low old
-      → IsThere output told (OutputsAt told before high new) before low high new fault
-      → IsThere output told (At told next before high new) before low high new fault
-  by None before at outputs = grind (arith, common_steps)
-  by (Some why) before at stops = stops
+reaches_by {output} {told} {low} {high} {old} {new} {fault} {writer} {next} keeps becomes =
+    record { there = λ before at. by fault before at ((becomes (length before) at.owns.last).gets before at.outputs) } where
+      by : (fault : Option Fault) (before : List Slot) → At told writer before low old
+          → IsThere output told (OutputsAt told before high new) before low high new fault
+          → IsThere output told (At told next before high new) before low high new fault
+      by None before at outputs = grind arith
+      by (Some why) before at stops = stops
 
 -- the same of parts that are written otherwise
 pub reaches_as : {output : Output} {told : Bool} {low low' high high' : Part} {old new : List Slot}
     {fault : Option Fault} {writer next : WriterState} → low ≡ low' → high ≡ high'
     → Reaches output told writer next low' high' old new fault → Reaches output told writer next low high old new fault
-reaches_as is_low is_high reaches = grind (arith, common_steps)
+reaches_as is_low is_high reaches = grind arith
 
 pub reaches_still : {output : Output} {told : Bool} {low high : Part} {slots : List Slot} {writer next : WriterState}
     → KeepsFiles writer next slots slots → low ≡ high → Reaches output told writer next low high slots slots None
-reaches_still keeps is = grind (arith, common_steps)
+reaches_still keeps is = grind arith
 
 -- want of memory leaves the outputs as they are
 
@@ -126,12 +132,7 @@ in_turn place turn lines = search (rules, part_begins_itself)
 
 pub made_count : (draft : Draft) → made_of draft.opening draft.bytes ≡ draft.bytes ∷ []
     → length (shares_of draft) ≡ length draft.ended + 1
-made_count draft makes = grind (arith, common_steps, length-append, length-map)
-
--- with an open file, those that ended and this one have names
-named_last : (manner : Manner) (draft : Draft) → AreNamed manner (length (shares_of draft))
-    → made_of draft.opening draft.bytes ≡ draft.bytes ∷ [] → AreNamed manner (suc (length draft.ended))
-named_last manner draft named makes place less = named place (omega (arith, made_count))
+made_count draft makes = grind (arith, common_steps)
 
 pub lacks_memory : {told : Bool} (manner : Manner) (draft : Draft) {slots : List Slot} {writer next : WriterState}
     → AreNamed manner (length (shares_of draft))
@@ -140,10 +141,12 @@ pub lacks_memory : {told : Bool} (manner : Manner) (draft : Draft) {slots : List
 lacks_memory manner draft named = elim (made_or draft.opening draft.bytes) [
   | inl none ↦
       let is = none_part manner draft none in
-      reaches_as is is (in_turn (length (ended_files manner draft)) (turn_next (ended_files manner draft) (closed_files manner 0 draft.ended)) (lines_all manner.output (ended_files manner draft) _ Memory tt))
+      reaches_as is is (in_turn (length (ended_files manner draft)) (turn_next (ended_files manner draft)
+      (closed_files manner 0 draft.ended)) (lines_all manner.output (ended_files manner draft) _ Memory tt))
   | inr makes ↦
-      let is = open_part manner draft (named_last manner draft named makes) makes in
-      reaches_as is is (in_turn (length (ended_files manner draft)) (turn_last (ended_files manner draft) _ _ refl (closed_files manner 0 draft.ended)) (lines_of_last manner.output (ended_files manner draft) _ _ Memory tt))
+      let is = open_part manner draft (grind (arith, made_count)) makes in
+      reaches_as is is (in_turn (length (ended_files manner draft)) (turn_last (ended_files manner draft) _ _ refl
+      (closed_files manner 0 draft.ended)) (lines_of_last manner.output (ended_files manner draft) _ _ Memory tt))
 ]
 
 -- Outputs that were broken stay broken, and files stay the writer's own.
@@ -156,87 +159,72 @@ where_short (Some why) holds follows = λ is. follows (holds is)
 
 -- what is so of a call that went well
 pub where_well : {A B : Type 0} (fault : Option Fault) → IfNone fault A → (A → B) → IfNone fault B
-where_well fault holds follows = grind (arith, common_steps)
+where_well fault holds follows = grind arith
 
 pub in_any : {A : Type 0} (fault : Option Fault) → A → IfNone fault A
-in_any fault holds = grind (arith, common_steps)
+in_any fault holds = grind arith
 
 where_both : {A B C : Type 0} (fault : Option Fault) → IfNone fault A → IfNone fault B → (A → B → C) → IfNone fault C
-where_both fault one two follows = grind (arith, common_steps)
+where_both fault one two follows = grind arith
 
 pub where_three : {A B C D : Type 0} (fault : Option Fault) → IfNone fault A → IfNone fault B → IfNone fault C
     → (A → B → C → D) → IfNone fault D
-where_three fault one two three follows = grind (arith, common_steps)
+where_three fault one two three follows = grind arith
 
 pub well_in : {T : Type 0} (A : Type 0) (result : Result T Fault) → OnOk result A → IfNone (fault_in result) A
-well_in A result holds = grind (arith, common_steps)
-
-owns_again : {one two three : WriterState} {old mid new : List Slot} → KeepsFiles one two old mid
-    → KeepsFiles two three mid new → KeepsFiles one three old new
-owns_again before after = grind (arith, common_steps)
+well_in A result holds = grind arith
 
 pub breaks_later : {manner other : Manner} (old mid new : List Slot) (fault : Fault) → other ≡ manner
     → KeepsBroken old mid → Breaks other mid new fault → Breaks manner old new fault
-breaks_later old mid new fault same keeps breaks = grind (arith, common_steps)
-
-slots_again : {manner other : Manner} (old mid new : List Slot) (fault : Option Fault) → other ≡ manner
-    → KeepsBroken old mid → KeepsOrBreaks other mid new fault → KeepsOrBreaks manner old new fault
-slots_again old mid new None same first second = keeps_again old mid new first second
-slots_again old mid new (Some fault) same first second = breaks_later old mid new fault same first second
+breaks_later old mid new fault same keeps breaks = grind arith
 
 -- how files are made stays
 pub same_manner : {writer next : WriterState} {old new : List Slot} {fault : Option Fault}
     → Leaves writer next old new fault → manner_in next ≡ manner_in writer
-same_manner leaves = cc (leaves.naming, leaves.tells)
+same_manner leaves = grind (arith, common_steps)
 
 pub leaves_again : {one two three : WriterState} {old mid new : List Slot} {fault : Option Fault}
     → Leaves one two old mid None → Leaves two three mid new fault → Leaves one three old new fault
 leaves_again first second =
-    grind (arith, common_steps, owns_again, slots_again, same_manner, where_well)
+    grind (arith, common_steps)
 
 pub keeps_files : {writer : WriterState} {slots : List Slot} → KeepsFiles writer writer slots slots
-keeps_files = record { owns = λ first owns. owns; there = λ are. are }
+keeps_files = grind (arith, common_steps)
 
 pub leaves_still : {writer : WriterState} {slots : List Slot} → IsReady writer slots
     → Leaves writer writer slots slots None
-leaves_still ready = grind (arith, common_steps, keeps_files)
+leaves_still ready = grind (arith, keeps_files)
 
 -- want of memory leaves them as they are
 pub leaves_lacking : {writer : WriterState} {slots : List Slot} → Leaves writer writer slots slots (Some Memory)
-leaves_lacking = grind (arith, common_steps, keeps_files)
+leaves_lacking = grind (arith, keeps_files)
 
 -- the open file can be written
 pub at_file : {writer : WriterState} {slot size : ℕ} {slots : List Slot} → writer.current ≡ File slot size
     → IsReady writer slots → (2 ≤ slot) × IsTrue (is_writable slots slot)
-at_file {slots = slots} is ready = subst (λ current. IsOpenAt current slots) is ready.current
+at_file is ready = grind (arith, common_steps)
 
 -- and is the last output, where that is known of it
 pub last_file : (writer : WriterState) {slot size first : ℕ} (slots : List Slot) → writer.current ≡ File slot size
     → IsLast writer.current first slots → (first ≤ slot) × (suc slot ≡ length slots)
-last_file writer {first = first} slots is last = subst (λ current. IsLast current first slots) is last
+last_file writer slots is last = grind (arith, common_steps)
 
 -- what can be told stays so, where standard output can still be written
 pub can_tell : (tells : Tells) (old new : List Slot) → (IsTrue (is_writable old 0) → IsTrue (is_writable new 0))
     → CanTell tells old → CanTell tells new
 can_tell Nothing old new stays can = tt
-can_tell Sizes old new stays can = stays can
-can_tell Openings old new stays can = stays can
+can_tell tells old new stays can = stays can
 
 -- The files are there, and stay the writer's own.
 
 there_still : (files : List ℕ) (old new : List Slot)
-    → ((place : ℕ) → has_file (slot_at new place).state ≡ has_file (slot_at old place).state) → AreThere files old
-    → AreThere files new
+    → ((place : ℕ) → has_file (slot_at old place).state ≡ true → has_file (slot_at new place).state ≡ true)
+    → AreThere files old → AreThere files new
 there_still [] old new keeps are = tt
-there_still (place ∷ files) old new keeps are = grind (arith, common_steps, there_still files old new keeps are.2)
+there_still (place ∷ files) old new keeps are = grind (arith, there_still files _ _ keeps are.2)
 
 pub there_same : (files : List ℕ) {old new : List Slot} → KeepsMade old new → AreThere files old → AreThere files new
-there_same files {old} {new} keeps are = there_still files old new keeps.same are
-
-pub owned_same : {writer next : WriterState} {old new : List Slot} → next.files ≡ writer.files
-    → next.keeps ≡ writer.keeps → ((first : ℕ) → IsLast writer.current first old → IsLast next.current first new)
-    → KeepsMade old new → KeepsFiles writer next old new
-owned_same same keeps_as last keeps = search (rules, there_same)
+there_same files keeps are = grind (arith, there_still)
 
 -- one file more
 
@@ -250,22 +238,22 @@ there_more : (files : List ℕ) (slots : List Slot) (name : List ℕ) {slot : �
     → AreThere files slots → AreThere (files ++ slot ∷ []) (slots ++ opened name Fresh ∷ [])
 there_more [] slots name at two are = grind (arith, common_steps)
 there_more (place ∷ files) slots name at two are =
-    grind (arith, common_steps, file_before, among_more, ne_eqb, there_more files slots name)
+    grind (arith, common_steps, among_more, ne_eqb, there_more files slots name)
 
 there_before : (files : List ℕ) (old : List Slot) (one : Slot) {new : List Slot} → new ≡ old ++ one ∷ []
     → AreThere files old → AreThere files new
 there_before [] old one added are = tt
 there_before (place ∷ files) old one added are =
-    grind (arith, common_steps, file_before, there_before files old one added are.2)
+    grind (arith, common_steps, there_before files _ _ added are.2)
 
-opened_by : (keeps : Keeps) {writer : WriterState} {slot : ℕ} {old new : List Slot} (name : List ℕ) {names : Names}
+pub opened_by : (keeps : Keeps) {writer : WriterState} {slot : ℕ} {old new : List Slot} (name : List ℕ) {names : Names}
     → 2 ≤ length old → writer.keeps ≡ keeps → slot ≡ length old → new ≡ old ++ opened name Fresh ∷ []
     → KeepsFiles writer
     (record writer { names = names; files = files_with keeps writer.files slot; current = File slot 0 }) old new
 opened_by OpenOne name two is at added =
     grind (arith, common_steps, length-append, there_before)
 opened_by All name two is at added =
-    grind (arith, common_steps, by_place, or-false, among_more, there_more, cases_lt, none_past, file_before, at_end, eq-eqb, false≢true)
+    grind (arith, common_steps, by_place, or-false, among_more, there_more, cases_lt, none_past, eq-eqb, false≢true)
 
 pub owned_opened : {writer next : WriterState} {slot : ℕ} {old new : List Slot} → 2 ≤ length old
     → Made writer old new next slot → KeepsFiles writer next old new
@@ -274,7 +262,7 @@ owned_opened two made = grind (arith, common_steps, opened_by)
 unmade_keeps : {told : Bool} {tells : Tells} {names next : Names} {old new : List Slot} {f : Fault}
     → OpensNone told tells names next old new f → KeepsFiled old new
 unmade_keeps (no_memory same) = rw same (record { same = λ place. refl; within = omega arith })
-unmade_keeps {told} {old = old} (no_line n few has cut) = filed_same (made_short told 0 _ old _ _ (short.broke n cut))
+unmade_keeps (no_line n few has cut) = filed_same (made_short _ 0 _ _ _ _ (short.broke n cut))
 unmade_keeps (no_file slot kept why number few has drew is added) =
     grind (arith, common_steps, filed_more, made_write)
 unmade_keeps (no_number few has same) =
@@ -294,26 +282,24 @@ owned_unopened {writer = writer} {next = next} {old = old} {new} none = let kept
 -- the manner in which files are made may be said otherwise
 pub breaks_as : {manner own : Manner} (old new : List Slot) (fault : Fault) → IsManner manner own
     → Breaks own old new fault → Breaks manner old new fault
-breaks_as old new (fault.Write slot) same (out, rose) = grind (arith, common_steps)
-breaks_as old new (Verdict Suffixes) same (place, few, none) = (place, few, sym (same.has place few) ∙ none)
+breaks_as old new (fault.Write slot) same (out, rose) = grind arith
+breaks_as old new (Verdict Suffixes) same (place, few, none) = grind (arith, common_steps)
 breaks_as old new fault same breaks = breaks
 
 -- standard output breaks where it is told anything alone
 line_rose : (told : Bool) (tells : Tells) (names : Names) (n : ℕ) {old new : List Slot} → CanTell tells old
     → BrokeAfter told old new 0 (line_next tells names) n → (writes (output_of tells) ≡ true) × Rose 0 old new
-line_rose told Nothing names n can cut = absurd (omega arith)
-line_rose told Sizes names n can cut = absurd (omega arith)
-line_rose told Openings names n can cut = grind (arith, common_steps, write_rose)
+line_rose told Openings names n can cut = search (rules, write_rose)
+line_rose told tells names n can cut = absurd (omega arith)
 
 pub make_breaks : (told : Bool) (tells : Tells) {names next : Names} {old new : List Slot} {f : Fault}
     → CanTell tells old → OpensNone told tells names next old new f
     → Breaks (manner_by names.naming (output_of tells)) old new f
-make_breaks told tells can (no_memory same) = tt
 make_breaks told tells can (no_line n few has cut) = grind (arith, common_steps, line_rose)
 make_breaks told tells can (no_file slot kept why number few has drew is added) =
-    grind (arith, common_steps, length-changed_at, rose_later, keeps_write, open_rose)
-make_breaks told tells can (no_number few has same) = tt
+    grind (arith, common_steps, length-changed_at, rose_later, keeps_write)
 make_breaks told tells {names} can (no_name few none same) = (names.drawn, few, none)
+make_breaks told tells can other = tt
 
 pub line_breaks : (told : Bool) (naming : Naming) (line : List ℕ) {old new : List Slot} {f : Fault}
     → IsTrue (is_writable old 0) → WritesShort told 0 line old new f
@@ -322,9 +308,9 @@ line_breaks told naming line can (short.broke n cut) = grind (arith, common_step
 
 -- The line with a file's size.
 
-one_left : (n all : ℕ) → n < all → take {A = ℕ} 1 (drop n (replicate all 10)) ≡ 10 ∷ []
+pub one_left : (n all : ℕ) → n < all → take {A = ℕ} 1 (drop n (replicate all 10)) ≡ 10 ∷ []
 one_left zero (suc all) less = refl
-one_left (suc n) (suc all) less = one_left n all (omega arith)
+one_left (suc n) (suc all) less = one_left n _ (omega arith)
 one_left n all less = absurd (omega arith)
 
 -- of a row of newlines the front was replaced by the digits, and one more is taken
@@ -337,13 +323,20 @@ line_is size all copied same is fits = search (rules, take-append-add, one_left)
 
 pub now_is : {manner : Manner} {writer : WriterState} {draft : Draft} {current : Current} → writer.current ≡ current
     → Writes manner writer draft → IsCurrent writer.tells draft.opening draft.bytes current
-now_is is writes = grind (arith, common_steps)
+now_is is writes = grind arith
 
 -- all its files have names, the open one too
 pub file_named : {manner : Manner} {writer : WriterState} {draft : Draft}
     → made_of draft.opening draft.bytes ≡ draft.bytes ∷ [] → Writes manner writer draft
     → AreNamed manner (suc (length draft.ended))
-file_named {manner} {draft = draft} makes writes = named_last manner draft writes.named makes
+file_named makes writes = grind (arith, made_count)
+
+-- it writes more, where no file was made
+pub writes_on : {manner : Manner} {writer next : WriterState} {draft after : Draft}
+    → next ≡ record writer { current = next.current } → length (shares_of draft) ≡ length (shares_of after)
+    → IsCurrent writer.tells after.opening after.bytes next.current → Writes manner writer draft
+    → Writes manner next after
+writes_on same count current writes = grind (arith, common_steps)
 
 -- Nothing is written: what is begun had no file, and has none
 
@@ -354,18 +347,14 @@ pub goes_still : {told : Bool} {writer : WriterState} {change : Draft → Draft}
     → (shares_of draft ≡ shares_of (change draft))
     × IsCurrent writer.tells (change draft).opening (change draft).bytes current)
     → Goes told writer change slots slots (record writer { current = current }) None
-goes_still {writer = writer} current {slots} ready at last stays = grind (arith, common_steps, reaches_still) where
+goes_still {writer = writer} current {slots} ready at last stays = grind (arith, reaches_still) where
   keeps : KeepsFiles writer (record writer { current = current }) slots slots
-  keeps = grind (arith, common_steps)
-
-pub put_skipped : {told : Bool} {writer : WriterState} (bytes : List ℕ) {slots : List Slot} → writer.current ≡ Skipped
-    → IsReady writer slots → Goes told writer (with_bytes bytes) slots slots writer None
-put_skipped bytes is ready = grind (arith, common_steps, goes_still)
+  keeps = grind arith
 
 -- nothing more is written
 pub put_nothing : {told : Bool} {writer : WriterState} {bytes : List ℕ} {slots : List Slot} → bytes ≡ []
     → IsReady writer slots → Goes told writer (with_bytes bytes) slots slots writer None
-put_nothing none ready = grind (arith, common_steps, goes_still, append-nil)
+put_nothing none ready = grind (arith, common_steps)
 
 -- The open file gets more bytes, or breaks.
 
@@ -378,8 +367,8 @@ file_now {size = size} (Some why) is appends = (size, appends.still ∙ is)
 wrote_slots : (told : Bool) (manner : Manner) (slot : ℕ) (bytes : List ℕ) (old new : List Slot) (fault : Option Fault)
     → (2 ≤ slot) × IsTrue (is_writable old slot) → Wrote told slot bytes old new fault
     → KeepsOrBreaks manner old new fault
-wrote_slots told manner slot bytes old new None at wrote = keeps_write slot _ old new wrote
-wrote_slots told manner slot bytes old new (Some _) at (short.broke n cut) = (λ none. absurd (omega arith), write_rose told slot bytes n old new at.1 cut)
+wrote_slots told manner slot bytes old new None at wrote = keeps_write _ _ _ _ wrote
+wrote_slots told manner slot bytes old new (Some _) at (short.broke n cut) = (λ none. absurd (omega arith), write_rose _ _ _ n _ _ at.1 cut)
 
 -- a write never wants for names
 pub never_short : (P : Type 0) (told : Bool) (slot : ℕ) (bytes : List ℕ) (old new : List Slot) (fault : Option Fault)
@@ -389,14 +378,14 @@ never_short P told slot bytes old new (Some _) (short.broke n cut) = λ is. absu
 
 wrote_made : (told : Bool) (slot : ℕ) (bytes : List ℕ) (old new : List Slot) (fault : Option Fault)
     → Wrote told slot bytes old new fault → KeepsMade old new
-wrote_made told slot bytes old new None wrote = made_write slot _ old new wrote
-wrote_made told slot bytes old new (Some f) wrote = made_short told slot bytes old new f wrote
+wrote_made told slot bytes old new None wrote = made_write _ _ _ _ wrote
+wrote_made told slot bytes old new (Some f) wrote = made_short _ _ _ _ _ f wrote
 
 -- what can be written still can, where a write went well
 wrote_can : (told : Bool) (slot : ℕ) (bytes : List ℕ) (place : ℕ) (old new : List Slot) (fault : Option Fault)
     → Wrote told slot bytes old new fault
     → IfNone fault (IsTrue (is_writable old place) → IsTrue (is_writable new place))
-wrote_can told slot bytes place old new None wrote = λ can. written_writable old new place slot _ can wrote
+wrote_can told slot bytes place old new None wrote = grind (arith, written_writable)
 wrote_can told slot bytes place old new (Some f) wrote = tt
 
 -- a write to one of the outputs
@@ -412,69 +401,60 @@ wrote_leaves told {writer} {next} slot bytes {old} {new} fault same last slots s
   open_alone = λ alone. ap (λ (w : WriterState). w.files) same;
   owns = owns;
   slots = slots;
-  output = wrote_can told slot bytes 0 old new fault wrote;
-  ready = where_both fault (wrote_can told slot bytes 0 old new fault wrote) still (λ can at. record {
+  output = wrote_can told _ _ 0 _ _ _ wrote;
+  ready = where_both fault (wrote_can _ _ bytes 0 _ _ _ wrote) still (λ can at. record {
     streams = (let two = ready.streams in omega (arith, two, made.size));
-    output = subst (λ tells. CanTell tells new) (sym (ap (λ (w : WriterState). w.tells) same)) (can_tell writer.tells old new can ready.output);
+    output = subst (λ tells. CanTell tells new) (sym (ap (λ (w : WriterState). w.tells) same)) (can_tell _ _ new can ready.output);
     files = owns.there ready.files;
     current = at;
   });
 } where
   made : KeepsMade old new
-  made = wrote_made told slot bytes old new fault wrote
+  made = wrote_made told _ _ _ _ _ wrote
 
   owns : KeepsFiles writer next old new
-  owns = grind (arith, common_steps, owned_same, made)
-
-pub appends_leaves : {told : Bool} {writer next : WriterState} {slot size : ℕ} {bytes : List ℕ} {old new : List Slot}
-    {fault : Option Fault} → writer.current ≡ File slot size → IsReady writer old
-    → Appends told writer slot size bytes old new next fault
-    → Leaves writer next old new fault
-appends_leaves {told} {writer} {next} {slot} {bytes = bytes} {old} {new} {fault} is ready appends =
-    let at = at_file is ready in
-    let now = file_now fault is appends in
-    wrote_leaves told slot bytes fault appends.same
-    (λ first last. let was = last_file writer old is last in subst (λ current. IsLast current first new) (sym now.1) (was.0, was.1 ∙ sym (wrote_made told slot bytes old new fault appends.wrote).size))
-    (wrote_slots told (manner_in writer) slot bytes old new fault at appends.wrote)
-    (where_well fault (wrote_can told slot bytes slot old new fault appends.wrote) (λ can. subst (λ current. IsOpenAt current new) (sym now.1) (at.0, can at.1)))
-    ready appends.wrote
+  owns = grind (arith, there_same, made)
 
 -- bytes can be counted where 64 bits count them
 pub can_count : (tells : Tells) (size : ℕ) (bytes : List ℕ) → size + length bytes < 2 ^ 64 → CanCount tells size bytes
-can_count Nothing size bytes few = tt
 can_count Sizes size bytes few = few
-can_count Openings size bytes few = tt
+can_count tells size bytes few = tt
 
 -- the bytes that are counted
 pub counted_on : (tells : Tells) (had bytes : List ℕ) (size more : ℕ) → IsCounted tells had size
     → CountsOn tells size bytes more → IsCounted tells (had ++ bytes) more
-counted_on Nothing had bytes size more is on = tt
-counted_on Openings had bytes size more is on = tt
-counted_on Sizes had bytes size more is on = grind (arith, common_steps, length-append)
+counted_on Sizes had bytes size more is on = grind (arith, length-append)
+counted_on tells had bytes size more is on = tt
 
 pub none_counted : (tells : Tells) → IsCounted tells [] 0
-none_counted Nothing = tt
 none_counted Sizes = refl
-none_counted Openings = tt
+none_counted tells = tt
 
-pub put_file : {told : Bool} {writer next : WriterState} {slot size : ℕ} (bytes : List ℕ) {old new : List Slot}
-    {fault : Option Fault} → writer.current ≡ File slot size → IsReady writer old
-    → Appends told writer slot size bytes old new next fault
-    → Goes told writer (with_bytes bytes) old new next fault
-put_file {told} {writer} {next} {slot} {size} bytes {old} {new} {fault} is ready appends = record {
-  leaves = appends_leaves is ready appends;
-  reaches = λ manner draft writes. let now = now_is is writes in let named = file_named now.0 writes in
-      reaches_as (open_part manner draft named now.0) (open_part manner (with_bytes bytes draft) named (still_made draft.opening draft.bytes bytes now.0))
-      (reaches_by (appends_leaves is ready appends).owns (λ first last. writes_to manner.output told (ended_files manner draft) (name_after manner draft)
-      draft.bytes bytes old fault (closed_files manner 0 draft.ended) (last_file writer old is last).1 appends.wrote));
-  short = never_short _ told slot bytes old new fault appends.wrote;
-  writes = where_well fault appends.current (λ current manner draft writes. let now = now_is is writes in let grown = still_made draft.opening draft.bytes bytes now.0 in
-      let count : length (shares_of draft) ≡ length (shares_of (with_bytes bytes draft)) =
-      grind (arith, common_steps, made_count) in record {
-        same = subst (IsManner manner) (sym (ap manner_in appends.same)) writes.same;
-        made = ap (λ (w : WriterState). w.names.drawn) appends.same ∙ writes.made ∙ count;
-        kept = λ all. ap (λ (w : WriterState). length w.files) appends.same ∙ writes.kept (sym (ap (λ (w : WriterState). w.keeps) appends.same) ∙ all) ∙ count;
-        named = subst (AreNamed manner) count writes.named;
-        current = rw current.1 (grown, subst (λ tells. IsCounted tells (draft.bytes ++ bytes) current.0) (sym (ap (λ (w : WriterState). w.tells) appends.same)) (counted_on writer.tells draft.bytes bytes size current.0 now.1 current.2));
-      });
-}
+module _ {told : Bool} {writer next : WriterState} {slot size : ℕ} (bytes : List ℕ) {old new : List Slot}
+    {fault : Option Fault} (is : writer.current ≡ File slot size) (ready : IsReady writer old)
+    (appends : Appends told writer slot size bytes old new next fault) where
+  pub appends_leaves : Leaves writer next old new fault
+  appends_leaves =
+      let at = at_file is ready in
+      let now = file_now _ is appends in
+      wrote_leaves told slot bytes fault appends.same
+      (λ first last. let was = last_file writer _ is last in rw now.1 (was.0, was.1 ∙ sym (wrote_made told _ bytes _ _ _ appends.wrote).size))
+      (wrote_slots told (manner_in writer) _ bytes _ _ _ at appends.wrote)
+      (where_well _ (wrote_can told _ bytes _ _ _ _ appends.wrote) (λ can. subst (λ current. IsOpenAt current new) (sym now.1) (at.0, can at.1)))
+      ready appends.wrote
+
+  pub put_file : Goes told writer (with_bytes bytes) old new next fault
+  put_file = record {
+    leaves = appends_leaves;
+    reaches = λ manner draft writes. let now = now_is is writes in let named = file_named now.0 writes in
+        reaches_as (open_part manner draft named now.0) (open_part manner (with_bytes bytes draft) named (still_made _ _ bytes now.0))
+        (reaches_by appends_leaves.owns (λ first last. writes_to _ told (ended_files manner draft) _ _ bytes _ fault
+        (closed_files manner 0 draft.ended) (last_file writer _ is last).1 appends.wrote));
+    short = never_short _ told slot bytes _ _ fault appends.wrote;
+    writes = where_well fault appends.current (λ current manner draft writes. let now = now_is is writes in
+        let grown = still_made _ _ bytes now.0 in
+        let count : length (shares_of draft) ≡ length (shares_of (with_bytes bytes draft)) =
+        grind (arith, common_steps, made_count) in
+        writes_on appends.same count
+        (rw current.1 (grown, counted_on writer.tells draft.bytes bytes size current.0 now.1 current.2)) writes);
+  }

@@ -1,8 +1,5 @@
 -- Lemmas on what all engines share.
-use Rattle.std.proofs.{
-  lemmas.Grind.common_steps,
-  Common.{◌≡◌, ℕ, ◌+◌, ◌≤◌, ◌<◌, ◌⊎◌, ◌++◌, rules, Bool, false, List, arith, Result, Ok, Err, IfErr, inl, inr, refl},
-}
+use Rattle.std.proofs.{Common.{◌≡◌, ℕ, ◌⊎◌, rules, Bool, false, List, arith, Result, Ok, Err, IfErr, inl, inr, refl}}
 use Rattle.ports_core.{
   specs.{
     Slot.Slot,
@@ -20,21 +17,42 @@ module _ {S : Type 0} (terms : Terms S) (told : Bool) (stage : S) (slots : List 
   refused : {fault : Fault} (due : List ℕ → Part) → (fault ≡ TooLong) ⊎ (fault ≡ Failed)
       → ((x : List ℕ) → terms.Holds stage x → Begins ((terms.work stage).settled x)
       (due x)) → CutsOff terms stage due told slots slots fault
-  refused due (inl is) grows before x at = rw is (cut refl (stopped_here _ told before _ _ TooLong slots slots at.outputs (grows x at.holds) refl tt tt))
-  refused due (inr is) grows before x at = rw is (cut refl (stopped_here _ told before _ _ Failed slots slots at.outputs (grows x at.holds) refl tt tt))
+  refused due (inl is) grows before x at = rw is (cut refl (stopped_here _ _ _ _ _ _ _ _ at.outputs (grows x at.holds) refl tt tt))
+  refused due (inr is) grows before x at = rw is (cut refl (stopped_here _ _ _ _ _ _ _ _ at.outputs (grows x at.holds) refl tt tt))
 
   pub pass_refused : {Met : List Slot → List Slot → Fault → Type 0} {fault : Fault} (piece : List ℕ)
       → (fault ≡ TooLong) ⊎ (fault ≡ Failed) → Met slots slots fault
       → Passes terms told piece stage stage slots slots Met (Err fault)
-  pass_refused piece is why = record { same = refl; size = omega arith; holds = tt; outputs = tt; ready = tt; owns = λ first own. own; there = λ are. are; cut = refused (λ x. (terms.work stage).settled (x ++ piece)) is (λ x holds. (lawful x holds).grows x piece); met = why }
+  pass_refused piece is why = record {
+    same = refl;
+    size = omega arith;
+    holds = tt;
+    outputs = tt;
+    ready = tt;
+    owns = λ first own. own;
+    there = λ are. are;
+    cut = refused _ is (λ x holds. (lawful x holds).grows x piece);
+    met = why;
+  }
 
   pub finish_refused : {Met : List Slot → List Slot → Fault → Type 0} → Met slots slots Failed
       → Finishes terms told stage stage slots slots Met (Err Failed)
-  finish_refused why = record { same = refl; size = omega arith; well = tt; outputs = tt; writable = tt; owns = λ first own. own; there = λ are. are; cut = refused (terms.work stage).whole (inr refl) (λ x holds. (lawful x holds).ends x); met = why }
+  finish_refused why = record {
+    same = refl;
+    size = omega arith;
+    well = tt;
+    outputs = tt;
+    writable = tt;
+    owns = λ first own. own;
+    there = λ are. are;
+    cut = refused (terms.work stage).whole (inr refl) (λ x holds. (lawful x holds).ends x);
+    met = why;
+  }
 
 -- why its stage stopped is why an engine did
-caused : (Met : Fault → Type 0) {is_over : Bool} (fed size : ℕ) (old new : List Slot) (result : Result (Unit {0}) Fault)
-    → is_over ≡ false → IfErr result Met → IfErr result (IsCaused Met is_over fed size old new)
+pub caused : (Met : Fault → Type 0) {is_over : Bool} (fed size : ℕ) (old new : List Slot)
+    (result : Result (Unit {0}) Fault) → is_over ≡ false → IfErr result Met
+    → IfErr result (IsCaused Met is_over fed size old new)
 caused Met fed size old new (Ok u) going why = tt
 caused Met fed size old new (Err fault) going why = met fault going why
 
@@ -44,14 +62,3 @@ pub passes_caused : {S : Type 0} {terms : Terms S} {told is_over : Bool} {fed si
     → Passes terms told piece stage next old new Met result
     → Passes terms told piece stage next old new (λ old new. IsCaused (Met old new) is_over fed size old new) result
 passes_caused going passes = search (rules, caused)
-
-pub finishes_caused : {S : Type 0} {terms : Terms S} {told is_over : Bool} {fed size : ℕ} {stage next : S}
-    {old new : List Slot} {Met : List Slot → List Slot → Fault → Type 0} {result : Result (Unit {0}) Fault}
-    → is_over ≡ false
-    → Finishes terms told stage next old new Met result
-    → Finishes terms told stage next old new (λ old new. IsCaused (Met old new) is_over fed size old new) result
-finishes_caused going finishes = search (rules, caused)
-
--- a piece is too long for what came in
-pub is_long : (fed size : ℕ) {most : ℕ} → (fed + size < most → ⊥) → most ≤ fed + size
-is_long fed size many = grind (arith, common_steps)

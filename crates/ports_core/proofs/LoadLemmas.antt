@@ -4,40 +4,38 @@ use Rattle.std.proofs.{
   Common.{◌≡◌, ℕ, ◌<◌, ◌≤◌, ◌^◌, max, zero, suc, Bool, true, false, IsTrue, List, [], ◌∷◌, length, take, replicate},
   Common.{if◌then◌else◌, refl, sym, ap, arith},
 }
-use Rattle.ports_core.{
-  specs.{
-    Slot.changed_at,
-    Source.{Source, source_at, is_readable, looks, skips},
-    Inputs.{HasLooked, PassesOver},
-    Engine.{Terms, Loads, TookIn},
-  },
-  proofs.{
-    InputsLemmas.{changed_source, keeps_again, keeps_itself, keeps_others},
-    SlotLemmas.changed_there,
-    SourceLemmas.readable_within,
-  },
+use Rattle.ports_core.specs.{
+  Slot.changed_at,
+  Source.{Source, source_at, is_readable, looks, skips},
+  Inputs.{HasLooked, PassesOver},
+  Engine.{Terms, Loads},
+}
+use Rattle.ports_core.proofs.{
+  InputsLemmas.{changed_source, keeps_again, keeps_others},
+  SlotLemmas.changed_there,
+  SourceLemmas.readable_within,
 }
 
 -- an input of which nothing is passed over is as it was
 pub none_passed : (slot : ℕ) (sources : List Source) → sources ≡ changed_at slot (skips 0) sources
 none_passed slot [] = refl
 none_passed zero (source ∷ sources) = grind (arith, common_steps)
-none_passed (suc slot) (source ∷ sources) = ap (λ those. source ∷ those) (none_passed slot sources)
+none_passed (suc slot) (source ∷ sources) = ap (λ those. source ∷ those) (none_passed _ _)
 
 -- of an input that can be read a front was passed over
 pub passed_at : (slot count : ℕ) (old new : List Source) → IsTrue (is_readable old slot)
     → new ≡ changed_at slot (skips count) old → source_at new slot ≡ skips count (source_at old slot)
-passed_at slot count old new can is = grind (arith, common_steps, changed_there, readable_within)
+passed_at slot count old new can is = grind (arith, changed_there, readable_within)
 
 -- where no look was made
 
 pub looked_none : (most slot : ℕ) (sources : List Source) → HasLooked most slot sources sources
-looked_none most slot sources = grind (arith, common_steps, keeps_itself)
+looked_none most slot sources = grind arith
 
 -- one look
 pub looked_once : {most slot size : ℕ} {old new : List Source} → IsTrue (is_readable old slot) → size ≤ most
     → new ≡ changed_at slot (looks size) old → HasLooked most slot old new
-looked_once {slot = slot} {size} {old} {new} can few is = record { size = size; within = few; looked = changed_source slot (looks size) old new can is; others = keeps_others slot (looks size) old new is }
+looked_once {size} can few is = record { size = size; within = few; looked = changed_source _ _ _ _ can is; others = keeps_others _ _ _ _ is }
 
 -- more of them
 pub looked_again : {least most slot : ℕ} {old mid new : List Source} → HasLooked most slot old mid
@@ -45,32 +43,32 @@ pub looked_again : {least most slot : ℕ} {old mid new : List Source} → HasLo
 looked_again first next few = record {
   size = max first.size next.size;
   within = omega arith;
-  looked = grind (arith, common_steps);
-  others = grind (arith, common_steps, keeps_again);
+  looked = grind arith;
+  others = grind (arith, keeps_again);
 }
 
 -- an input that was looked at can still be read
 pub looked_readable : {most slot : ℕ} {old new : List Source} → HasLooked most slot old new
     → IsTrue (is_readable old slot) → IsTrue (is_readable new slot)
-looked_readable looked can = grind (arith, common_steps)
+looked_readable looked can = grind arith
 
 -- where none is passed over, what holds of nothing holds
 pub passes_none : (told : Bool) {slot : ℕ} (Keeps : List ℕ → Type 0) {sources : List Source} → Keeps []
     → PassesOver told slot 0 Keeps sources sources
-passes_none told Keeps keeps = grind (arith, common_steps, none_passed)
+passes_none told Keeps keeps = grind (arith, none_passed)
 
 -- a front of the bytes that are left was passed over
 passes_front : (told : Bool) {slot count : ℕ} {old new : List Source} → IsTrue (is_readable old slot)
     → (told ≡ true → count ≤ length (source_at old slot).left.bytes) → count < 2 ^ 63
     → new ≡ changed_at slot (skips count) old
     → PassesOver told slot count (λ x. Unit {0}) old new
-passes_front true {slot} {count} {old} {new} can has few passed =
+passes_front true {slot} {count} {old} can has few passed =
     let bytes = (source_at old slot).left.bytes in
     let long : length (take count bytes) ≡ count = length-take-le count bytes (has refl) in record {
       few = few;
       front = take count bytes;
       long = sym long;
-      there = λ t. rw (ap (λ (source : Source). source.left.bytes) (passed_at slot count old new can passed)) (sym (take-append-drop count bytes));
+      there = λ t. rw (ap (λ (source : Source). source.left.bytes) (passed_at _ _ _ _ can passed)) (sym (take-append-drop count bytes));
       passed = passed;
       keeps = tt;
     }
@@ -88,36 +86,33 @@ pub passes_if : (told done : Bool) {slot count : ℕ} {old new : List Source} �
     → (IsTrue done → told ≡ true → count ≤ length (source_at old slot).left.bytes) → count < 2 ^ 63
     → (IsTrue done → new ≡ changed_at slot (skips count) old) → (done ≡ false → new ≡ old)
     → PassesOver told slot (if done then count else 0) (λ x. Unit {0}) old new
-passes_if told true can has few passed stays = passes_front told can (has refl) few (passed refl)
-passes_if told false can has few passed stays = rw (stays refl) (passes_none told _ tt)
+passes_if told true can has few passed stays = passes_front _ can (has refl) few (passed refl)
+passes_if told false can has few passed stays = rw (stays refl) (passes_none _ _ tt)
 
 -- whether they were is known
 pub passes_by : {told : Bool} {slot : ℕ} {Keeps : List ℕ → Type 0} {old new : List Source} (count : ℕ) (done : Bool)
     {is : Bool} → done ≡ is
     → PassesOver told slot (if done then count else 0) Keeps old new
     → PassesOver told slot (if is then count else 0) Keeps old new
-passes_by count done is passes = grind (arith, common_steps)
+passes_by count done is passes = grind arith
 
 -- what holds of the bytes that were passed over
 pub passes_so : {told : Bool} {slot count : ℕ} {Before : List ℕ → Type 0} (Keeps : List ℕ → Type 0)
     {old new : List Source}
     → PassesOver told slot count Before old new → ((x : List ℕ) → count ≡ length x → Before x → Keeps x)
     → PassesOver told slot count Keeps old new
-passes_so Keeps passes so = grind (arith, common_steps)
+passes_so Keeps passes so = grind arith
 
 -- a stage that takes in none stays as it was
 
 module _ {S : Type 0} (terms : Terms S) where
-  took_none : {stage : S} → terms.Holds stage [] → terms.size stage ≡ 0 → TookIn terms stage stage []
-  took_none fresh none = grind (arith, common_steps)
-
   pub loads_none : (told : Bool) {slot : ℕ} {stage : S} {sources : List Source} → terms.Holds stage []
       → terms.size stage ≡ 0
       → Loads terms told slot 0 stage stage sources sources
-  loads_none told fresh none = passes_none told _ (took_none fresh none)
+  loads_none told fresh none = passes_none _ _ (grind arith)
 
   -- also where more might have been passed over
   pub loads_still : {told : Bool} {slot : ℕ} {Before : List ℕ → Type 0} {stage : S} {old new : List Source}
       → terms.Holds stage []
       → terms.size stage ≡ 0 → PassesOver told slot 0 Before old new → Loads terms told slot 0 stage stage old new
-  loads_still fresh none passes = grind (arith, common_steps, passes_so, took_none)
+  loads_still fresh none passes = grind (arith, common_steps)

@@ -1,7 +1,7 @@
 -- Lemmas on messages.
 use Rattle.std.proofs.{
-  lemmas.Grind.common_steps,
-  Common.{◌≡◌, ℕ, Bool, false, List, [], ◌∷◌, ◌++◌, take, Result, Ok, Err, OnOk, IfErr, ◌⊎◌, refl, sym, ◌∙◌, ap, arith},
+  Common.{◌≡◌, ℕ, Bool, false, List, [], ◌∷◌, ◌++◌, take, Result, Ok, Err, OnOk, IfErr, ◌⊎◌, refl, sym, ◌∙◌, ap},
+  Common.arith,
 }
 use Rattle.ports_core.specs.{
   Slot.{Slot, slot_at, with_written, with_broken, adds, breaks, told_of},
@@ -19,7 +19,7 @@ use Rattle.ports_core.specs.{
 pub prints_on : (told : Bool) {text : List ℕ} {old new : List Slot} (result : Result (Unit {0}) WriteCut)
     → (slot_at old 1).is_broken ≡ false → OnOk result (new ≡ with_written 1 (told_of told text) old)
     → IfErr result (λ at. BrokeAfter told old new 1 text at.written) → PrintsOn told text old new
-prints_on told (Ok u) sound out broke output error since is = grind (arith, common_steps)
+prints_on told (Ok u) sound out broke output error since is = grind arith
 prints_on told {text} (Err at) sound out broke output error since is =
     let (why, slots) = broke.slots in
     let part = told_of told (take at.written text) in
@@ -39,14 +39,14 @@ pub told_aloud : (told : Bool) {speaker : Speaker} (fault : Fault) {old new : Li
     → is_quiet fault speaker.calling (output_reason old fault) ≡ false
     → SaysOn told speaker (output_reason old fault) (message_of fault (output_named old fault)) old new
     → TellsOn told speaker fault old new × (1 ≡ status_after fault speaker.calling (output_reason old fault))
-told_aloud told fault aloud says = rw aloud (says, refl)
+told_aloud told fault aloud says = grind arith
 
 -- one message more after others
 pub says_more : (told : Bool) (speaker : Speaker) (messages : List Message) (message : Message) (old mid new : Slot)
     → SaysAll told speaker messages old mid → Says told speaker message mid new
     → SaysAll told speaker (messages ++ message ∷ []) old new
-says_more told speaker [] message old mid new so_far says = grind (arith, common_steps)
-says_more told speaker (first ∷ messages) message old mid new so_far says = (so_far.0, so_far.1, says_more told speaker messages message so_far.0 mid new so_far.2 says)
+says_more told speaker [] message old mid new so_far says = grind arith
+says_more told speaker (first ∷ messages) message old mid new so_far says = (so_far.0, so_far.1, says_more _ _ messages _ _ _ _ so_far.2 says)
 
 -- an output that is open stays open whatever is said on it
 pub printed_open : (told : Bool) (text : List ℕ) (old new : Slot) → Prints told text old new → new.state ≡ old.state
@@ -54,18 +54,14 @@ printed_open told text old new (whole sound is) = cc
 printed_open told text old new (cut sound n why within is) = cc
 printed_open told text old new (passed broken is) = cc
 
-pub said_state : (told : Bool) (speaker : Speaker) (message : Message) (old new : Slot)
-    → Says told speaker message old new → new.state ≡ old.state
-said_state told speaker message old new (why, says) = printed_open told says.said old new says.printed
-
 pub all_said_state : (told : Bool) (speaker : Speaker) (messages : List Message) (old new : Slot)
     → SaysAll told speaker messages old new → new.state ≡ old.state
 all_said_state told speaker [] old new is = cc
 all_said_state told speaker (message ∷ messages) old new says =
-    grind (arith, common_steps, said_state, all_said_state told speaker messages says.0 new says.2)
+    grind (arith, all_said_state _ _ messages _ _ says.2)
 
 pub says_after : (told : Bool) (speaker : Speaker) (messages more : List Message) (old mid new : Slot)
     → SaysAll told speaker messages old mid → SaysAll told speaker more mid new
     → SaysAll told speaker (messages ++ more) old new
-says_after told speaker [] more old mid new so_far says = grind (arith, common_steps)
-says_after told speaker (first ∷ messages) more old mid new so_far says = (so_far.0, so_far.1, says_after told speaker messages more so_far.0 mid new so_far.2 says)
+says_after told speaker [] more old mid new so_far says = grind arith
+says_after told speaker (first ∷ messages) more old mid new so_far says = (so_far.0, so_far.1, says_after _ _ messages _ _ _ _ so_far.2 says)

@@ -1,15 +1,15 @@
 -- A file with the next name that wasn't opened: why, and what that leaves.
 use Rattle.std.proofs.{
-  Common.{◌≡◌, ℕ, ◌<◌, ◌^◌, Bool, List, [], ◌∷◌, ◌++◌, ◌⊎◌, length, take, drop, None, Some, inl, inr, refl, sym, subst},
-  Common.{ap, ◌∙◌, IsTrue, arith, append_assoc},
-  lemmas.{Grind.common_steps, List.{append-nil, take-append-drop}},
+  Common.{◌≡◌, ℕ, ◌<◌, ◌^◌, Bool, List, [], ◌∷◌, ◌++◌, ◌⊎◌, length, take, drop, None, Some, inl, inr, refl, sym},
+  Common.{subst, ap, ◌∙◌, IsTrue, arith, append_assoc},
+  lemmas.List.{append-nil, take-append-drop},
 }
 use Rattle.ports_core.specs.{
-  Names.{next_name, has_next, with_one_drawn, told_next, line_next, OpensNone, no_memory, no_line, no_file, no_number},
-  Names.no_name,
+  Names.{next_name, has_next, with_one_drawn, told_next, line_next, OpensNone, no_memory, no_line, no_file},
+  Names.{no_number, no_name},
   Slot.{Slot, FailsToOpen, broke, numberless, unopened, told_of, with_written},
-  Part.{File, Part, Begins, IsAt, IsBeginning, IsDueLine, IsNext, Marks, Output},
-  Turn.AllClosed,
+  Part.{File, Part, Begins, IsAt, IsBeginning, IsDueLine, IsNext, Marks, Output, nothing},
+  InTurn.AllClosed,
   Draft.{output_of, part_with, told_before, told_of_files},
   Write.BrokeAfter,
   inner.Names.TellsOpening,
@@ -32,7 +32,7 @@ pub opens_none : (told : Bool) (tells : Tells) (names : Names) {next : Names} {n
     → mid ≡ told_next told tells names old → {fault : Fault} → FailsToOpen mid name new fault
     → OpensNone told tells names next old new fault
 opens_none told tells names old named few has drew line (broke slot kept why at is made) =
-    no_file slot kept why (at ∙ ap length line ∙ length-changed_at 0 _ old) few has drew
+    no_file slot kept why (at ∙ ap length line ∙ length-changed_at 0 _ _) few has drew
     (subst (λ those. (kept ≡ those) ⊎ (kept ≡ [])) named is) (made ∙ ap (λ slots. slots ++ unopened why kept ∷ []) line)
 opens_none told tells names old named few has drew line (numberless full same) = no_number few has (same ∙ line)
 
@@ -42,12 +42,13 @@ pub untold : (told : Bool) (tells : Tells) (names : Names) {next : Names} {name 
     → TellsOpening told (told_before (output_of tells) name) old new (Some fault)
     → OpensNone told tells names next old new fault
 untold told tells names {next} old new named few has (inl (is, same)) = subst (OpensNone told tells names next old new) (sym is) (no_memory same)
-untold told tells names old new named few has (inr (short.broke n cut)) = no_line n few has (subst (λ name. BrokeAfter told old new 0 (told_before (output_of tells) name) n) named cut)
+untold told tells names old new named few has (inr (short.broke n cut)) = no_line n few has
+    (subst (λ name. BrokeAfter told old new 0 (told_before (output_of tells) name) n) named cut)
 
 pub told_so : (told : Bool) (tells : Tells) (names : Names) {name : List ℕ} (old mid : List Slot)
     → name ≡ next_name names → TellsOpening told (told_before (output_of tells) name) old mid None
     → mid ≡ told_next told tells names old
-told_so told tells names old mid named tells_it = grind (arith, common_steps)
+told_so told tells names old mid named tells_it = grind arith
 
 -- the name that is due
 abbrev pub IsNextName : Names → List ℕ → Type 0
@@ -67,8 +68,26 @@ pub record StopsOpening (told : Bool) (tells : Tells) (names : Names) (old new :
 
 pub stops_opening : {told : Bool} {tells : Tells} {names next : Names} {old new : List Slot} {fault : Fault}
     → 0 < length old → OpensNone told tells names next old new fault → StopsOpening told tells names old new fault
-stops_opening {told} {old = old} some (no_memory same) = record { bytes = []; reached = old; wrote = none_written told 0; begins = inl refl; due = λ line is. inl refl; marks = same; at = λ first place. tt }
-stops_opening {told} {old = old} some (no_name few none same) = record { bytes = []; reached = old; wrote = none_written told 0; begins = inl refl; due = λ line is. refl; marks = same; at = λ first place. tt }
+stops_opening {old = old} some (no_memory same) = record {
+  bytes = [];
+  reached = old;
+  wrote =
+      none_written _ 0;
+  begins = inl refl;
+  due = λ line is. inl refl;
+  marks = same;
+  at = λ first place. tt;
+}
+stops_opening {old = old} some (no_name few none same) = record {
+  bytes = [];
+  reached = old;
+  wrote =
+      none_written _ 0;
+  begins = inl refl;
+  due = λ line is. refl;
+  marks = same;
+  at = λ first place. tt;
+}
 stops_opening {told} {tells} {names} {old = old} some (no_line n few has cut) = record {
   bytes = take n (line_next tells names);
   reached = with_written 0 (told_of told (take n (line_next tells names))) old;
@@ -84,16 +103,16 @@ stops_opening {told} {tells} {names} {old = old} some (no_file slot kept why at 
   bytes = line_next tells names;
   reached = told_next told tells names old;
   wrote = refl;
-  begins = inr ((few, has, refl), begins_itself (line_next tells names));
+  begins = inr ((few, has, refl), begins_itself _);
   due = λ line is. (next_name names, (few, has, refl), is);
-  marks = (at ∙ sym (length-changed_at 0 _ old), (next_name names, kept, why, (few, has, refl), is, made));
+  marks = (at ∙ sym (length-changed_at 0 _ _), (next_name names, kept, why, (few, has, refl), is, made));
   at = λ first place. refl;
 }
 stops_opening {told} {tells} {names} {old = old} some (no_number few has same) = record {
   bytes = line_next tells names;
   reached = told_next told tells names old;
   wrote = refl;
-  begins = inr ((few, has, refl), begins_itself (line_next tells names));
+  begins = inr ((few, has, refl), begins_itself _);
   due = λ line is. inr (next_name names, (few, has, refl), is);
   marks = same;
   at = λ first place. tt;
@@ -117,12 +136,13 @@ pub opens_not : {output : Output} {told : Bool} (front : List File) {tells : Tel
     (file_of (next_name names) bytes state.Open)))
     → StopsOpening told tells names old new fault
     → Becomes output told (part_with output front) high old new (Some fault)
-opens_not {output} {told} front {tells} {names} {high} {old} {new} {fault} told_so closed begins is stops =
-    becomes_again (line_begins stops.bytes) (out_added told stops.bytes old stops.wrote) (halts_here (elim stops.begins [
-      | inl none ↦ subst (λ bytes. Begins (begun_with output front bytes) high) (sym none) (subst (λ out. Begins (record { out = out; files = front }) high) (sym (append-nil (told_of_files output front))) begins)
+opens_not {output} {told} front {tells} {names} {high} told_so closed begins is stops =
+    becomes_again (line_begins _) (out_added _ _ _ stops.wrote) (halts_here (elim stops.begins [
+      | inl none ↦ subst (λ bytes. Begins (begun_with output front bytes) high) (sym none)
+          (subst (λ out. Begins (record { out = out; files = front }) high) (sym (append-nil (told_of_files output front))) begins)
       | inr some ↦ begun some.0 some.1
-    ]) (turn_next front closed) (lines_due output front (next_name names) stops.bytes high fault none (λ line same. due_by _ _ line stops.bytes fault next (stops.due line (told_so ∙ same))))
-    (marks_by _ _ fault stops.reached new next stops.marks) (λ before at. stops.at (length before) (length front))) where
+    ]) (turn_next _ closed) (lines_due _ _ _ _ _ _ none (λ line same. due_by _ _ _ _ _ next (stops.due line (told_so ∙ same))))
+    (marks_by _ _ _ _ _ next stops.marks) (λ before at. stops.at (length before) (length front))) where
       next : (name : List ℕ) → IsNextName names name → IsNext (begun_with output front stops.bytes) high name
       next name (few, has, named) = let (bytes, so) = is (few, has, refl) in record {
         front = front;
@@ -136,12 +156,16 @@ opens_not {output} {told} front {tells} {names} {high} {old} {new} {fault} told_
       begun : IsNextName names (next_name names) → IsBeginning stops.bytes (line_next tells names)
           → Begins (begun_with output front stops.bytes) high
       begun due (rest, line) = let (bytes, so) = is due in subst (λ part. Begins (begun_with output front stops.bytes) part) (sym so) (record {
-        out = (rest, ap (λ text. told_of_files output front ++ text) (sym told_so ∙ line) ∙ sym (append_assoc (told_of_files output front) stops.bytes rest));
-        files = more_files front (file_of (next_name names) bytes state.Open ∷ []);
+        out = (
+          rest,
+          ap (λ text. told_of_files output front ++ text) (sym told_so ∙ line) ∙ sym
+              (append_assoc (told_of_files output front) stops.bytes rest),
+        );
+        files = more_files _ _;
       })
 
       none : told_before output (next_name names) ≡ [] → stops.bytes ≡ []
       none nothing = elim stops.begins [
         | inl are ↦ are
-        | inr some ↦ nothing_in stops.bytes some.1.0 (sym some.1.1 ∙ told_so ∙ nothing)
+        | inr some ↦ nothing_in _ _ (sym some.1.1 ∙ told_so ∙ nothing)
       ]

@@ -1,20 +1,15 @@
 -- Lemmas on what outputs have got.
 use Rattle.std.proofs.{
-  lemmas.{
-    Grind.common_steps,
-    List.{append-nil, take-append-drop, drop_all, length-map},
-    Bool.{false≢true, and_parts, not-true},
-  },
-  Common.{◌≡◌, ℕ, ◌+◌, ◌<◌, ◌≤◌, zero, suc, List, [], ◌∷◌, ◌++◌, length, take, drop, Bool, true, false, IsTrue, ◌⊎◌},
-  Common.{inl, inr, refl, sym, ◌∙◌, ap, arith, append_assoc, rules},
+  lemmas.{Grind.common_steps, List.{append-nil, take-append-drop, drop_all, length-map}},
+  Common.{◌≡◌, ℕ, ◌+◌, ◌<◌, ◌≤◌, zero, suc, List, [], ◌∷◌, ◌++◌, length, take, drop, Bool, true, false, IsTrue},
+  Common.{◌⊎◌, inl, inr, refl, sym, ◌∙◌, ap, arith, append_assoc, rules},
 }
 use Rattle.ports_core.specs.{
   Slot.{Slot, slot_at, is_writable, with_written, with_broken, told_of},
   Write.BrokeAfter,
   Part.{File, Part, nothing, only_out, OutputsAt, IsBeginning, FilesBegin, Begins, IsNext, Marks, IsAt, InOrder},
-  Part.{StoppedBetween, Output, gets_none, gets_bytes, gets_lines, gets_openings, openings_for, IsDueLine},
-  Part.LinesInOrder,
-  Turn.{AllClosed, InTurn, StoppedInTurn, LinesTo},
+  Part.{StoppedBetween, Output, gets_bytes, gets_lines, gets_openings, openings_for, IsDueLine, LinesInOrder},
+  InTurn.{AllClosed, InTurn, StoppedInTurn, LinesTo},
   inner.Part.HasLines,
   declared.{reason.Reason.Reason, slot.State.State, fault.Fault.{Fault, TheVariants.{Memory, Write, Open}}},
 }
@@ -39,32 +34,36 @@ pub begins_trans : (low middle high : List ℕ) → IsBeginning low middle → I
 begins_trans low middle high (rest, is) (more, is_too) = grind (arith, common_steps)
 
 pub take_begins_after : (n : ℕ) (before bytes : List ℕ) → IsBeginning (before ++ take n bytes) (before ++ bytes)
-take_begins_after n before bytes = (drop n bytes, ap (λ rest. before ++ rest) (sym (take-append-drop n bytes)) ∙ sym (append_assoc before (take n bytes) (drop n bytes)))
+take_begins_after n before bytes = (
+  drop n bytes,
+  ap (λ rest. before ++ rest) (sym (take-append-drop n bytes)) ∙ sym
+      (append_assoc before (take n bytes) (drop n bytes)),
+)
 
 -- a file that is open may be closed by then; any other stays
 pub kept_trans : {X : Type 0} (state_of : X → State) (low middle high : X)
     → (state_of low ≡ state.Open) ⊎ (low ≡ middle) → (state_of middle ≡ state.Open) ⊎ (middle ≡ high)
     → (state_of low ≡ state.Open) ⊎ (low ≡ high)
 kept_trans state_of low middle high (inl is) second = inl is
-kept_trans state_of low middle high (inr same) (inl is) = inl (ap state_of same ∙ is)
+kept_trans state_of low middle high (inr same) (inl is) = search rules
 kept_trans state_of low middle high (inr same) (inr also) = inr (same ∙ also)
 
 pub files_begin_themselves : (files : List File) → FilesBegin files files
 files_begin_themselves [] = tt
-files_begin_themselves (file ∷ files) = grind (arith, common_steps, begins_itself, files_begin_themselves files)
+files_begin_themselves (file ∷ files) = grind (arith, begins_itself, files_begin_themselves files)
 
 pub files_trans : (low middle high : List File) → FilesBegin low middle → FilesBegin middle high → FilesBegin low high
 files_trans [] middle high first second = tt
 files_trans (file ∷ files) [] high first second = absurd first
 files_trans (file ∷ files) (mid ∷ middle) [] first second = absurd second
 files_trans (file ∷ files) (mid ∷ middle) (whole ∷ high) first second =
-    grind (arith, common_steps, kept_trans, begins_trans, files_trans files middle high first.5 second.5)
+    grind (arith, common_steps, kept_trans, begins_trans, files_trans files _ _ first.5 second.5)
 
 pub part_begins_itself : (part : Part) → Begins part part
-part_begins_itself part = grind (arith, common_steps, begins_itself, files_begin_themselves)
+part_begins_itself part = grind (arith, begins_itself, files_begin_themselves)
 
 pub part_trans : (low middle high : Part) → Begins low middle → Begins middle high → Begins low high
-part_trans low middle high first second = grind (arith, common_steps, begins_trans, files_trans)
+part_trans low middle high first second = search (rules, begins_trans, files_trans)
 
 -- parts that have bytes on standard output alone
 
@@ -75,11 +74,11 @@ out_begins low high begins = search rules
 pub out_more : (told : Bool) (before : List Slot) (part : Part) (old new : List Slot) (more : List ℕ)
     → OutputsAt told before part old → new ≡ with_written 0 (told_of told more) old
     → OutputsAt told before (record part { out = part.out ++ more }) new
-out_more told before part old new more at wrote = grind (arith, common_steps, changed_at-append, length-changed_at, with_written-append, told_of-append)
+out_more told before part old new more at wrote = grind (arith, changed_at-append, length-changed_at, with_written-append, told_of-append)
 
 -- nothing was written yet
 pub nothing_out : (told : Bool) (before : List Slot) → 0 < length before → OutputsAt told before nothing before
-nothing_out told before standard = grind (arith, common_steps, append-nil, told_of-nil, with_written-nil)
+nothing_out told before standard = grind (arith, append-nil, told_of-nil, with_written-nil)
 
 -- how many slots there are
 pub outputs_count : (told : Bool) (before : List Slot) (part : Part) (now : List Slot) → OutputsAt told before part now
@@ -88,7 +87,7 @@ outputs_count told before part now at = grind (arith, common_steps, length-chang
 
 -- no file is touched
 pub still_in_order : (files : List File) → InOrder files files files 0
-still_in_order files = grind (arith, common_steps)
+still_in_order files = search rules
 
 -- it isn't that a file could not be opened
 abbrev pub IsNoOpen : Fault → Type 0
@@ -106,10 +105,9 @@ none_due IsDue line fault other = refl
 -- nothing was written
 pub lines_still : (output : Output) (part high : Part) (place : ℕ) (fault : Fault) → IsNoOpen fault
     → LinesInOrder output part part high place fault
-lines_still gets_none part high place fault other = tt
-lines_still gets_bytes part high place fault other = tt
 lines_still (gets_lines line) part high place fault other = inl refl
-lines_still (gets_openings line) part high place fault other = grind (arith, common_steps, append-nil, none_due)
+lines_still (gets_openings line) part high place fault other = grind (arith, common_steps)
+lines_still output part high place fault other = tt
 
 -- a write of which the beginning was written before the output broke
 pub out_cut : (told : Bool) (before : List Slot) (part : Part) (old new : List Slot) (more : List ℕ) (n : ℕ)
@@ -120,7 +118,7 @@ out_cut told before part old new more n at broke = record {
   above = grind (arith, common_steps, begins_more, files_begin_themselves);
   below = grind (arith, common_steps, take_begins_after, files_begin_themselves);
   place = 0;
-  order = still_in_order part.files;
+  order = still_in_order _;
   lines = tt;
   reached = with_written 0 (told_of told (take n more)) old;
   outputs = grind (arith, common_steps, out_more);
@@ -140,22 +138,22 @@ stopped_here output told before low high fault old new at begins marks from othe
 -- an output that could be written broke
 pub broken_at : (why : Reason) (place : ℕ) (slots : List Slot) → IsTrue (is_writable slots place)
     → (slot_at (with_broken why place slots) place).is_broken ≡ true
-broken_at why place [] can = absurd (false≢true can)
+broken_at why place [] can = search rules
 broken_at why zero (slot ∷ slots) can = refl
-broken_at why (suc place) (slot ∷ slots) can = broken_at why place slots can
+broken_at why (suc place) (slot ∷ slots) can = broken_at _ _ slots can
 
 pub sound_at : (place : ℕ) (slots : List Slot) → IsTrue (is_writable slots place)
     → (slot_at slots place).is_broken ≡ false
-sound_at place slots can = grind (arith, common_steps, not-true, and_parts)
+sound_at place slots can = search rules
 
 pub nothing_begins_part : (part : Part) → Begins nothing part
-nothing_begins_part part = grind (arith, common_steps)
+nothing_begins_part part = search rules
 
 -- the mark of a fault, where the next file is known by another sentence
 pub marks_by : (IsName IsOther : List ℕ → Type 0) (fault : Fault) (before after : List Slot)
     → ((name : List ℕ) → IsName name → IsOther name) → Marks IsName fault before after
     → Marks IsOther fault before after
-marks_by IsName IsOther (Open slot) before after also is = grind (arith, common_steps)
+marks_by IsName IsOther (Open slot) before after also is = grind arith
 marks_by IsName IsOther fault before after also is = is
 
 -- the files of a part are at their places in what it begins
@@ -165,14 +163,14 @@ next_in : (part : Part) {name : List ℕ} (front : List File) (file : File) (res
     × (one.name ≡ name)
 next_in part [] file rest (one ∷ more) begins place named = ([], one, more, refl, place, sym begins.0 ∙ named)
 next_in part (first ∷ front) file rest (one ∷ more) begins place named =
-    let past = next_in part front file rest more begins.5 refl named in
+    let past = next_in part front _ _ _ begins.5 refl named in
     (one ∷ past.0, past.1, past.2, ap (λ files. one ∷ files) past.3, ap suc past.4 ∙ place, past.5)
 next_in part front file rest files begins place named = absurd begins
 
 next_wider : {part high : Part} (more : Part) → Begins high more → (name : List ℕ) → IsNext part high name
     → IsNext part more name
 next_wider {part} more begins name next =
-    let found = next_in part next.front next.file next.rest more.files (rw next.files at begins.files) next.place next.name_is in
+    let found = next_in part _ _ _ _ (rw next.files at begins.files) next.place next.name_is in
     record { front = found.0; file = found.1; rest = found.2; files = found.3; place = found.4; name_is = found.5 }
 
 -- the line for the file that is due, where that is known by another sentence
@@ -180,18 +178,17 @@ pub due_by : (IsDue IsOther : List ℕ → Type 0) (line : List ℕ → List ℕ
     → ((name : List ℕ) → IsDue name → IsOther name) → IsDueLine IsDue line bytes fault
     → IsDueLine IsOther line bytes fault
 due_by IsDue IsOther line bytes (Write slot) also (inl none) = inl none
-due_by IsDue IsOther line bytes (Write slot) also (inr (out, (name, due, begins))) = inr (out, (name, also name due, begins))
-due_by IsDue IsOther line bytes (Open slot) also (name, due, whole) = (name, also name due, whole)
+due_by IsDue IsOther line bytes (Write slot) also (inr (out, (name, due, begins))) = search rules
+due_by IsDue IsOther line bytes (Open slot) also (name, due, whole) = search rules
 due_by IsDue IsOther line bytes Memory also (inl none) = inl none
-due_by IsDue IsOther line bytes Memory also (inr (name, due, whole)) = inr (name, also name due, whole)
+due_by IsDue IsOther line bytes Memory also (inr (name, due, whole)) = search rules
 due_by IsDue IsOther line bytes fault also due = due
 
 lines_wider : (output : Output) (part high more : Part) (place : ℕ) (fault : Fault) → Begins high more
     → LinesTo output part high place fault → LinesTo output part more place fault
-lines_wider gets_none part high more place fault begins lines = tt
-lines_wider gets_bytes part high more place fault begins lines = tt
 lines_wider (gets_lines line) part high more place fault begins lines = lines
-lines_wider (gets_openings line) part high more place fault begins lines = record { next = lines.next; all = lines.all; due = due_by _ _ line lines.next fault (next_wider more begins) lines.due }
+lines_wider (gets_openings line) part high more place fault begins lines = search (rules, due_by, next_wider)
+lines_wider output part high more place fault begins lines = tt
 
 -- what stopped in turn between two parts stopped between one that begins the lower and one that the higher begins
 pub turn_between : (output : Output) (told : Bool) (before : List Slot) (less low high more : Part) (fault : Fault)
@@ -210,22 +207,22 @@ done_by zero part high begins closed within = refl
 done_by (suc place) [] high begins closed within = absurd (omega arith)
 done_by (suc place) (file ∷ part) [] begins closed within = absurd begins
 done_by (suc place) (file ∷ part) (whole ∷ high) begins closed within =
-    grind (arith, common_steps, closed_stays, done_by place part high begins.5 closed.1 (omega arith))
+    grind (arith, closed_stays, done_by place _ _ begins.5 closed.1 (omega arith))
 
 pub no_fewer : (low part : List File) → FilesBegin low part → length low ≤ length part
 no_fewer [] part begins = omega arith
 no_fewer (file ∷ low) [] begins = absurd begins
-no_fewer (file ∷ low) (whole ∷ part) begins = omega (arith, no_fewer low part begins.5)
+no_fewer (file ∷ low) (whole ∷ part) begins = omega (arith, no_fewer low _ begins.5)
 
 -- in turn is in order
 pub in_order : {low part high : List File} {place : ℕ} → FilesBegin low part → FilesBegin part high → InTurn part place
     → InOrder low part high place
-in_order above below turn = grind (arith, common_steps, done_by, drop_all, no_fewer)
+in_order above below turn = grind (arith, done_by, drop_all, no_fewer)
 
 pub openings-append : (line : List ℕ → List ℕ) (some more : List File)
     → openings_for line (some ++ more) ≡ openings_for line some ++ openings_for line more
 openings-append line [] more = refl
-openings-append line (file ∷ some) more = grind (arith, common_steps, append_assoc, openings-append line some more)
+openings-append line (file ∷ some) more = grind (arith, append_assoc, openings-append line some more)
 
 -- the lines for files that are there, and for those that were opened since
 pub openings_since : (line : List ℕ → List ℕ) (low part : List File) → FilesBegin low part
@@ -233,21 +230,21 @@ pub openings_since : (line : List ℕ → List ℕ) (low part : List File) → F
 openings_since line [] part begins = refl
 openings_since line (file ∷ low) [] begins = absurd begins
 openings_since line (file ∷ low) (whole ∷ part) begins =
-    grind (arith, common_steps, append_assoc, openings_since line low part begins.5)
+    grind (arith, append_assoc, openings_since line low _ begins.5)
 
 -- the lines that standard output had in the lower part, and those that it got since
 lines_in_order : (output : Output) (low part high : Part) (place : ℕ) (fault : Fault) → Begins low part
     → HasLines output low.out low.files → LinesTo output part high place fault
     → LinesInOrder output low part high place fault
-lines_in_order gets_none low part high place fault above has lines = tt
-lines_in_order gets_bytes low part high place fault above has lines = tt
 lines_in_order (gets_openings line) low part high place fault above has lines = record {
   next = lines.next;
-  all = lines.all ∙ ap (λ had. had ++ lines.next) (openings_since line low.files part.files above.files ∙ ap (λ had. had ++ openings_for line (drop (length low.files) part.files)) (sym has))
+  all = lines.all ∙ ap (λ had. had ++ lines.next) (openings_since _ _ _ above.files ∙ ap
+      (λ had. had ++ openings_for line (drop (length low.files) part.files)) (sym has))
       ∙ append_assoc low.out (openings_for line (drop (length low.files) part.files)) lines.next;
   due = lines.due;
 }
-lines_in_order (gets_lines line) low part high place fault above has lines = grind (arith, common_steps)
+lines_in_order (gets_lines line) low part high place fault above has lines = grind arith
+lines_in_order output low part high place fault above has lines = tt
 
 pub stopped_in_turn : (output : Output) (told : Bool) (before : List Slot) (low high : Part) (fault : Fault)
     (now : List Slot) → HasLines output low.out low.files → StoppedInTurn output told before low high fault now

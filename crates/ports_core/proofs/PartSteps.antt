@@ -9,9 +9,9 @@ use Rattle.ports_core.specs.{
   declared.{reason.Reason.TheVariants.Other, fault.Fault.Fault, slot.{Mode.TheVariants.Fresh, State.State}},
   Draft.{told_before, told_of_files},
   Slot.{SlotBreaks, Slot, opened, changed_at, adds, closes, with_written, told_of},
-  Part.{File, Part, OutputsAt, Begins, FilesBegin, IsNext, Marks, IsAt, IsDueLine, Output, gets_none, gets_bytes},
-  Part.{gets_lines, gets_openings, lines_for, openings_for},
-  Turn.{AllClosed, InTurn, IsThere, LinesTo},
+  Part.{File, Part, OutputsAt, Begins, FilesBegin, IsNext, Marks, IsAt, IsDueLine, Output, gets_lines, gets_openings},
+  Part.{lines_for, openings_for},
+  InTurn.{AllClosed, InTurn, IsThere, LinesTo},
   inner.Write.Wrote,
 }
 use Rattle.ports_core.proofs.{
@@ -33,20 +33,20 @@ pub there_from : (output : Output) (told : Bool) (There : Type 0) (before : List
     (new : List Slot) (fault : Option Fault) → Begins low middle
     → IsThere output told There before middle high new fault → IsThere output told There before low high new fault
 there_from output told There before high new None begins at = at
-there_from output told There before {low} {middle} high new (Some fault) begins at =
+there_from output told There before high new (Some fault) begins at =
     grind (arith, common_steps, turn_between, part_begins_itself)
 
 pub becomes_again : {output : Output} {told : Bool} {low middle high : Part} {old mid new : List Slot}
     {fault : Option Fault} → Begins low middle → Becomes output told low middle old mid None
     → Becomes output told middle high mid new fault → Becomes output told low high old new fault
-becomes_again {output} {told} {high = high} {new = new} {fault} begins first second =
+becomes_again begins first second =
     grind (arith, common_steps, gets, there_from)
 
 pub falls_wider : {output : Output} {told : Bool} {low middle high : Part} {old new : List Slot} {fault : Fault}
     → Becomes output told low middle old new (Some fault) → Begins middle high
     → Becomes output told low high old new (Some fault)
-falls_wider {output} {told} {low} {middle} {high} {new = new} {fault = fault} falls begins =
-    record { gets = λ before at. turn_between output told before low low middle high fault new (part_begins_itself low) (falls.gets before at) begins }
+falls_wider falls begins =
+    record { gets = λ before at. turn_between _ _ _ _ _ _ _ _ _ (part_begins_itself _) (falls.gets before at) begins }
 
 -- a file with this name
 abbrev pub file_of : List ℕ → List ℕ → State → File
@@ -64,34 +64,15 @@ begun_out output front name = told_of_files output front ++ told_before output n
 
 pub line_begins : {out : List ℕ} (line : List ℕ) {files : List File}
     → Begins (record { out = out; files = files }) (record { out = out ++ line; files = files })
-line_begins {out} line {files} = grind (arith, common_steps, begins_more, files_begin_themselves)
+line_begins line = grind (arith, begins_more, files_begin_themselves)
 
 pub more_files : (front more : List File) → FilesBegin front (front ++ more)
 more_files [] more = tt
-more_files (file ∷ front) more = (refl, refl, refl, inr refl, begins_itself file.bytes, more_files front more)
-
-pub file_begins : {out : List ℕ} (front : List File) (file : File)
-    → Begins (record { out = out; files = front }) (with_last out front file)
-file_begins {out} front file = record { out = begins_itself out; files = more_files front (file ∷ []) }
+more_files (file ∷ front) more = (refl, refl, refl, inr refl, begins_itself _, more_files front _)
 
 pub front_begins : (front low high : List File) → FilesBegin low high → FilesBegin (front ++ low) (front ++ high)
 front_begins [] low high begins = begins
-front_begins (file ∷ front) low high begins = (refl, refl, refl, inr refl, begins_itself file.bytes, front_begins front low high begins)
-
-pub bytes_more : (out : List ℕ) (front : List File) (name bytes more : List ℕ)
-    → Begins (with_last out front (file_of name bytes state.Open))
-    (with_last out front (file_of name (bytes ++ more) state.Open))
-bytes_more out front name bytes more = record { out = begins_itself out; files = front_begins front (file_of name bytes state.Open ∷ []) (file_of name (bytes ++ more) state.Open ∷ []) (refl, refl, refl, inl refl, begins_more bytes more, tt) }
-
-taken_more : (out : List ℕ) (front : List File) (name bytes more : List ℕ) (n : ℕ)
-    → Begins (with_last out front (file_of name (bytes ++ take n more) state.Open))
-    (with_last out front (file_of name (bytes ++ more) state.Open))
-taken_more out front name bytes more n = record { out = begins_itself out; files = front_begins front (file_of name (bytes ++ take n more) state.Open ∷ []) (file_of name (bytes ++ more) state.Open ∷ []) (refl, refl, refl, inl refl, take_begins_after n bytes more, tt) }
-
-pub close_begins : (out : List ℕ) (front : List File) (name bytes : List ℕ)
-    → Begins (with_last out front (file_of name bytes state.Open))
-    (with_last out front (file_of name bytes state.Closed))
-close_begins out front name bytes = record { out = begins_itself out; files = front_begins front (file_of name bytes state.Open ∷ []) (file_of name bytes state.Closed ∷ []) (refl, refl, refl, inl refl, begins_itself bytes, tt) }
+front_begins (file ∷ front) low high begins = (refl, refl, refl, inr refl, begins_itself _, front_begins front _ _ begins)
 
 -- Steps
 
@@ -104,7 +85,7 @@ pub halts_here : {output : Output} {told : Bool} {low high : Part} {old new : Li
 halts_here {low = low} {old = old} {place = place} begins turn lines marks from = record {
   gets = λ before at. record {
     part = low;
-    above = part_begins_itself low;
+    above = part_begins_itself _;
     below = begins;
     place = place;
     turn = turn;
@@ -119,14 +100,19 @@ halts_here {low = low} {old = old} {place = place} begins turn lines marks from 
 -- the lines for files of which the last one isn't closed, or wasn't when they were written
 pub lines_of_last : (output : Output) (front : List File) (file : File) (high : Part) (fault : Fault) → IsNoOpen fault
     → LinesTo output (with_last (begun_out output front file.name) front file) high (length front) fault
-lines_of_last gets_none front file high fault other = tt
-lines_of_last gets_bytes front file high fault other = tt
-lines_of_last (gets_lines line) front file high fault other = record { next = []; all = ap (λ files. lines_for line files ++ []) (sym (take-append_seam front (file ∷ []))); cut = inl refl }
+lines_of_last (gets_lines line) front file high fault other = record {
+  next = [];
+  all = ap
+      (λ files. lines_for line files ++ []) (sym (take-append_seam front (file ∷ [])));
+  cut = inl refl;
+}
 lines_of_last (gets_openings line) front file high fault other = record {
   next = [];
-  all = sym (append-nil (openings_for line (front ++ file ∷ [])) ∙ openings-append line front (file ∷ []) ∙ ap (λ rest. openings_for line front ++ rest) (append-nil (line file.name)));
-  due = none_due _ line fault other;
+  all = sym (append-nil (openings_for line (front ++ file ∷ [])) ∙ openings-append line front (file ∷ []) ∙ ap
+      (λ rest. openings_for line front ++ rest) (append-nil (line file.name)));
+  due = none_due _ _ _ other;
 }
+lines_of_last output front file high fault other = tt
 
 -- the lines for closed files, and of that for the next one these bytes
 pub lines_due : (output : Output) (front : List File) (name bytes : List ℕ) (high : Part) (fault : Fault)
@@ -135,38 +121,36 @@ pub lines_due : (output : Output) (front : List File) (name bytes : List ℕ) (h
     → IsDueLine
     (IsNext (record { out = told_of_files output front ++ bytes; files = front }) high) line bytes fault)
     → LinesTo output (record { out = told_of_files output front ++ bytes; files = front }) high (length front) fault
-lines_due gets_none front name bytes high fault none due = tt
-lines_due gets_bytes front name bytes high fault none due = tt
-lines_due (gets_lines line) front name bytes high fault none due = record { next = []; all = cc (none refl, take_all (length front) front (omega arith)); cut = inl refl }
-lines_due (gets_openings line) front name bytes high fault none due = record { next = bytes; all = refl; due = due line refl }
+lines_due (gets_lines line) front name bytes high fault none due = grind (arith, take_all)
+lines_due (gets_openings line) front name bytes high fault none due = grind arith
+lines_due output front name bytes high fault none due = tt
 
 -- the lines for closed files alone
 pub lines_all : (output : Output) (front : List File) (high : Part) (fault : Fault) → IsNoOpen fault
     → LinesTo output (record { out = told_of_files output front; files = front }) high (length front) fault
-lines_all gets_none front high fault other = tt
-lines_all gets_bytes front high fault other = tt
-lines_all (gets_lines line) front high fault other = record { next = []; all = cc (append-nil (lines_for line front), take_all (length front) front (omega arith)); cut = inl refl }
-lines_all (gets_openings line) front high fault other = record { next = []; all = sym (append-nil (openings_for line front)); due = none_due _ line fault other }
+lines_all (gets_lines line) front high fault other = grind (arith, common_steps)
+lines_all (gets_openings line) front high fault other = grind (arith, common_steps)
+lines_all output front high fault other = tt
 
 -- standard output gets more
 pub out_added : (told : Bool) {part : Part} (more : List ℕ) (old : List Slot) {new : List Slot} {output : Output}
     → new ≡ with_written 0 (told_of told more) old
     → Becomes output told part (record part { out = part.out ++ more }) old new None
-out_added told {part} more old {new} wrote = record { gets = λ before at. out_more told before part old new more at wrote }
+out_added told more old wrote = record { gets = λ before at. out_more _ _ _ _ _ _ at wrote }
 
 module _ (output : Output) (told : Bool) (out : List ℕ) (front : List File) where
   -- the last slot is that of the last file
   last_place : (file : File) {before old : List Slot} {slot : ℕ} → suc slot ≡ length old
       → OutputsAt told before (with_last out front file) old → slot ≡ length before + length front
   last_place file {before} {old} last at =
-      let all : length old ≡ length before + length (front ++ file ∷ []) = outputs_count told before (with_last out front file) old at in
+      let all : length old ≡ length before + length (front ++ file ∷ []) = outputs_count _ _ _ _ at in
       omega (arith, length-append front (file ∷ []))
 
   -- a file is opened
   pub opens : (name : List ℕ) {old new : List Slot} → new ≡ old ++ opened name Fresh ∷ []
       → Becomes output told (record { out = out; files = front })
       (with_last out front (file_of name [] state.Open)) old new None
-  opens name {old} {new} is = record { gets = λ before at. file_more told before (record { out = out; files = front }) old new name Fresh at is }
+  opens name is = record { gets = λ before at. file_more _ _ _ _ _ _ _ at is }
 
   -- the last file gets bytes
   bytes_added : (name bytes more : List ℕ) {slot : ℕ} (old : List Slot) {new : List Slot} → suc slot ≡ length old
@@ -175,7 +159,8 @@ module _ (output : Output) (told : Bool) (out : List ℕ) (front : List File) wh
       (with_last out front (file_of name (bytes ++ more) state.Open)) old new None
   bytes_added name bytes more {slot} old {new} last wrote = record {
     gets = λ before at.
-        last_changes told (adds (told_of told more)) (gets more) (write_makes told more) before (with_last out front (file_of name bytes state.Open)) front (file_of name bytes state.Open) old new slot refl last at wrote;
+        last_changes told (adds (told_of told more)) (gets more) (write_makes _ _) before
+        (with_last out front (file_of name bytes state.Open)) front (file_of name bytes state.Open) old new slot refl last at wrote;
   }
 
   -- it is closed
@@ -185,7 +170,8 @@ module _ (output : Output) (told : Bool) (out : List ℕ) (front : List File) wh
       (with_last out front (file_of name bytes state.Closed)) old new None
   closes_last name bytes {slot} old {new} last closed = record {
     gets = λ before at.
-        last_changes told closes ended (close_makes told) before (with_last out front (file_of name bytes state.Open)) front (file_of name bytes state.Open) old new slot refl last at closed;
+        last_changes told closes ended (close_makes _) before
+        (with_last out front (file_of name bytes state.Open)) front (file_of name bytes state.Open) old new slot refl last at closed;
   }
 
 -- it gets bytes or is closed, or breaks as it does, where standard output has what it is told of these files
@@ -196,19 +182,20 @@ module _ (output : Output) (told : Bool) (front : List File) (name bytes : List 
       (with_last (begun_out output front name) front (file_of name (bytes ++ more) state.Open)) old new fault
   writes_to more old None closed last wrote = grind (arith, common_steps, bytes_added)
   writes_to more {slot} old (Some _) closed last (short.broke n cut) =
-      becomes_again (bytes_more _ front name bytes (take n more)) (bytes_added output told _ front name bytes (take n more) old last refl) (halts_here (taken_more _ front name bytes more n)
-      (turn_last front (file_of name (bytes ++ take n more) state.Open) (length front) refl closed) (lines_of_last output front (file_of name (bytes ++ take n more) state.Open) _ (fault.Write slot) tt)
-      (let size : length (with_written slot (told_of told (take n more)) old) ≡ length old = length-changed_at slot _ old in omega arith, cut.slots)
-      (λ before at. inr (last_place output told _ front (file_of name (bytes ++ take n more) state.Open) (last ∙ sym (length-changed_at slot _ old)) at)))
+      becomes_again (grind (arith, begins_itself, front_begins, begins_more))
+      (bytes_added _ _ _ _ _ _ _ _ last refl) (halts_here (grind (arith, begins_itself, front_begins, take_begins_after))
+      (turn_last _ _ _ refl closed) (lines_of_last _ _ _ _ _ tt)
+      (let size : length (with_written slot (told_of told (take n more)) old) ≡ length old = length-changed_at _ _ _ in omega arith, cut.slots)
+      (λ before at. inr (last_place output _ _ _ _ (last ∙ sym (length-changed_at _ _ _)) at)))
 
   pub closes_not : {slot : ℕ} (old : List Slot) {new : List Slot} → AllClosed front → suc slot ≡ length old
       → SlotBreaks slot (changed_at slot closes old) new
       → Becomes output told (with_last (begun_out output front name) front (file_of name bytes state.Open))
       (with_last (begun_out output front name) front (file_of name bytes state.Closed)) old new
       (Some (fault.Write slot))
-  closes_not {slot} old closed last is =
-      becomes_again (close_begins _ front name bytes) (closes_last output told _ front name bytes old last refl) (halts_here (part_begins_itself _)
-      (turn_last front (file_of name bytes state.Closed) (length front) refl closed)
-      (lines_of_last output front (file_of name bytes state.Closed) _ (fault.Write slot) tt)
+  closes_not old closed last is =
+      becomes_again (grind (arith, begins_itself, front_begins)) (closes_last _ _ _ _ _ _ _ last refl) (halts_here (part_begins_itself _)
+      (turn_last _ _ _ refl closed)
+      (lines_of_last _ _ _ _ _ tt)
       (omega (arith, length-changed_at), is)
-      (λ before at. inr (last_place output told _ front (file_of name bytes state.Closed) (last ∙ sym (length-changed_at slot closes old)) at)))
+      (λ before at. inr (last_place output _ _ _ _ (last ∙ sym (length-changed_at _ _ _)) at)))

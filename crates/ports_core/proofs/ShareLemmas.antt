@@ -2,14 +2,13 @@
 use Rattle.std.proofs.{
   lemmas.{Grind.common_steps, Bool.cond_both, List.length-map},
   Common.{◌≡◌, ℕ, ◌+◌, suc, Bool, true, false, cond, List, [], ◌∷◌, ◌++◌, ◌⊎◌, length, map, inl, inr, refl, subst},
-  Common.{arith, append_assoc, append-nil, rules},
+  Common.{arith, append_assoc, rules},
 }
 use Rattle.ports_core.specs.{
-  Draft.{Manner, AreNamed, Share, share, file_at, files_from, told_of_files, told_before, part_with, part_of, made_of},
-  Draft.{Draft, shares_of, draft_part, with_bytes, with_next},
-  Part.{File, nothing, Begins, FilesBegin, IsBeginning, Output, gets_none, gets_bytes, gets_lines, gets_openings},
-  Part.{lines_for, openings_for},
-  Turn.AllClosed,
+  Draft.{Manner, AreNamed, Share, share, file_at, files_from, told_of_files, told_before, part_with, part_of},
+  Draft.{made_of, Draft, shares_of, draft_part, with_bytes, with_next},
+  Part.{File, nothing, Begins, FilesBegin, IsBeginning, Output, gets_lines, gets_openings, lines_for, openings_for},
+  InTurn.AllClosed,
   inner.{Part.HasLines, Shares.SharesBegin},
   declared.{
     file_writer.Opening.{Opening, TheVariants.{Never, Late, AtOnce}},
@@ -25,12 +24,12 @@ use Rattle.ports_core.proofs.{
 
 pub shares_after : (front low high : List Share) → SharesBegin low high → SharesBegin (front ++ low) (front ++ high)
 shares_after [] low high begins = begins
-shares_after (share ∷ front) low high begins = (inr refl, begins_itself share.bytes, shares_after front low high begins)
+shares_after (share ∷ front) low high begins = (inr refl, begins_itself _, shares_after front _ _ begins)
 
 pub shares_wider : (low high more : List Share) → SharesBegin low high → SharesBegin low (high ++ more)
 shares_wider [] high more begins = tt
 shares_wider (share ∷ low) [] more begins = absurd begins
-shares_wider (share ∷ low) (whole ∷ high) more begins = (begins.0, begins.1, shares_wider low high more begins.2)
+shares_wider (share ∷ low) (whole ∷ high) more begins = (begins.0, begins.1, shares_wider low _ _ begins.2)
 
 -- an open share begins one of more bytes, whatever its state
 pub made_begin : (opening : Opening) (state : State) (low high : List ℕ) → IsBeginning low high
@@ -38,8 +37,8 @@ pub made_begin : (opening : Opening) (state : State) (low high : List ℕ) → I
 made_begin Never state low high begins = tt
 made_begin Late state [] high begins = tt
 made_begin Late state (byte ∷ low) [] (rest, is) = absurd (cc)
-made_begin Late state (byte ∷ low) (first ∷ high) begins = (inl refl, begins, tt)
-made_begin AtOnce state low high begins = (inl refl, begins, tt)
+made_begin Late state (byte ∷ low) (first ∷ high) begins = search rules
+made_begin AtOnce state low high begins = search rules
 
 -- Their files begin the files of those
 
@@ -54,44 +53,40 @@ pub files_begin : (manner : Manner) (place : ℕ) (low high : List Share) → Sh
 files_begin manner place [] high begins = tt
 files_begin manner place (share ∷ low) [] begins = absurd begins
 files_begin manner place (share ∷ low) (whole ∷ high) begins =
-    grind (arith, common_steps, files_by, files_begin manner (place + 1) low high begins.2)
+    grind (arith, files_by, files_begin manner (place + 1) _ high begins.2)
 
 -- What standard output is told of them
 
 pub told-append : (output : Output) (a b : List File)
     → told_of_files output (a ++ b) ≡ told_of_files output a ++ told_of_files output b
-told-append gets_none a b = refl
-told-append gets_bytes a b = refl
 told-append (gets_lines line) [] b = refl
 told-append (gets_lines line) (file ∷ a) b =
-    grind (arith, common_steps, append_assoc, told-append (gets_lines line) a b)
-told-append (gets_openings line) a b = openings-append line a b
+    grind (arith, append_assoc, told-append (gets_lines line) a b)
+told-append (gets_openings line) a b = openings-append _ a b
+told-append output a b = refl
 
 pub has_told : (output : Output) (files : List File) → HasLines output (told_of_files output files) files
-has_told gets_none files = tt
-has_told gets_bytes files = tt
 has_told (gets_lines line) files = refl
 has_told (gets_openings line) files = refl
+has_told output files = tt
 
 -- where there are none
 pub nothing_part : (output : Output) → part_with output [] ≡ nothing
-nothing_part gets_none = refl
-nothing_part gets_bytes = refl
 nothing_part (gets_lines line) = refl
 nothing_part (gets_openings line) = refl
+nothing_part output = refl
 
 pub nothing_told : (output : Output) → HasLines output [] []
-nothing_told gets_none = tt
-nothing_told gets_bytes = tt
 nothing_told (gets_lines line) = refl
 nothing_told (gets_openings line) = refl
+nothing_told output = tt
 
 -- open files have no lines, where those are for closed ones
 open_untold : (line : File → List ℕ) (manner : Manner) (place : ℕ) (bytes : List (List ℕ))
     → lines_for line (files_from manner place (map (share Open) bytes)) ≡ []
 open_untold line manner place [] = refl
 open_untold line manner place (one ∷ bytes) =
-    grind (arith, common_steps, cond_both, open_untold line manner (place + 1) bytes)
+    grind (arith, cond_both, open_untold line manner (place + 1) bytes)
 
 told_by : (line : File → List ℕ) (has : Bool) (file : File) (low high : List File)
     → IsBeginning (lines_for line low) (lines_for line high)
@@ -102,26 +97,25 @@ told_by line false file low high begins = begins_itself []
 -- the files that begin others have a beginning of their lines by their names
 pub openings_begin : (line : List ℕ → List ℕ) (low high : List File) → FilesBegin low high
     → IsBeginning (openings_for line low) (openings_for line high)
-openings_begin line low high begins = (_, openings_since line low high begins)
+openings_begin line low high begins = (_, openings_since _ _ _ begins)
 
 -- nor does it lose what it was told, as the last shares grow
 told_grows : (output : Output) (manner : Manner) (place : ℕ) (front : List Share) (low : List (List ℕ))
     (high : List Share) → SharesBegin (map (share Open) low) high
     → IsBeginning (told_of_files output (files_from manner place (front ++ map (share Open) low)))
     (told_of_files output (files_from manner place (front ++ high)))
-told_grows gets_none manner place front low high begins = begins_itself []
-told_grows gets_bytes manner place front low high begins = begins_itself []
-told_grows (gets_lines line) manner place [] low high begins = rw (open_untold line manner place low) (_, refl)
+told_grows (gets_lines line) manner place [] low high begins = rw (open_untold _ _ place low) (_, refl)
 told_grows (gets_lines line) manner place (one ∷ front) low high begins =
-    grind (arith, common_steps, told_by, told_grows (gets_lines line) manner (place + 1) front low high begins)
+    grind (arith, told_by, told_grows (gets_lines line) manner (place + 1) front low high begins)
 told_grows (gets_openings line) manner place front low high begins =
-    grind (arith, common_steps, openings_begin, files_begin, shares_after)
+    grind (arith, openings_begin, files_begin, shares_after)
+told_grows output manner place front low high begins = begins_itself []
 
 -- what is written of shares whose last ones are open, and go on
 pub part_grows : (manner : Manner) (front : List Share) (low : List (List ℕ)) (high : List Share)
     → SharesBegin (map (share Open) low) high
     → Begins (part_of manner (front ++ map (share Open) low)) (part_of manner (front ++ high))
-part_grows manner front low high begins = grind (arith, common_steps, told_grows, files_begin, shares_after)
+part_grows manner front low high begins = grind (arith, told_grows, files_begin, shares_after)
 
 -- What is written of a draft only grows.
 
@@ -139,11 +133,6 @@ pub next_begins : (manner : Manner) (opening : Opening) (draft : Draft)
     → Begins (draft_part manner draft) (draft_part manner (with_next opening draft))
 next_begins manner opening draft = search (rules, next_shares, part_grows, shares_wider, made_begin, begins_itself)
 
--- and what is begun after it comes after what is written
-pub begun_begins : (manner : Manner) (opening : Opening) (draft : Draft)
-    → Begins (draft_part manner (with_next Never draft)) (draft_part manner (with_next opening draft))
-begun_begins manner opening draft = search (rules, part_grows)
-
 -- Files that all have names
 
 -- the place after the next ones is that after the first of them
@@ -157,8 +146,8 @@ files_on : (manner : Manner) (place : ℕ) (front rest : List Share) → AreName
 files_on manner place [] rest named = search rules
 files_on manner place (one ∷ front) rest named = cc (
   named place (omega arith),
-  one_on place (length front),
-  files_on manner (place + 1) front rest (λ other less. named other (omega arith)),
+  one_on _ _,
+  files_on manner (place + 1) front _ (λ other less. named other (omega arith)),
 )
 
 -- where the place after these has no name, more of them make no file
@@ -167,17 +156,17 @@ pub files_stop : (manner : Manner) (place : ℕ) (front rest : List Share)
     → files_from manner place (front ++ rest) ≡ files_from manner place front
 files_stop manner place [] [] none = refl
 files_stop manner place [] (one ∷ rest) none = search rules
-files_stop manner place (one ∷ front) rest none = cc (files_stop manner (place + 1) front rest (subst (λ n. manner.has_name n ≡ false) (one_on place (length front)) none))
+files_stop manner place (one ∷ front) rest none = cc (files_stop manner (place + 1) front _ (subst (λ n. manner.has_name n ≡ false) (one_on _ _) none))
 
 pub stopped_part : (manner : Manner) (draft : Draft) → manner.has_name (length draft.ended) ≡ false
     → draft_part manner draft ≡ part_of manner (map (share Closed) draft.ended)
-stopped_part manner draft none = grind (arith, common_steps, files_stop, length-map)
+stopped_part manner draft none = grind (arith, files_stop, length-map)
 
 pub closed_files : (manner : Manner) (place : ℕ) (ended : List (List ℕ))
     → AllClosed (files_from manner place (map (share Closed) ended))
 closed_files manner place [] = tt
 closed_files manner place (one ∷ ended) =
-    grind (arith, common_steps, cond_both, closed_files manner (place + 1) ended)
+    grind (arith, cond_both, closed_files manner (place + 1) ended)
 
 -- The files that ended, and one more
 
@@ -194,39 +183,27 @@ files_with : (manner : Manner) (draft : Draft) (state : State) (bytes : List ℕ
     → AreNamed manner (suc (length draft.ended))
     → files_from manner 0 (map (share Closed) draft.ended ++ share state bytes ∷ [])
     ≡ ended_files manner draft ++ file_of (name_after manner draft) bytes state ∷ []
-files_with manner draft state bytes named = grind (arith, common_steps, length-map, files_on)
+files_with manner draft state bytes named = grind (arith, length-map, files_on)
 
-part_last : (manner : Manner) (draft : Draft) (state : State) (bytes : List ℕ)
+pub part_last : (manner : Manner) (draft : Draft) (state : State) (bytes : List ℕ)
     → AreNamed manner (suc (length draft.ended))
     → part_of manner (map (share Closed) draft.ended ++ share state bytes ∷ [])
     ≡ with_last
     (ended_out manner draft ++ told_of_files manner.output (file_of (name_after manner draft) bytes state ∷ []))
     (ended_files manner draft) (file_of (name_after manner draft) bytes state)
-part_last manner draft state bytes named = grind (arith, common_steps, files_with, with_last, file_of, told-append)
+part_last manner draft state bytes named = grind (arith, files_with, with_last, file_of, told-append)
 
 last_told : (output : Output) (name bytes : List ℕ)
     → told_of_files output (file_of name bytes Open ∷ []) ≡ told_before output name
-last_told gets_none name bytes = refl
-last_told gets_bytes name bytes = refl
-last_told (gets_lines line) name bytes = refl
-last_told (gets_openings line) name bytes = append-nil (line name)
+last_told (gets_openings line) name bytes = search rules
+last_told output name bytes = refl
 
 -- the last one is open
 pub open_part : (manner : Manner) (draft : Draft) → AreNamed manner (suc (length draft.ended))
     → made_of draft.opening draft.bytes ≡ draft.bytes ∷ []
     → draft_part manner draft ≡ with_last (begun_out manner.output (ended_files manner draft) (name_after manner draft))
     (ended_files manner draft) (file_of (name_after manner draft) draft.bytes Open)
-open_part manner draft named makes = grind (arith, common_steps, part_last, with_last, file_of, last_told)
-
--- it is closed, and nothing is begun
-pub closed_part : (manner : Manner) (draft : Draft) → AreNamed manner (suc (length draft.ended))
-    → made_of draft.opening draft.bytes ≡ draft.bytes ∷ []
-    → draft_part manner (with_next Never draft)
-    ≡ with_last
-    (ended_out manner draft
-    ++ told_of_files manner.output (file_of (name_after manner draft) draft.bytes Closed ∷ []))
-    (ended_files manner draft) (file_of (name_after manner draft) draft.bytes Closed)
-closed_part manner draft named makes = grind (arith, common_steps, next_shares, part_last)
+open_part manner draft named makes = grind (arith, part_last, with_last, file_of, last_told)
 
 -- there is none
 pub none_part : (manner : Manner) (draft : Draft) → made_of draft.opening draft.bytes ≡ []

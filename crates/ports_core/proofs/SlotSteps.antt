@@ -1,17 +1,16 @@
 -- Slots as they are opened, written and closed, and as they break.
 use Rattle.std.proofs.{
-  lemmas.{Grind.common_steps, Bool.false≢true},
-  Common.{◌≡◌, ℕ, ◌<◌, ◌≤◌, zero, suc, not, ◌&&◌, List, [], ◌∷◌, ◌++◌, length, take, Bool, true, false, IsTrue, refl},
-  Common.{sym, ◌∙◌, ap, arith, rules, length-append},
-  Math.Seq.get_or-append_seam,
+  lemmas.Grind.common_steps,
+  Common.{◌≡◌, ℕ, ◌<◌, ◌≤◌, zero, suc, List, [], ◌∷◌, ◌++◌, length, Bool, true, false, IsTrue, refl, ◌∙◌, ap},
+  Common.{arith, rules},
 }
 use Rattle.ports_core.specs.{
-  Slot.{SlotBreaks, Slot, Rose, is_open, has_file, can_write, no_slot, slot_at, changed_at, opened, unopened, adds},
-  Slot.{closes, breaks, with_written, with_broken, told_of, is_writable, KeepsBroken},
+  Slot.{SlotBreaks, Slot, Rose, has_file, slot_at, changed_at, opened, unopened, closes, with_written, with_broken},
+  Slot.{is_writable, KeepsBroken},
   Swept.{Swept, none},
   Write.BrokeAfter,
   inner.Write.{WritesShort, broke},
-  declared.{fault.Fault.Fault, reason.Reason.Reason, slot.{Mode.Mode, State.{State, TheVariants.Open}}},
+  declared.{fault.Fault.Fault, reason.Reason.Reason, slot.Mode.Mode},
 }
 use Rattle.ports_core.proofs.{
   PartLemmas.{sound_at, broken_at},
@@ -26,22 +25,18 @@ flag_stays : (change : Slot → Slot) → ((slot : Slot) → (change slot).is_br
     → (slot_at (changed_at place change slots) other).is_broken ≡ (slot_at slots other).is_broken
 flag_stays change same place other [] = refl
 flag_stays change same zero zero (slot ∷ slots) = same slot
-flag_stays change same (suc place) (suc other) (slot ∷ slots) = flag_stays change same place other slots
+flag_stays change same (suc place) (suc other) (slot ∷ slots) = flag_stays _ same _ _ slots
 flag_stays change same place other slots = refl
 
 pub keeps_again : (old mid new : List Slot) → KeepsBroken old mid → KeepsBroken mid new → KeepsBroken old new
 keeps_again old mid new first second place sound = search rules
 
-keeps_change : (change : Slot → Slot) → ((slot : Slot) → (change slot).is_broken ≡ slot.is_broken)
-    → (slot : ℕ) (old : List Slot) {new : List Slot} → new ≡ changed_at slot change old → KeepsBroken old new
-keeps_change change same slot old is place sound = grind (arith, common_steps, flag_stays)
-
 pub keeps_write : (slot : ℕ) (bytes : List ℕ) (old new : List Slot) → new ≡ with_written slot bytes old
     → KeepsBroken old new
-keeps_write slot bytes old new is = keeps_change (adds bytes) (λ one. refl) slot old is
+keeps_write slot bytes old new is = grind (arith, flag_stays)
 
 pub keeps_close : (slot : ℕ) (old new : List Slot) → new ≡ changed_at slot closes old → KeepsBroken old new
-keeps_close slot old new is = keeps_change closes (λ one. refl) slot old is
+keeps_close slot old new is = grind (arith, flag_stays)
 
 pub keeps_open : (one : Slot) (old new : List Slot) → new ≡ old ++ one ∷ [] → KeepsBroken old new
 keeps_open one old new is place sound = grind (arith, common_steps)
@@ -52,48 +47,37 @@ pub broken_there : (why : Reason) (place : ℕ) (slots : List Slot) → place < 
     → (slot_at (with_broken why place slots) place).is_broken ≡ true
 broken_there why place [] within = absurd (omega arith)
 broken_there why zero (slot ∷ slots) within = refl
-broken_there why (suc place) (slot ∷ slots) within = broken_there why place slots (omega arith)
+broken_there why (suc place) (slot ∷ slots) within = broken_there _ _ slots (omega arith)
 
 pub rose_later : (slot : ℕ) (old mid new : List Slot) → KeepsBroken old mid → Rose slot mid new → Rose slot old new
 rose_later slot old mid new keeps rose = search rules
 
 pub write_rose : (told : Bool) (slot : ℕ) (bytes : List ℕ) (n : ℕ) (old new : List Slot) → IsTrue (is_writable old slot)
     → BrokeAfter told old new slot bytes n → Rose slot old new
-write_rose told slot bytes n old new can cut = grind (arith, common_steps, sound_at, broken_at, writable-written)
+write_rose told slot bytes n old new can cut = grind (arith, sound_at, broken_at, writable-written)
 
 pub close_rose : (slot : ℕ) (old new : List Slot) → IsTrue (is_writable old slot) → slot < length old
     → SlotBreaks slot (changed_at slot closes old) new → Rose slot old new
-close_rose slot old new can within (why, is) = grind (arith, common_steps, sound_at, broken_there, length-changed_at)
-
-pub at_end : (slots : List Slot) (one : Slot) → slot_at (slots ++ one ∷ []) (length slots) ≡ one
-at_end slots one = get_or-append_seam slots one [] no_slot
-
-pub open_rose : (slot : ℕ) (why : Reason) (kept : List ℕ) (old new : List Slot) → slot ≡ length old
-    → new ≡ old ++ unopened why kept ∷ [] → Rose slot old new
-open_rose slot why kept old new number is = grind (arith, common_steps)
+close_rose slot old new can within (why, is) = grind (arith, sound_at, broken_there, length-changed_at)
 
 -- How many there are
 
 pub written_size : (slot : ℕ) (bytes : List ℕ) (old new : List Slot) → new ≡ with_written slot bytes old
     → length new ≡ length old
-written_size slot bytes old new is = ap length is ∙ length-changed_at slot (adds bytes) old
+written_size slot bytes old new is = ap length is ∙ length-changed_at _ _ _
 
 pub short_size : (told : Bool) (slot : ℕ) (bytes : List ℕ) (old new : List Slot) (f : Fault)
     → WritesShort told slot bytes old new f → length new ≡ length old
-short_size told slot bytes old new _ (broke n cut) = grind (arith, common_steps, length-changed_at)
+short_size told slot bytes old new _ (broke n cut) = grind (arith, length-changed_at)
 
 pub broken_size : (slot : ℕ) (old new : List Slot) → SlotBreaks slot (changed_at slot closes old) new
     → length new ≡ length old
-broken_size slot old new (why, is) = grind (arith, common_steps, length-changed_at)
-
-pub opened_last : (old new : List Slot) (slot : ℕ) (name : List ℕ) (mode : Mode) → slot ≡ length old
-    → new ≡ old ++ opened name mode ∷ [] → suc slot ≡ length new
-opened_last old new slot name mode at is = grind (arith, common_steps)
+broken_size slot old new (why, is) = grind (arith, length-changed_at)
 
 -- Which can be written
 
 pub writable_within : (place : ℕ) (slots : List Slot) → IsTrue (is_writable slots place) → place < length slots
-writable_within place [] can = absurd (false≢true can)
+writable_within place [] can = search rules
 writable_within zero (slot ∷ slots) can = omega arith
 writable_within (suc place) (slot ∷ slots) can = grind (arith, common_steps)
 
@@ -107,29 +91,21 @@ writable_before old new place one within is can = grind (arith, common_steps)
 
 pub written_writable : (old new : List Slot) (slot place : ℕ) (bytes : List ℕ) → IsTrue (is_writable old slot)
     → new ≡ with_written place bytes old → IsTrue (is_writable new slot)
-written_writable old new slot place bytes can is = grind (arith, common_steps, writable-written)
+written_writable old new slot place bytes can is = grind (arith, writable-written)
 
 pub writable_elsewhere : (old new : List Slot) (slot place : ℕ) (change : Slot → Slot) → (slot ≡ place → ⊥)
     → new ≡ changed_at place change old → IsTrue (is_writable old slot) → IsTrue (is_writable new slot)
-writable_elsewhere old new slot place change differs is can = ap (λ those. is_writable those slot) is ∙ ap can_write (slot_at-elsewhere place slot change old differs) ∙ can
+writable_elsewhere old new slot place change differs is can = grind (arith, slot_at-elsewhere)
 
 -- Which have a file
-
-pub open_has_file : (state : State) (broken : Bool) → (is_open state && not broken) ≡ true → has_file state ≡ true
-open_has_file Open broken can = refl
-open_has_file state broken can = absurd (false≢true can)
 
 pub none_past : (slots : List Slot) (place : ℕ) → length slots ≤ place → has_file (slot_at slots place).state ≡ false
 none_past slots place past = grind (arith, common_steps)
 
-pub file_before : (slots : List Slot) (one : Slot) (place : ℕ) → place < length slots
-    → has_file (slot_at (slots ++ one ∷ []) place).state ≡ has_file (slot_at slots place).state
-file_before slots one place within = grind (arith, common_steps)
-
 -- where there is no file, none is removed
 pub swept_none : (clears : Bool) (first : ℕ) (slots : List Slot)
     → ((place : ℕ) → first ≤ place → has_file (slot_at slots place).state ≡ false) → Swept clears first slots slots
-swept_none true first slots no_file = grind (arith, common_steps, none)
+swept_none true first slots no_file = grind (arith, none)
 swept_none false first slots no_file = refl
 
 -- as many outputs, each with a file just where it had one
@@ -138,35 +114,30 @@ pub record KeepsMade (old new : List Slot) : Type 0 where
   pub same : (place : ℕ) → has_file (slot_at new place).state ≡ has_file (slot_at old place).state
 
 pub made_again : (old mid new : List Slot) → KeepsMade old mid → KeepsMade mid new → KeepsMade old new
-made_again old mid new first second = grind (arith, common_steps)
+made_again old mid new first second = search rules
 
 file_stays : (change : Slot → Slot) (place other : ℕ) (slots : List Slot)
     → has_file (change (slot_at slots place)).state ≡ has_file (slot_at slots place).state
     → has_file (slot_at (changed_at place change slots) other).state ≡ has_file (slot_at slots other).state
 file_stays change place other [] same = refl
 file_stays change zero zero (slot ∷ slots) same = same
-file_stays change (suc place) (suc other) (slot ∷ slots) same = file_stays change place other slots same
+file_stays change (suc place) (suc other) (slot ∷ slots) same = file_stays _ _ _ slots same
 file_stays change place other slots same = refl
-
-made_change : (change : Slot → Slot) (slot : ℕ) {old new : List Slot}
-    → has_file (change (slot_at old slot)).state ≡ has_file (slot_at old slot).state → new ≡ changed_at slot change old
-    → KeepsMade old new
-made_change change slot same is = grind (arith, common_steps, length-changed_at, file_stays)
 
 pub made_write : (slot : ℕ) (bytes : List ℕ) (old new : List Slot) → new ≡ with_written slot bytes old
     → KeepsMade old new
-made_write slot bytes old new is = made_change (adds bytes) slot refl is
+made_write slot bytes old new is = grind (arith, length-changed_at, file_stays)
 
 pub made_break : (slot : ℕ) (old new : List Slot) → SlotBreaks slot old new → KeepsMade old new
-made_break slot old new (why, is) = made_change (breaks why) slot refl is
+made_break slot old new (why, is) = grind (arith, length-changed_at, file_stays)
 
 pub made_short : (told : Bool) (slot : ℕ) (bytes : List ℕ) (old new : List Slot) (f : Fault)
     → WritesShort told slot bytes old new f → KeepsMade old new
-made_short told slot bytes old new _ (broke n cut) = made_again old (with_written slot (told_of told (take n bytes)) old) new (made_write slot _ old _ refl) (made_break slot _ new cut.slots)
+made_short told slot bytes old new _ (broke n cut) = made_again _ _ _ (made_write _ _ _ _ refl) (made_break _ _ _ cut.slots)
 
 pub made_close : (slot : ℕ) (old new : List Slot) → IsTrue (is_writable old slot) → new ≡ changed_at slot closes old
     → KeepsMade old new
-made_close slot old new can is = made_change closes slot (sym (open_has_file (slot_at old slot).state (slot_at old slot).is_broken can)) is
+made_close slot old new can is = grind (arith, length-changed_at, file_stays)
 
 -- no more files are there, and no fewer outputs
 pub record KeepsFiled (old new : List Slot) : Type 0 where
@@ -174,14 +145,11 @@ pub record KeepsFiled (old new : List Slot) : Type 0 where
   pub within : length old ≤ length new
 
 pub filed_same : {old new : List Slot} → KeepsMade old new → KeepsFiled old new
-filed_same made = record { same = made.same; within = omega arith }
+filed_same made = search rules
 
 pub filed_more : {old mid new : List Slot} (why : Reason) (kept : List ℕ) → KeepsMade old mid
     → new ≡ mid ++ unopened why kept ∷ [] → KeepsFiled old new
-filed_more {mid = mid} why kept made added = record {
-  same = grind (arith, common_steps);
-  within = grind (arith, common_steps, length-append);
-} where
+filed_more {mid = mid} why kept made added = grind (arith, common_steps) where
   still : (place : ℕ) → has_file (slot_at (mid ++ unopened why kept ∷ []) place).state
       ≡ has_file (slot_at mid place).state
   still place = grind (arith, common_steps)

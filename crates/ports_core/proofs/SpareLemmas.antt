@@ -5,7 +5,8 @@ use Rattle.std.proofs.{
     Bool.{false≢true, cases_lt},
     List.{length-append, take-append-drop, take-append-le, take_at},
   },
-  Common.{◌≡◌, ℕ, ◌≤◌, ◌<◌, true, false, List, [], ◌++◌, length, take, drop, ◌⊎◌, inl, inr, refl, sym, ◌∙◌, ap, arith},
+  Common.{◌≡◌, ℕ, ◌≤◌, ◌<◌, true, false, List, [], ◌++◌, length, take, drop, ◌⊎◌, inl, inr, refl, sym, ◌∙◌, ap},
+  Common.arith,
 }
 use Rattle.ports_core.specs.Work.{Work, IsLawful, IsComplete, IsNeeded, IsSpare}
 
@@ -15,7 +16,7 @@ all_used work x going = grind (arith, common_steps)
 
 pub none_spare : (work : Work) (x : List ℕ) (n : ℕ) → IsLawful work → work.is_complete x ≡ false → IsSpare work x n
     → n ≡ 0
-none_spare work x n lawful going spare = grind (arith, common_steps)
+none_spare work x n lawful going spare = grind arith
 
 -- with what is used the output is complete, where it is with all
 pub complete_used : (work : Work) (x : List ℕ) (n : ℕ) (spare : IsSpare work x n) → work.is_complete x ≡ true
@@ -32,8 +33,10 @@ spare_within work most n x lawful (inr (before, piece, is, few, going)) spare = 
   by over (inl none) = omega (arith, ap length none)
   by (inl over) (inr complete) = omega (arith, ap length is ∙ length-append before piece, ap length spare.joined ∙ length-append spare.used spare.rest)
   by (inr short) (inr complete) =
-      let used : take (length spare.used) before ≡ spare.used = sym (take-append-le (length spare.used) before piece short) ∙ ap (take (length spare.used)) (sym is ∙ spare.joined) ∙ take_at spare.used spare.rest (length spare.used) refl in
+      let used : take (length spare.used) before ≡ spare.used = sym
+      (take-append-le (length spare.used) before piece short) ∙ ap (take (length spare.used))
+      (sym is ∙ spare.joined) ∙ take_at spare.used spare.rest (length spare.used) refl in
       let all : spare.used ++ drop (length spare.used) before ≡ before =
-      grind (arith, common_steps, take-append-drop) in
-      let stays : IsComplete work spare.used (drop (length spare.used) before) = grind (arith, common_steps) in
+      grind (arith, take-append-drop) in
+      let stays : IsComplete work spare.used (drop (length spare.used) before) = grind arith in
       absurd (false≢true (sym going ∙ ap work.is_complete (sym all) ∙ stays.still))

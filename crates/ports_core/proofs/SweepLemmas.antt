@@ -1,53 +1,47 @@
 -- Lemmas on removing many files.
 use Rattle.std.proofs.{
-  lemmas.{Grind.common_steps, Bool.{false≢true, or_parts}},
-  Common.{◌≡◌, ℕ, ◌+◌, ◌<◌, ◌≤◌, zero, suc, eqb, eq-eqb, true, false, ◌||◌, List, [], ◌∷◌, ◌++◌, length, get_or, set},
-  Common.{take, drop, Result, Ok, Err, is_ok, OnOk, IfErr, refl, sym, ◌∙◌, ap, arith, length-set, take-suc},
-  Common.{take-suc-set, drop-cons, drop-set-lt, rules, append-nil, append_assoc},
+  lemmas.Bool.{false≢true, or_parts},
+  Common.{◌≡◌, ℕ, ◌+◌, ◌<◌, ◌≤◌, zero, suc, eqb, true, false, List, [], ◌∷◌, ◌++◌, length, get_or, set, take, drop},
+  Common.{Result, Ok, Err, is_ok, OnOk, IfErr, refl, sym, ◌∙◌, ap, arith, length-set, take-suc, take-suc-set},
+  Common.{drop-cons, drop-set-lt, rules, append-nil, append_assoc},
 }
-use Rattle.ports_core.{
-  specs.Slot.{Slot, has_file, slot_at, changed_at, SlotBreaks, removes, closes, breaks},
-  specs.Swept.{Cleared, SweptFrom, removed, stuck, none, is_among, AreThere, Tries, Removes, all_tried, tried, goes},
-  specs.Swept.stays,
-  specs.declared.fault.Fault.Fault,
-  proofs.SlotLemmas.{length-changed_at, changed_at-again, slot_at-elsewhere},
+use Rattle.ports_core.specs.{
+  Slot.{Slot, has_file, slot_at, changed_at, SlotBreaks, removes, closes},
+  Swept.{Cleared, SweptFrom, removed, stuck, is_among, AreThere, Tries, Removes, all_tried, tried, goes, stays, none},
+  declared.fault.Fault.Fault,
 }
+use Rattle.ports_core.proofs.SlotLemmas.{length-changed_at, changed_at-again, slot_at-elsewhere}
 use Rattle.ports_core.specs.declared.fault.Fault.TheVariants as fault
 
 -- Among others
 
 differs : {place : ℕ} (one : ℕ) → eqb place one ≡ false → place ≡ one → ⊥
-differs one is same = grind (arith, common_steps)
+differs one is same = search rules
 
 -- a place, and whether it is the first of these
 pub by_place : {A : Type 0} (place one : ℕ) → (place ≡ one → A) → (eqb place one ≡ false → A) → A
-by_place place one same other = grind (arith, common_steps)
+by_place place one same other = search rules
 
 -- What a change of one slot leaves
 
 there : (place : ℕ) (change : Slot → Slot) (slots : List Slot) → has_file (slot_at slots place).state ≡ true
     → slot_at (changed_at place change slots) place ≡ change (slot_at slots place)
-there place change [] has = absurd (false≢true has)
+there place change [] has = search rules
 there zero change (slot ∷ slots) has = refl
-there (suc place) change (slot ∷ slots) has = there place change slots has
+there (suc place) change (slot ∷ slots) has = there _ _ slots has
 
 -- one file was tried: its slot was changed, and no other
 module _ (one : ℕ) (change : Slot → Slot) (old : List Slot) where
   elsewhere : (place : ℕ) → eqb place one ≡ false → slot_at (changed_at one change old) place ≡ slot_at old place
-  elsewhere place other = slot_at-elsewhere one place change old (differs one other)
+  elsewhere place other = slot_at-elsewhere _ _ _ _ (differs _ other)
 
   still_there : (files : List ℕ) → is_among one files ≡ false → AreThere files old
       → AreThere files (changed_at one change old)
   still_there [] apart are = tt
   still_there (place ∷ files) apart are =
       let both = or_parts (eqb one place) (is_among one files) apart in
-      let same = slot_at-elsewhere one place change old (λ same. differs place both.0 (sym same)) in
+      let same = slot_at-elsewhere _ _ change old (λ same. differs _ both.0 (sym same)) in
       ((are.0.0, rw same are.0.1), are.1, still_there files both.1 are.2)
-
-  still_has : (place : ℕ) (places : List ℕ) → eqb place one ≡ false
-      → has_file (slot_at old place).state ≡ is_among place (one ∷ places)
-      → has_file (slot_at (changed_at one change old) place).state ≡ is_among place places
-  still_has place places other has = ap (λ (slot : Slot). has_file slot.state) (elsewhere place other) ∙ has ∙ ap (λ b. b || is_among place places) other
 
 -- what is left of it
 
@@ -60,13 +54,13 @@ kept_has : {one : ℕ} {change : Slot → Slot} {kept : List ℕ} (left : List �
     → is_among one left ≡ false
     → has_file (change slot).state ≡ is_among one (kept ++ left)
 kept_has left slot goes apart = sym apart
-kept_has left slot (stays why) apart = grind (arith, common_steps, eq-eqb)
+kept_has left slot (stays why) apart = search rules
 
 kept_apart : {one : ℕ} {change : Slot → Slot} {kept : List ℕ} (left : List ℕ) (place : ℕ) → Tries one change kept
     → eqb place one ≡ false
     → is_among place (kept ++ left) ≡ is_among place left
 kept_apart left place goes other = refl
-kept_apart left place (stays why) other = ap (λ b. b || is_among place left) other
+kept_apart left place (stays why) other = search rules
 
 -- One removal more, after those of other files
 
@@ -75,7 +69,7 @@ tried_more : {files left : List ℕ} {old mid new : List Slot} (place : ℕ) (mo
     → Removes (files ++ place ∷ []) old (left ++ more) new
 tried_more place more (all_tried slots) last = last
 tried_more {new} place more (tried one places kept left' change old' mid' tries rest) last = rw (append_assoc kept left' more)
-    (tried one (places ++ place ∷ []) kept (left' ++ more) change old' new tries (tried_more place more rest last))
+    (tried one (places ++ place ∷ []) kept (left' ++ more) change old' new tries (tried_more _ _ rest last))
 
 -- the files before this place were tried, and the first `left` are those that couldn't be removed
 pub record Sweeping (files now : List ℕ) (place left : ℕ) (old slots : List Slot) : Type 0 where
@@ -98,15 +92,15 @@ one_tried : {files now next kept : List ℕ} {place left few : ℕ} {old mid : L
 one_tried {files} {now} {next} {kept} {place} {left} {few} {old} {mid} {file} {change} so_far within file_is size fits rest front_is tries =
     let less : place < length files = omega arith in
     let front = sym (drop-cons now place 0 within) ∙ so_far.rest ∙ drop-cons files place 0 less in
-    let same : file ≡ get_or files place 0 = grind (arith, common_steps) in
+    let same : file ≡ get_or files place 0 = grind arith in
     let are = rw (drop-cons files place 0 less ∙ ap (λ one. one ∷ drop (suc place) files) (sym same)) at so_far.are in
     rw (← (let e : suc place ≡ place + 1 = omega arith in e)) (record {
       size = size ∙ so_far.size;
       few = omega arith;
-      tried = rw (front_is, take-suc files place 0 less, ← same) (tried_more file kept so_far.tried
+      tried = rw (front_is, take-suc files place 0 less, ← same) (tried_more _ _ so_far.tried
           (rw (append-nil kept) at (tried file [] kept [] change mid _ tries (all_tried _))));
       rest = rest ∙ ap (drop 1) front;
-      are = grind (arith, common_steps, still_there);
+      are = grind (arith, still_there);
     })
 
 -- the same by what the removal returned
@@ -123,35 +117,35 @@ pub sweep_past : {files now : List ℕ} {place left file : ℕ} {old mid new : L
     → IfErr result (λ f. (f ≡ fault.Write file) × SlotBreaks file (changed_at file closes mid) new)
     → Sweeping files (set now left file) (place + 1) (left + 1) old new
 sweep_past (Ok done) so_far within file_is failed stuck_so = search rules
-sweep_past {files} {now} {place} {left} {file} {old} {mid} {new} (Err f) so_far within file_is failed (is, (why, stuck_so)) =
+sweep_past {files} {now} {place} {left} {file} (Err f) so_far within file_is failed (is, (why, stuck_so)) =
     rw (← (let e : suc left ≡ left + 1 = omega arith in e))
-    (rw (stuck_so, changed_at-again file closes (breaks why) mid) (one_tried so_far within file_is (length-set now left file) (omega arith)
+    (rw (stuck_so, changed_at-again _ _ _ _) (one_tried so_far within file_is (length-set now left file) (omega arith)
     (drop-set-lt (suc place) now left file (omega arith)) (take-suc-set now left file (omega arith)) (stays why)))
 
 -- What was removed, slot by slot
 
 pub same_size : (files left : List ℕ) (old new : List Slot) → Removes files old left new → length new ≡ length old
 same_size files left old new (all_tried slots) = refl
-same_size files left old new (tried place places kept left' change old' new' tries rest) = same_size places left' _ new' rest ∙ length-changed_at place change old'
+same_size files left old new (tried place places kept left' change old' new' tries rest) = same_size _ _ _ _ rest ∙ length-changed_at _ _ _
 
 pub others_same : {files left : List ℕ} {old new : List Slot} (place : ℕ) → Removes files old left new
     → is_among place files ≡ false → slot_at new place ≡ slot_at old place
 others_same place (all_tried slots) apart = refl
 others_same place (tried one places kept left' change old' new' tries rest) apart =
-    let both = or_parts (eqb place one) (is_among place places) apart in others_same place rest both.1 ∙ elsewhere one change old' place both.0
+    let both = or_parts (eqb place one) (is_among place places) apart in others_same _ rest both.1 ∙ elsewhere one change old' place both.0
 
 -- those that are left are some of them
 pub left_apart : (files left : List ℕ) (old new : List Slot) (place : ℕ) → Removes files old left new
     → is_among place files ≡ false → is_among place left ≡ false
 left_apart files left old new place (all_tried slots) apart = refl
 left_apart files left old new place (tried one places kept left' change old' new' tries rest) apart =
-    let both = or_parts (eqb place one) (is_among place places) apart in kept_apart left' place tries both.0 ∙ left_apart places left' _ new' place rest both.1
+    let both = or_parts (eqb place one) (is_among place places) apart in kept_apart _ _ tries both.0 ∙ left_apart _ _ _ _ _ rest both.1
 
 -- what the slot of the first one is at the end
 first_is : {one : ℕ} {places left : List ℕ} (change : Slot → Slot) (old : List Slot) {new : List Slot}
     → AreThere (one ∷ places) old
     → Removes places (changed_at one change old) left new → slot_at new one ≡ change (slot_at old one)
-first_is {one} change old are rest = others_same one rest are.1 ∙ there one change old are.0.1
+first_is {one} change old are rest = others_same _ rest are.1 ∙ there one change old are.0.1
 
 -- each slot whose file was among them is cleared away
 pub each_cleared : {files left : List ℕ} {old new : List Slot} (place : ℕ) → Removes files old left new
@@ -159,8 +153,8 @@ pub each_cleared : {files left : List ℕ} {old new : List Slot} (place : ℕ) �
     → Cleared (slot_at old place) (slot_at new place)
 each_cleared place (all_tried slots) are has = none has
 each_cleared place (tried one places kept left' change old' new' tries rest) are has = by_place place one
-    (λ same. rw (same, first_is change old' are rest) (cleared_one tries are.0.1)) (λ other. rw (elsewhere one change old' place other) at
-    (each_cleared place rest (still_there one change old' places are.1 are.2) (still_has one change old' place places other has)))
+    (λ same. rw (same, first_is _ _ are rest) (cleared_one tries are.0.1)) (λ other. rw (elsewhere one change old' place other) at
+    (each_cleared place rest (still_there _ _ _ _ are.1 are.2) (grind (arith, elsewhere))))
 
 -- and has a file just where that is left
 pub left_has : (files left : List ℕ) (old new : List Slot) (place : ℕ) → Removes files old left new → AreThere files old
@@ -168,17 +162,17 @@ pub left_has : (files left : List ℕ) (old new : List Slot) (place : ℕ) → R
     → has_file (slot_at new place).state ≡ is_among place left
 left_has files left old new place (all_tried slots) are has = has
 left_has files left old new place (tried one places kept left' change old' new' tries rest) are has = by_place place one
-    (λ same. rw (same, first_is change old' are rest) (kept_has left' (slot_at old' one) tries (left_apart places left' _ new' one rest are.1)))
-    (λ other. left_has places left' _ new' place rest (still_there one change old' places are.1 are.2) (still_has one change old' place places other has) ∙ sym (kept_apart left' place tries other))
+    (λ same. rw (same, first_is _ _ are rest) (kept_has _ _ tries (left_apart _ _ _ _ _ rest are.1)))
+    (λ other. left_has _ _ _ _ _ rest (still_there _ _ _ _ are.1 are.2) (grind (arith, elsewhere)) ∙ sym (kept_apart _ _ tries other))
 
 pub left_there : (files left : List ℕ) (old new : List Slot) → Removes files old left new → AreThere files old
     → AreThere left new
 left_there files left old new (all_tried slots) are = tt
-left_there files left old new (tried one places kept left' change old' new' goes rest) are = left_there places left' _ new' rest (still_there one change old' places are.1 are.2)
+left_there files left old new (tried one places kept left' change old' new' goes rest) are = left_there _ _ _ _ rest (still_there _ _ _ _ are.1 are.2)
 left_there files left old new (tried one places kept left' change old' new' (stays why) rest) are = (
-  (are.0.0, rw (first_is change old' are rest) refl),
-  left_apart places left' _ new' one rest are.1,
-  left_there places left' _ new' rest (still_there one change old' places are.1 are.2),
+  (are.0.0, rw (first_is _ _ are rest) refl),
+  left_apart _ _ _ _ _ rest are.1,
+  left_there _ _ _ _ rest (still_there _ _ _ _ are.1 are.2),
 )
 
 -- all files from a place on, where these are just the ones removed
@@ -186,4 +180,4 @@ pub all_cleared : (first : ℕ) (files left : List ℕ) (old new : List Slot) �
     → AreThere files old → ((place : ℕ) → is_among place files ≡ true → first ≤ place)
     → ((place : ℕ) → first ≤ place → has_file (slot_at old place).state ≡ is_among place files)
     → SweptFrom first old new
-all_cleared first files left old new done are from own = grind (arith, common_steps, same_size, others_same, each_cleared)
+all_cleared first files left old new done are from own = grind (arith, same_size, others_same, each_cleared)

@@ -1,8 +1,8 @@
 -- What the writer of files does, one change after another, and where one is stopped.
 use Rattle.std.proofs.{
   lemmas.{Grind.common_steps, Bool.false≢true},
-  Common.{◌≡◌, ℕ, Bool, false, List, [], ◌∷◌, ◌++◌, ◌⊎◌, length, Option, Some, None, Result, Ok, Err, IfErr, inl, inr},
-  Common.{refl, sym, ◌∙◌, ap, subst, arith, rules, append_assoc},
+  Common.{◌≡◌, ℕ, Bool, false, List, [], ◌∷◌, ◌++◌, ◌⊎◌, length, Option, Some, None, Result, Ok, Err, IfErr, inl},
+  Common.{inr, refl, sym, ◌∙◌, ap, subst, arith, rules, append_assoc},
 }
 use Rattle.ports_core.specs.{
   Draft.{Manner, Draft, made_of, draft_part, with_bytes, with_next},
@@ -10,7 +10,7 @@ use Rattle.ports_core.specs.{
   Part.{OutputsAt, Begins},
   Slot.Slot,
   Swept.Removes,
-  Turn.fault_in,
+  InTurn.fault_in,
   declared.{
     fault.Fault.{Fault, TheVariants.{Memory, Verdict}},
     verdict.Verdict.TheVariants.Suffixes,
@@ -18,7 +18,7 @@ use Rattle.ports_core.specs.{
   },
 }
 use Rattle.ports_core.proofs.{
-  ShareLemmas.{stopped_part, bytes_begin, next_begins, begun_begins, still_made},
+  ShareLemmas.{stopped_part, bytes_begin, next_begins, still_made, part_grows},
   SweepLemmas.{left_apart, left_has, left_there, same_size},
   FileWriterLemmas.{lacks_memory, leaves_again, leaves_lacking, put_nothing, reaches_again, reaches_as, stops_wider},
   FileWriterLemmas.{where_short, where_well},
@@ -34,13 +34,16 @@ pub goes_again : {told : Bool} {one two three : WriterState} {first second : Dra
     → Goes told one both old new three fault
 goes_again {told} {three = three} {first} both {new = new} {fault} is begins before after = record {
   leaves = leaves_again before.leaves after.leaves;
-  reaches = λ manner draft writes. reaches_again (begins manner draft) (before.reaches manner draft writes) (reaches_as refl (ap (draft_part manner) (sym (is draft))) (after.reaches manner (first draft) (before.writes manner draft writes)));
-  short = where_short fault after.short (λ short manner draft writes. let ran = short manner (first draft) (before.writes manner draft writes) in record {
+  reaches = λ manner draft writes. reaches_again (begins manner draft) (before.reaches manner draft writes)
+      (reaches_as refl (ap (draft_part manner) (sym (is draft))) (after.reaches manner (first draft) (before.writes manner draft writes)));
+  short = where_short _ after.short (λ short manner draft writes. let ran = short manner (first draft) (before.writes manner draft writes) in record {
     none = subst (λ draft. manner.has_name (length draft.ended) ≡ false) (is draft) ran.none;
     begun = subst (λ draft. made_of draft.opening draft.bytes ≡ draft.bytes ∷ []) (is draft) ran.begun;
-    all = λ old at. subst (λ draft. OutputsAt told old (draft_part manner draft) new) (is draft) (ran.all old ((before.reaches manner draft writes).there old at));
+    all = λ old at. subst (λ draft. OutputsAt told old (draft_part manner draft) new) (is draft)
+        (ran.all old ((before.reaches manner draft writes).there old at));
   });
-  writes = where_well fault after.writes (λ more manner draft writes. subst (Writes manner three) (is draft) (more manner (first draft) (before.writes manner draft writes)));
+  writes = where_well fault after.writes (λ more manner draft writes. subst (Writes manner three) (is draft)
+      (more manner (first draft) (before.writes manner draft writes)));
 }
 
 -- both make a file where the one does, and as many ended before it
@@ -74,34 +77,36 @@ goes_wider {told} {writer} {low = low} high {old} {new} {fault} begins same stop
 pub next_not_ended : {told : Bool} {writer next : WriterState} (opening : Opening) {old new : List Slot} {f : Fault}
     → IsWrite f → Goes told writer (with_next Never) old new next (Some f)
     → Goes told writer (with_next opening) old new next (Some f)
-next_not_ended opening broke ended = goes_wider (with_next opening) (λ manner draft. begun_begins manner opening draft) (inl (λ short. absurd (let e : fault.Write broke.0 ≡ Verdict Suffixes = sym broke.1 ∙ short in cc))) ended
-
--- what is next begins where what was begun has ended
-next_after : (opening : Opening) (draft : Draft) → with_next opening (with_next Never draft) ≡ with_next opening draft
-next_after opening draft = search rules
+next_not_ended opening broke ended = goes_wider (with_next opening) (λ manner draft. search (rules, part_grows))
+    (inl (λ short. absurd (let e : fault.Write broke.0 ≡ Verdict Suffixes = sym broke.1 ∙ short in cc))) ended
 
 pub next_begun : {told : Bool} {writer mid next : WriterState} {opening : Opening} {old between new : List Slot}
     {fault : Option Fault} → Goes told writer (with_next Never) old between mid None → mid.current ≡ Skipped
     → Goes told (paused mid) (with_next opening) between new next fault
     → Goes told writer (with_next opening) old new next fault
-next_begun {told} {mid = mid} {next} {opening} {between = between} {new} {fault} ended none start = goes_again (with_next opening) (next_after opening) (λ manner draft. next_begins manner Never draft) ended
+next_begun {told} {mid = mid} {next} {opening} {between = between} {new} {fault} ended none start = goes_again
+    (with_next opening) (search rules) (λ manner draft. next_begins manner Never draft) ended
     (subst (λ current. Goes told (record mid { current = current }) (with_next opening) between new next fault) (sym none) start)
 
 -- More bytes after others
 
-again : (draft : Draft) (a b : List ℕ) → with_bytes b (with_bytes a draft) ≡ with_bytes (a ++ b) draft
-again draft a b = grind (arith, common_steps)
-
 pub goes_more : {told : Bool} {one two three : WriterState} (a b : List ℕ) {old mid new : List Slot}
     {fault : Option Fault} → Goes told one (with_bytes a) old mid two None
     → Goes told two (with_bytes b) mid new three fault → Goes told one (with_bytes (a ++ b)) old new three fault
-goes_more a b first second = search (rules, goes_again, again, bytes_begin)
+goes_more a b first second = search (rules, goes_again, common_steps, bytes_begin)
 
 -- it was stopped among them
 pub stops_among : {told : Bool} {writer next : WriterState} (a b : List ℕ) {old new : List Slot} {fault : Fault}
     → Goes told writer (with_bytes a) old new next (Some fault)
     → Goes told writer (with_bytes (a ++ b)) old new next (Some fault)
-stops_among a b stopped = goes_wider (with_bytes (a ++ b)) (λ manner draft. subst (λ those. Begins (draft_part manner (with_bytes a draft)) (draft_part manner those)) (again draft a b) (bytes_begin manner b (with_bytes a draft))) (inr (λ draft. (refl, λ makes. subst (λ bytes. made_of draft.opening bytes ≡ bytes ∷ []) (append_assoc draft.bytes a b) (still_made draft.opening (draft.bytes ++ a) b makes)))) stopped
+stops_among a b stopped = goes_wider (with_bytes (a ++ b)) (λ manner draft. subst
+    (λ those. Begins (draft_part manner (with_bytes a draft)) (draft_part manner those))
+    (grind (arith, common_steps)) (bytes_begin manner b (with_bytes a draft)))
+    (inr (λ draft. (
+      refl,
+      λ makes. subst (λ bytes. made_of draft.opening bytes ≡ bytes ∷ [])
+          (append_assoc draft.bytes a b) (still_made draft.opening (draft.bytes ++ a) b makes),
+    ))) stopped
 
 pub goes_as : {told : Bool} {writer next : WriterState} {a b : List ℕ} {old new : List Slot} {fault : Option Fault}
     → a ≡ b → Goes told writer (with_bytes a) old new next fault → Goes told writer (with_bytes b) old new next fault
@@ -113,12 +118,14 @@ pub goes_or_lacks : {told : Bool} {writer next : WriterState} {bytes : List ℕ}
     → IfErr result (λ fault. fault ≡ Memory)
     → Goes told writer (with_bytes bytes) old new next (fault_in result)
 goes_or_lacks (Ok done) went lacks = went
-goes_or_lacks {told} {writer} {next} {bytes} {old} {new} (Err fault) went lacks = subst (λ why. Goes told writer (with_bytes bytes) old new next (Some why)) (sym lacks) (record {
-  leaves = leaves_again went.leaves leaves_lacking;
-  reaches = λ manner draft writes. reaches_again (bytes_begin manner bytes draft) (went.reaches manner draft writes) (lacks_memory manner (with_bytes bytes draft) (went.writes manner draft writes).named);
-  short = λ is. absurd (cc);
-  writes = tt;
-})
+goes_or_lacks {told} {writer} {next} {bytes} {old} {new} (Err fault) went lacks = subst (λ why. Goes told writer
+    (with_bytes bytes) old new next (Some why)) (sym lacks) (record {
+      leaves = leaves_again went.leaves leaves_lacking;
+      reaches = λ manner draft writes. reaches_again (bytes_begin manner bytes draft) (went.reaches manner draft writes)
+          (lacks_memory manner (with_bytes bytes draft) (went.writes manner draft writes).named);
+      short = λ is. absurd (cc);
+      writes = tt;
+    })
 
 pub goes_lacking : {told : Bool} {writer : WriterState} {bytes : List ℕ} {slots : List Slot} {fault : Fault}
     → IsReady writer slots → fault ≡ Memory → Goes told writer (with_bytes bytes) slots slots writer (Some fault)

@@ -9,7 +9,7 @@ use Rattle.ports_core.specs.{
   Part.{Part, Output, OutputsAt, writes},
   Slot.{Slot, Rose, KeepsBroken, has_file, is_writable, slot_at},
   Swept.{AreThere, is_among},
-  Turn.IsThere,
+  InTurn.IsThere,
   declared.fault.Fault.Fault,
   declared.verdict.Verdict.TheVariants.Suffixes,
   declared.file_writer.Current.{Current, TheVariants.{Skipped, Due, File, Unopened}},

@@ -8,7 +8,7 @@ ghost use Rattle.ports_core.specs.{
   Slot.is_writable,
   Swept.{AreThere, Removes},
   inner.{FileWriter.{Appends, Makes, TellsSize, files_with}, Write.Wrote},
-  Turn.fault_in,
+  InTurn.fault_in,
   declared.file_writer.{Current.TheVariants.Skipped, Opening.TheVariants.Never},
 };
 

@@ -1,9 +1,9 @@
 -- Lemmas on the loop that feeds an engine, and on what an engine uses of its input.
 use Rattle.std.proofs.{
-  lemmas.{Grind.common_steps, List.{append-nil, drop_at, length-take}, Bool.{or_right}},
-  Common.{◌⊎◌, ◌≡◌, ℕ, ◌+◌, ◌<◌, ◌≤◌, ◌^◌, Bool, true, false, List, [], ◌++◌, length, take, Result, Ok, Err, IfOk},
-  Common.{None, arith, length-append, length-take, inl, inr, refl, sym, ◌∙◌, ap, IsTrue, ◌-◌, drop, not, if◌then◌else◌},
-  Common.{append_assoc, rules},
+  lemmas.{Grind.common_steps, List.{append-nil, drop_at, length-take}, Bool.or_right},
+  Common.{◌⊎◌, ◌≡◌, ℕ, ◌+◌, ◌<◌, ◌≤◌, ◌^◌, Bool, true, false, List, [], ◌++◌, length, take, Result, Ok, Err},
+  Common.{IfOk, None, arith, length-append, length-take, inl, inr, refl, sym, ◌∙◌, ap, IsTrue, ◌-◌, drop, not},
+  Common.{if◌then◌else◌, append_assoc, rules},
 }
 use Rattle.ports_core.specs.{
   Slot.{Slot, changed_at},
@@ -11,7 +11,8 @@ use Rattle.ports_core.specs.{
   Part.{Part, OutputsAt},
   Swept.Swept,
   Work.{Work, Means, Needs, IsLawful, IsComplete, IsNeeded, IsSpare, Judges, IsSettled},
-  Engine.{Clears, Terms, Ended, EndsThere, EndsWith, IsCaused, IsMet, KeepsOwn, Passes, StandsAt, TakesIn, is_verdict},
+  Engine.{Clears, Terms, Ended, EndsThere, EndsWith, IsCaused, IsMet, KeepsOwn, Passes, StandsAt, TakesIn},
+  Engine.is_verdict,
   Guard.{GuardState, HoldsIn, IsRefusedWith},
   declared.{fault.Fault.Fault, verdict.Verdict.Verdict},
   Inputs.{CameFrom, empty, OfContent},
@@ -27,8 +28,6 @@ use Rattle.ports_core.specs.declared.fault.Fault.TheVariants as fault_is
 use Rattle.ports_core.specs.Engine as engine
 
 -- Lemmas on the loop that feeds an engine.
-
--- a change of one input
 
 -- why an engine that is live is stopped
 stops : (work : Work) (read : List ℕ) (low high : Part) {needs : Needs} (ended : Bool) (ahead : ℕ) (Lacks : Type 0)
@@ -147,41 +146,43 @@ short_of_end {content} WasRead fed lawful got all alike needed read (engine.judg
     let same = got_alike content fed lawful got in let (given, is, ends) = verdict judging in
     rw is (judged given (got_enough content _ fed lawful got) (same.verdict ∙ ends) first (rw same.whole at) (rw (kept judging) cleared))
 
+-- a loop begins there, before anything was fed
+abbrev pub BeginsAt : {S : Type 0} → Terms S → Bool → S → List Slot → List Slot → Type 0
+BeginsAt terms told stage before old = terms.Owns stage (length before) old
+    × OutputsAt told before ((terms.work stage).settled []) old
+
 module _ {S : Type 0} (terms : Terms S) where
   -- the loop has fed the engine x
   pub record Feeds (told : Bool) (start now : GuardState S) (x : List ℕ) (old slots : List Slot) : Type 0 where
     pub same : terms.work now.stage ≡ terms.work start.stage
     pub holds : HoldsIn terms.Holds now x
     pub owns : KeepsOwn terms start.stage now.stage old slots
-    pub outputs : (before : List Slot) → terms.Owns start.stage (length before) old
-        → OutputsAt told before ((terms.work start.stage).settled []) old
+    pub outputs : (before : List Slot) → BeginsAt terms told start.stage before old
         → OutputsAt told before ((terms.work now.stage).settled x) slots
     pub bound : now.fed < 2 ^ 63
 
+module _ {S : Type 0} {terms : Terms S} {told : Bool} {start now : GuardState S} {x : List ℕ} {old mid : List Slot}
+    (so_far : Feeds terms told start now x old mid) where
   -- the engine and its outputs stand at what it was fed
-  pub stands : (told : Bool) {start now : GuardState S} {x : List ℕ} {old mid before : List Slot}
-      → Feeds told start now x old mid → terms.Owns start.stage (length before) old
-      → OutputsAt told before ((terms.work start.stage).settled []) old → StandsAt terms now.stage told before x mid
-  stands told {before} so_far own at = record { holds = so_far.holds.within; owns = so_far.owns (length before) own; outputs = so_far.outputs before own at }
+  pub stands : {before : List Slot} → BeginsAt terms told start.stage before old
+      → StandsAt terms now.stage told before x mid
+  stands {before} begun = record { holds = so_far.holds.within; owns = so_far.owns (length before) begun.0; outputs = so_far.outputs before begun }
 
-  pub goes_on : (told : Bool) {start now next : GuardState S} {x : List ℕ} (piece : List ℕ) {old mid new : List Slot}
-      {Met : List Slot → List Slot → Fault → Type 0} → Feeds told start now x old mid
+  pub goes_on : {next : GuardState S} (piece : List ℕ) {new : List Slot} {Met : List Slot → List Slot → Fault → Type 0}
       → Passes terms told piece now.stage next.stage mid new Met (Ok tt) → TakesIn (HoldsIn terms.Holds) piece now next
-      → next.fed < 2 ^ 63 → Feeds told start next (x ++ piece) old new
-  goes_on told {x} piece so_far passes takes bound = record {
+      → next.fed < 2 ^ 63 → Feeds terms told start next (x ++ piece) old new
+  goes_on piece passes takes bound = record {
     same = passes.same ∙ so_far.same;
     holds = takes x so_far.holds;
     owns = λ first own. passes.owns first (so_far.owns first own);
-    outputs = λ before own at. rw passes.same (passes.outputs before x (stands told so_far own at));
+    outputs = λ before begun. rw passes.same (passes.outputs before x (stands begun));
     bound = bound;
   }
 
   -- the loop ended at a fault of the engine, within the input
-  pub stopped_feeding : (laws : (s : S) (x : List ℕ) → terms.Holds s x → IsLawful (terms.work s))
-      (told : Bool) {opening : Needs} {most : ℕ}
-      {start now : GuardState S} (next : GuardState S) {content : Content} (WasRead : Step → Type 0) {x : List ℕ}
-      (piece rest : List ℕ) {old mid reached new before : List Slot} {fault : Fault} → Feeds told start now x old mid
-      → terms.Owns start.stage (length before) old → OutputsAt told before ((terms.work start.stage).settled []) old
+  pub stopped_feeding : (laws : (s : S) (x : List ℕ) → terms.Holds s x → IsLawful (terms.work s)) {opening : Needs}
+      {most : ℕ} (next : GuardState S) {content : Content} (WasRead : Step → Type 0) (piece rest : List ℕ)
+      {reached new before : List Slot} {fault : Fault} → BeginsAt terms told start.stage before old
       → content.bytes ≡ (x ++ piece) ++ rest → length piece ≤ most → (terms.work now.stage).is_complete x ≡ false
       → WasRead
       (call_of (terms.work now.stage) (terms.work now.stage).means.feeding (x ++ piece)
@@ -189,36 +190,34 @@ module _ {S : Type 0} (terms : Terms S) where
       → Passes terms told piece now.stage next.stage mid reached (IsRefusedWith terms piece now) (Err fault)
       → (is_verdict fault ≡ true → new ≡ reached) → (is_verdict fault ≡ false → Clears terms next.stage reached new)
       → FedAs told before (terms.work start.stage) opening most content WasRead new (Err fault)
-  stopped_feeding laws told {now = now} next WasRead {x} piece rest {before = before} so_far own at is within going read passes kept cleared =
+  stopped_feeding laws next WasRead piece rest {before = before} begun is within going read passes kept cleared =
       let why = rw so_far.holds.count at (rw so_far.holds.live at passes.met) in
       rw (← so_far.same) (short_of_piece WasRead piece rest (laws now.stage x so_far.holds.within) is within going read
-      (passes.cut before x (stands told so_far own at))
+      (passes.cut before x (stands begun))
       (λ unjudged. stops (terms.work now.stage) (x ++ piece) ((terms.work now.stage).settled x)
       ((terms.work now.stage).settled (x ++ piece)) false 0 _ (EndsWith terms piece now.stage) unjudged
       (λ long. let size : length (x ++ piece) ≡ length x + length piece = length-append x piece in omega arith) why)
       (λ judging. let (verdict, is, ends) = judges (terms.work now.stage).means _ (EndsWith terms piece now.stage) judging passes.met in
       (verdict, is, ends x so_far.holds.within))
       kept
-      (λ unjudged. rw passes.same at (cleared unjudged (length before) (passes.owns (length before) (so_far.owns (length before) own)))))
+      (λ unjudged. rw passes.same at (cleared unjudged (length before) (passes.owns (length before) (so_far.owns (length before) begun.0)))))
 
   -- the loop ended with the input, or where nothing more can follow
-  pub ended : (laws : (s : S) (x : List ℕ) → terms.Holds s x → IsLawful (terms.work s))
-      (told : Bool) {opening : Needs} {most : ℕ}
-      {start now : GuardState S} {content : Content} (WasRead : Step → Type 0) {x z : List ℕ}
-      {old mid new before : List Slot} {fed : Fed} {result : Result Fed Fault} → Feeds told start now x old mid
-      → terms.Owns start.stage (length before) old → OutputsAt told before ((terms.work start.stage).settled []) old
+  pub ended : (laws : (s : S) (x : List ℕ) → terms.Holds s x → IsLawful (terms.work s)) {opening : Needs} {most : ℕ}
+      {content : Content} (WasRead : Step → Type 0) {z : List ℕ} {new before : List Slot} {fed : Fed}
+      {result : Result Fed Fault} → BeginsAt terms told start.stage before old
       → HasGot (terms.work now.stage) content x fed → HasAll (terms.work now.stage) content z
       → MadeAlike (terms.work now.stage) x z → IsNeeded (terms.work now.stage).is_complete most z
       → WasRead (close_of (terms.work now.stage) z)
       → EndsSo terms told now fed mid new result
       → FedAs told before (terms.work start.stage) opening most content WasRead new result
-  ended laws told {now} WasRead {x} {before} {fed} so_far own at got all alike needed read (finished _ finishes) =
+  ended laws WasRead {before = before} {fed} begun got all alike needed read (finished _ finishes) =
       rw (← so_far.same) (fed_all WasRead fed (laws now.stage x so_far.holds.within) got (finishes.well x so_far.holds.within)
-      (finishes.outputs before x (stands told so_far own at)))
-  ended laws told {now} WasRead {x} {z} {before} {fed} so_far own at got all alike needed read (fell_short _ _ _ finishes kept cleared) =
+      (finishes.outputs before x (stands begun)))
+  ended laws WasRead {z} {before} {fed} begun got all alike needed read (fell_short _ _ _ finishes kept cleared) =
       let why = rw so_far.holds.live at finishes.met in
       rw (← so_far.same) (short_of_end WasRead fed (laws now.stage x so_far.holds.within) got all alike needed read
-      (finishes.cut before x (stands told so_far own at))
+      (finishes.cut before x (stands begun))
       (λ unjudged. stops (terms.work now.stage) z ((terms.work now.stage).settled z) ((terms.work now.stage).whole z)
       (not ((terms.work now.stage).is_complete z))
       (if (terms.work now.stage).is_complete z then (terms.work now.stage).ahead else 0) (Unit {0})
@@ -226,20 +225,20 @@ module _ {S : Type 0} (terms : Terms S) where
       (let bound : now.fed < 2 ^ 63 = so_far.bound in omega arith)) why)
       (λ judging. let (verdict, is, ends) = judges (terms.work now.stage).means (Unit {0})
       (EndsThere terms now.stage) judging finishes.met in (verdict, is, ends x so_far.holds.within))
-      kept (λ unjudged. rw finishes.same at (cleared unjudged (length before) (finishes.owns (length before) (so_far.owns (length before) own)))))
+      kept (λ unjudged. rw finishes.same at (cleared unjudged (length before) (finishes.owns (length before) (so_far.owns (length before) begun.0)))))
 
+module _ {S : Type 0} (terms : Terms S) where
   -- an input without bytes: the engine is closed at once
   pub closed_at_start : (laws : (s : S) (x : List ℕ) → terms.Holds s x → IsLawful (terms.work s))
       (told : Bool) {opening : Needs} {most : ℕ}
       {start : GuardState S} {old new before : List Slot} {fed : Fed} {result : Result Fed Fault}
-      → HoldsIn terms.Holds start [] → start.fed < 2 ^ 63 → terms.Owns start.stage (length before) old
-      → OutputsAt told before ((terms.work start.stage).settled []) old → HasGot (terms.work start.stage) empty [] fed
+      → HoldsIn terms.Holds start [] → start.fed < 2 ^ 63 → BeginsAt terms told start.stage before old
+      → HasGot (terms.work start.stage) empty [] fed
       → EndsSo terms told start fed old new result
       → FedAs told before (terms.work start.stage) opening most empty (λ call. Unit {0}) new result
-  closed_at_start laws told {start} {fed} holds bound own at got ends =
-      ended laws told {start = start} (λ call. Unit {0})
-      (record { same = refl; holds = holds; owns = λ first own. own; outputs = λ before own at. at; bound = bound }) own at got
-      (got_all fed got) (alike_itself) (inl refl) tt ends
+  closed_at_start laws told {start} {old = old} {fed = fed} holds bound begun got ends =
+      let begins : Feeds terms told start start [] old old = record { same = refl; holds = holds; owns = λ first own. own; outputs = λ before begun. begun.1; bound = bound } in
+      ended begins laws (λ call. Unit {0}) begun got (got_all fed got) (alike_itself) (inl refl) tt ends
 
   -- an input that ended, or was enough, didn't break off
   pub ends_sound : (told : Bool) {engine : GuardState S} {fed : Fed} {old new : List Slot} {result : Result Fed Fault}

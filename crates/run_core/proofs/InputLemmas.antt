@@ -5,9 +5,9 @@ use Rattle.std.proofs.{
     Bool.{false≢true, or_parts, or_left, or_right, false_from_ne_true},
     List.{append-nil, nil_from_length, Recursion.and_push},
   },
-  Common.{◌≡◌, ℕ, ◌+◌, ◌<◌, ◌≤◌, zero, suc, Bool, true, false, ◌||◌, IsTrue, if◌then◌else◌, List, [], ◌∷◌, ◌++◌},
-  Common.{length, Option, Some, None, IfSome, arith, inl, inr, refl, ◌⊎◌, not, take, Result, Ok, Err, sym, ◌∙◌, ap},
-  Common.{subst, lit≤, codes, ◌-◌, drop, map, get_or, Bor, append_assoc, lit<, rules},
+  Common.{◌≡◌, ℕ, ◌+◌, ◌<◌, ◌≤◌, zero, suc, Bool, true, false, ◌||◌, IsTrue, if◌then◌else◌, List, [], ◌∷◌},
+  Common.{◌++◌, length, Option, Some, None, IfSome, arith, inl, inr, refl, ◌⊎◌, not, take, Result, Ok, Err, sym, ◌∙◌},
+  Common.{ap, subst, lit≤, codes, ◌-◌, drop, map, get_or, Bor, append_assoc, lit<, rules},
   Math.Bool.{and-false, and-true, or-false, or-true, or_assoc},
 }
 use Rattle.ports_core.specs.{
@@ -40,9 +40,9 @@ use Rattle.run_core.specs.{
   Input.{Input, World, IsFor, shown_of, showing, is_dash, input_of, inputs_from, next_slot, has_dash, AreFrom},
   Input.{inputs_at, file_input, standard_input, read_before},
   Reading.{AreDone, AreUntouched, IsDone, IsUntouched, Leaves, count_after},
-  inner.RunSteps.{TakesOne, OfSource, HeaderFails, no_room, broke, TookInput, took, cut_off, input_from, TookAll, all},
-  inner.RunSteps.{stopped_at, not_begun, HasStreams, OfName, standard_source},
-  declared.{inputs.Progress.Progress, feeding.Fed.{Fed, TheVariants.{Whole, Enough, Broken}}},
+  inner.RunSteps.{TakesOne, OfSource, HeaderFails, no_room, broke, TookInput, took, cut_off, input_from, TookAll},
+  inner.RunSteps.{all, stopped_at, not_begun, HasStreams, OfName, standard_source},
+  declared.{inputs.RunProgress.RunProgress, feeding.Fed.{Fed, TheVariants.{Whole, Enough, Broken}}},
   RunEnds.{unheaded, heading, calling, step_after, EndsAs, as_defined, stopped as run_stopped, no_room as run_unmade},
   RunEnds.{RunsOver, unopened},
   RunSteps.{IsShown, OnlyLooked, world_of},
@@ -61,8 +61,6 @@ use Rattle.ports_core.specs.declared.fault.Fault.TheVariants as fault_is
 pub last_source : (sources : List Source) {source : Source}
     → source_at (sources ++ source ∷ []) (length sources) ≡ source
 last_source sources = grind (arith, common_steps)
-
--- what is left of the input of a source
 
 -- an input of which nothing was read, before a step that needs none of it
 
@@ -236,7 +234,7 @@ rest_untouched world was_read slot [] sources unread few = tt
 rest_untouched world was_read slot (name ∷ names) sources unread few = (
   by_name was_read (is_dash name) unread,
   rest_untouched world (was_read || is_dash name)
-      (next_slot slot name) names sources (λ none. unread (or_parts was_read (is_dash name) none).0)
+      (next_slot slot name) names sources (λ none. unread (or_parts was_read _ none).0)
       (let more : slot ≤ next_slot slot name = count_more slot (name ∷ []) in omega arith),
 ) where
   by_name : (was dash : Bool) → (was ≡ false → source_at sources 0 ≡ source_of world.standard)
@@ -322,92 +320,106 @@ stopped_in_header {told} {task} is_first name {shown} {content} {so_far} {error}
 
 -- the engine's part of an input, after the header
 module _ (told_in told : Bool) (task : Task) (most : ℕ) (is_first failed was_read : Bool) (name : List ℕ)
-    (so_far : Part) (error : Slot) (count : ℕ) (source : Option ℕ) (shown : Option (List ℕ)) (sources : List Source)
-    (mid : List Slot) (counted : length mid ≡ count) (streams_there : 2 ≤ count)
-    (at : OutputsAt told (streams_with error)
-    (after_part so_far (only_out (header_text task.with_header is_first name))) mid) where
-  abbrev pub TookSo : Content → List Slot → Result Progress Fault → Type 0
+    (so_far : Part) (error : Slot) (source : Option ℕ) (shown : Option (List ℕ)) (sources : List Source)
+    (start mid : List Slot) (before : OutputsAt told (streams_with error) so_far start)
+    (wrote : mid ≡ with_written 0 (told_of told (header_text task.with_header is_first name)) start) where
+  abbrev work : Work
+  work = task.work shown
+
+  abbrev header : Part
+  header = only_out (header_text task.with_header is_first name)
+
+  at : OutputsAt told (streams_with error) (after_part so_far header) mid
+  at = headed _ before wrote
+
+  counted : length mid ≡ length start
+  counted = headed_count told _ start wrote
+
+  abbrev taken : Bool → RunProgress
+  taken fails = record { was_read = was_read; is_first = false; failed = fails }
+
+  abbrev WasDone : Content → Type 0
+  WasDone content = IsDone told_in work most source (Some content) sources
+
+  abbrev WasFed : Content → List Slot → Result Fed Fault → Type 0
+  WasFed content = FedAs told mid work (task.opening shown) most content (Leaves told_in content source sources)
+
+  abbrev pub TookSo : Content → List Slot → Result RunProgress Fault → Type 0
   TookSo content new result = TookInput told_in told task most (input_from name source shown content)
-      (of_content task (task.work shown) is_first name (Some content)) is_first failed was_read so_far error count sources new result
+      (of_content task work is_first name (Some content)) is_first failed was_read so_far error (length start) sources new result
 
   part_after : (error_now : Slot) (part : Part) {reached : List Slot}
       → OutputsAt told (streams_with error_now)
-      (after_part (after_part so_far (only_out (header_text task.with_header is_first name))) part) reached
+      (after_part (after_part so_far header) part) reached
       → OutputsAt told (streams_with error_now)
-      (after_part so_far (after_part (only_out (header_text task.with_header is_first name)) part)) reached
-  part_after error_now part there = rw (after_assoc so_far (only_out (header_text task.with_header is_first name)) part) at there
+      (after_part so_far (after_part header part)) reached
+  part_after error_now part there = rw (after_assoc so_far header part) at there
 
   -- it went well
   went_well : (content : Content) (new : List Slot)
-      → IsDone told_in (task.work shown) most source (Some content) sources → is_enough (task.work shown) content ≡ true
-      → (task.work shown).verdict content.bytes ≡ None → OutputsAt told mid ((task.work shown).whole content.bytes) new
-      → TookSo content new (Ok (record { was_read = was_read; is_first = false; failed = failed }))
+      → WasDone content → is_enough work content ≡ true
+      → work.verdict content.bytes ≡ None → OutputsAt told mid (work.whole content.bytes) new
+      → TookSo content new (Ok (taken failed))
   went_well content new done enough well there =
-      rw (made_well task (task.work shown) is_first name content enough well)
-      (took (record { was_read = was_read; is_first = false; failed = failed }) error new
+      rw (made_well task work is_first name content enough well)
+      (took (taken failed) error new
       (simp (and-false, or-false)) done refl (part_after error _ (at_after at there)) refl)
 
   -- a message is due
   went_badly : {why : Reason} (content : Content) (part : Part) (message : Message) (reached old new : List Slot)
-      → IsDone told_in (task.work shown) most source (Some content) sources
-      → of_content task (task.work shown) is_first name (Some content)
+      → WasDone content
+      → of_content task work is_first name (Some content)
       ≡ record {
-        part = after_part
-            (only_out (header_text task.with_header is_first name)) part;
+        part = after_part header part;
         messages = message ∷ [];
         failed = true;
-        sweeps =
-            (task.work shown).clears;
+        sweeps = work.clears;
       }
-      → OutputsAt told mid part reached → Swept (task.work shown).clears (length mid) reached old
+      → OutputsAt told mid part reached → Swept work.clears (length mid) reached old
       → SaysOn told task.speaker why message old new
-      → TookSo content new (Ok (record { was_read = was_read; is_first = false; failed = true }))
+      → TookSo content new (Ok (taken true))
   went_badly {why} content part message reached old new done made there swept says =
-      let top = adds (told_of told (after_part so_far (after_part (only_out (header_text task.with_header is_first name)) part)).out) standard_output in
+      let top = adds (told_of told (after_part so_far (after_part header part)).out) standard_output in
       let all = part_after error part (at_after at there) in
-      let said = said_swept told (SaysFor told task.speaker why message) (task.work shown).clears old new count
-      streams_there (rw all.slots at (rw counted at swept)) says in
-      rw made (took (record { was_read = was_read; is_first = false; failed = true }) said.after (top ∷ said.after ∷ all.since)
+      let said = said_swept told (SaysFor told task.speaker why message) work.clears old new (length start)
+      (part_two before) (rw all.slots at (rw counted at swept)) says in
+      rw made (took (taken true) said.after (top ∷ said.after ∷ all.since)
       (simp (and-false, or-true)) done (said.after, (why, said.says), refl)
       (record { standard = lit< tt; since = all.since; slots = refl; files = all.files }) said.swept)
 
   pub took_well : {content : Content} {new : List Slot} {fed : Fed}
-      → IsDone told_in (task.work shown) most source (Some content) sources → (fed ≡ Whole) ⊎ (fed ≡ Enough)
-      → FedAs told mid (task.work shown) (task.opening shown) most content (Leaves told_in content source sources) new
-      (Ok fed) → TookSo content new (Ok (record { was_read = was_read; is_first = false; failed = failed }))
+      → WasDone content → (fed ≡ Whole) ⊎ (fed ≡ Enough)
+      → WasFed content new (Ok fed) → TookSo content new (Ok (taken failed))
   took_well {content} {new} done good (whole sound _ well there) = went_well content new done (or_left _ _ (ap not sound)) well there
   took_well {content} {new} done good (had_enough complete well there) = went_well content new done (or_right _ _ complete) well there
   took_well done good (broke_off breaks going reached there swept) = absurd (elim good [ inl is ↦ cc | inr is ↦ cc ])
 
   pub took_broken : {why : Reason} {content : Content} {old new : List Slot} {fed : Fed}
-      → IsDone told_in (task.work shown) most source (Some content) sources → fed ≡ Broken
-      → FedAs told mid (task.work shown) (task.opening shown) most content (Leaves told_in content source sources) old
-      (Ok fed) → SaysOn told task.speaker why (message_of (Read 0) name) old new
-      → TookSo content new (Ok (record { was_read = was_read; is_first = false; failed = true }))
+      → WasDone content → fed ≡ Broken
+      → WasFed content old (Ok fed) → SaysOn told task.speaker why (message_of (Read 0) name) old new
+      → TookSo content new (Ok (taken true))
   took_broken {content} {old} {new} done is (broke_off breaks going reached there swept) says =
-      went_badly content ((task.work shown).settled content.bytes) (message_of (Read 0) name) reached old new done
-      (let short : is_enough (task.work shown) content ≡ false = rw breaks going in simp (short, and-true))
+      went_badly content (work.settled content.bytes) (message_of (Read 0) name) reached old new done
+      (let short : is_enough work content ≡ false = rw breaks going in simp (short, and-true))
       there swept says
   took_broken done is ends says = absurd (cc)
 
   pub took_verdict : {why : Reason} {content : Content} {old new : List Slot} {verdict : Verdict}
-      → IsDone told_in (task.work shown) most source (Some content) sources
-      → FedAs told mid (task.work shown) (task.opening shown) most content (Leaves told_in content source sources) old
-      (Err (fault_is.Verdict verdict))
+      → WasDone content
+      → WasFed content old (Err (fault_is.Verdict verdict))
       → SaysOn told task.speaker why (message_of (fault_is.Verdict verdict) (task.subject verdict name)) old new
-      → TookSo content new (Ok (record { was_read = was_read; is_first = false; failed = true }))
+      → TookSo content new (Ok (taken true))
   took_verdict {content} {old} {new} {verdict} done (judged _ enough judges reached there swept) says =
-      went_badly content ((task.work shown).whole content.bytes)
+      went_badly content (work.whole content.bytes)
       (message_of (fault_is.Verdict verdict) (task.subject verdict name)) reached old new done (simp (enough, judges, and-true)) there swept says
   took_verdict done (stopped _ unjudged call _ _ _ _ stop _) says = absurd (cc)
 
   pub took_stopped : {content : Content} {new : List Slot} {fault : Fault}
       → ((verdict : Verdict) → fault ≡ fault_is.Verdict verdict → ⊥)
-      → FedAs told mid (task.work shown) (task.opening shown) most content (Leaves told_in content source sources) new
-      (Err fault) → TookSo content new (Err fault)
+      → WasFed content new (Err fault) → TookSo content new (Err fault)
   took_stopped other (judged verdict enough judges reached there swept) = absurd (other verdict refl)
   took_stopped {content} {fault} other (stopped _ is call is_call read reached why stop swept) =
-      cut_off fault (step_after (after_part so_far (only_out (header_text task.with_header is_first name))) call) reached (calling content call is_call read)
+      cut_off fault (step_after (after_part so_far header) call) reached (calling content call is_call read)
       why (stop_after at stop) (rw counted at swept)
 
 -- standard error is open after an input was fed
@@ -468,9 +480,15 @@ pub none_left : (left : List (Bor (List ℕ))) → length left < 1 → map (λ w
 none_left [] none = refl
 none_left (word ∷ words) none = absurd (omega arith)
 
--- the inputs that were opened
-
 -- which input a name stands for
+
+-- this was taken for a name, whichever input it stands for
+abbrev pub Takes : Bool → Bool → Task → ℕ → Bool → Bool → Bool → (ℕ → List ℕ → Option Content) → List Source
+    → List Source → List ℕ → Part → Slot → ℕ → List Slot → Result RunProgress Fault → Type 0
+Takes told_in told task most is_first failed was_read laid old sources name so_far error first new result =
+    OfName told_in (world_of laid old) was_read (length old) name
+    (λ input. TookInput told_in told task most input (of_input task is_first input) is_first failed
+    (was_read || is_dash name) so_far error first sources new result)
 
 of_file : {told : Bool} (world : World) (was_read : Bool) {slot : ℕ} {name : List ℕ} {content : Option Content}
     (shown : Option (List ℕ)) (P : Input → Type 0) → is_dash name ≡ false
@@ -505,16 +523,14 @@ dash_at false laid sources slot name shown P dash says (content, there, holds) =
 -- the file was opened
 pub took_opened : {told_in told : Bool} {task : Task} {most : ℕ} {is_first failed was_read : Bool}
     {laid : ℕ → List ℕ → Option Content} {name : List ℕ} {old mid : List Source} {slot : ℕ} {so_far : Part}
-    {error : Slot} {first : ℕ} {sources : List Source} {new : List Slot} {result : Result Progress Fault}
+    {error : Slot} {first : ℕ} {sources : List Source} {new : List Slot} {result : Result RunProgress Fault}
     → is_dash name ≡ false → OpensFile told_in laid old mid name slot
     → (shown : Option (List ℕ)) × IsShown told_in (Some slot) mid shown
     × OfSource told_in (Some slot) mid
     (λ content. TookInput told_in told task most (input_from name (Some slot) shown content)
     (of_content task (task.work shown) is_first name (Some content)) is_first failed was_read so_far error first
     sources new result)
-    → OfName told_in (world_of laid old) was_read (length old) name
-    (λ input. TookInput told_in told task most input (of_input task is_first input) is_first failed
-    (was_read || is_dash name) so_far error first sources new result)
+    → Takes told_in told task most is_first failed was_read laid old sources name so_far error first new result
 took_opened {was_read} {laid} {name} {old} {slot} differs opened_it (shown, says, (content, there, one)) =
     of_file (world_of laid old) was_read shown _ differs (λ t. ap (λ n. laid n name) (sym opened_it.number) ∙ opened_it.lies t
     ∙ ap Some (sym (there t ∙ ap (λ (source : Source). source.left)
@@ -526,16 +542,14 @@ took_opened {was_read} {laid} {name} {old} {slot} differs opened_it (shown, says
 -- standard input, for the operand `-`
 pub took_standard : {told_in told : Bool} {task : Task} {most : ℕ} {is_first failed : Bool} (was_read : Bool)
     {source : Option ℕ} (laid : ℕ → List ℕ → Option Content) (name : List ℕ) (old : List Source) {sources : List Source}
-    {so_far : Part} {error : Slot} {first : ℕ} {new : List Slot} {result : Result Progress Fault}
+    {so_far : Part} {error : Slot} {first : ℕ} {new : List Slot} {result : Result RunProgress Fault}
     → source ≡ standard_source was_read → is_dash name ≡ true
     → (shown : Option (List ℕ)) × IsShown told_in source old shown
     × OfSource told_in source old
     (λ content. TookInput told_in told task most (input_from (codes "standard input") source shown content)
     (of_content task (task.work shown) is_first (codes "standard input") (Some content)) is_first failed true so_far
     error first sources new result)
-    → OfName told_in (world_of laid old) was_read (length old) name
-    (λ input. TookInput told_in told task most input (of_input task is_first input) is_first failed
-    (was_read || is_dash name) so_far error first sources new result)
+    → Takes told_in told task most is_first failed was_read laid old sources name so_far error first new result
 took_standard {told_in} {told} {task} {most} {is_first} {failed} was_read laid name old {sources} {so_far}
     {error} {first} {new} {result} is dash (shown, says, holds) =
     let P = λ (read : Bool) (input : Input). TookInput told_in told task most input
@@ -551,10 +565,8 @@ pub of_missing : {told_in told : Bool} {why : Reason} {task : Task} {most : ℕ}
     → OpensNothing told_in laid sources after name fault → fault ≡ Open slot
     → OutputsAt told (streams_with error) so_far old
     → SaysOn told task.speaker why (message_of (Open slot) name) old new
-    → OfName told_in (world_of laid sources) was_read (length sources) name
-    (λ input. TookInput told_in told task most input (of_input task is_first input) is_first failed
-    (was_read || is_dash name) so_far error (length old) after new
-    (Ok (record { was_read = was_read; is_first = is_first; failed = true })))
+    → Takes told_in told task most is_first failed was_read laid sources after name so_far error (length old) new
+    (Ok (record { was_read = was_read; is_first = is_first; failed = true }))
 of_missing {told_in} {told} {why} {task} {most} {is_first} {was_read} {laid} {name} {sources} {new} differs
     (from.broke _ reason number lies are) cannot at says =
     of_file (world_of laid sources) was_read None _ differs (λ t. ap (λ n. laid n name) (sym number) ∙ lies t) (λ t. refl)
@@ -569,9 +581,8 @@ pub of_no_room : {told_in told : Bool} {task : Task} {most : ℕ} {is_first fail
     {laid : ℕ → List ℕ → Option Content} {name : List ℕ} {sources after : List Source} {fault : Fault} {so_far : Part}
     {error : Slot} {old : List Slot} → is_dash name ≡ false → OpensNothing told_in laid sources after name fault
     → ((slot : ℕ) → fault ≡ Open slot → ⊥) → OutputsAt told (streams_with error) so_far old
-    → OfName told_in (world_of laid sources) was_read (length sources) name
-    (λ input. TookInput told_in told task most input (of_input task is_first input) is_first failed
-    (was_read || is_dash name) so_far error (length old) after old (Err fault))
+    → Takes told_in told task most is_first failed was_read laid sources after name so_far error (length old) old
+    (Err fault)
 of_no_room was_read differs (from.broke slot why number lies are) other at = absurd (other slot refl)
 of_no_room {told} was_read {laid} {name} {sources} {so_far} {error} {old} differs (from.no_room are) other at =
     of_file (world_of laid sources) was_read (shown_of (laid (length sources) name)) _ differs (λ t. refl) (λ t. refl)
@@ -600,7 +611,8 @@ are_from world was_read slot (name ∷ names) =
     ((world, _, sym (says_itself _)), are_from world (was_read || is_dash name) (next_slot slot name) names)
 
 -- what was done before the names that are left
-pub record Walked (told_in told : Bool) (task : Task) (world : World) (names left : List (List ℕ)) (progress : Progress)
+pub record Walked (told_in told : Bool) (task : Task) (world : World) (names left : List (List ℕ))
+    (progress : RunProgress)
     (laid : ℕ → List ℕ → Option Content) (sources : List Source) (slots : List Slot) : Type 0 where
   pub done : List Input
   pub made : Outcome
@@ -659,26 +671,32 @@ walk_begins {told} {sources = sources} {slots} fresh are alone =
       count = rw one refl;
     }
 
--- where names are left, no file was removed
-pub slots_at : {told_in told : Bool} {task : Task} {world : World} {names left : List (List ℕ)} {progress : Progress}
-    {laid : ℕ → List ℕ → Option Content}
-    {sources : List Source} {slots : List Slot} → 1 ≤ length left
-    → (walked : Walked told_in told task world names left progress laid sources slots)
-    → OutputsAt told (streams_with walked.error) walked.made.part slots
-slots_at some walked = grind (arith, common_steps)
-
-pub walked_error : {told_in : Bool} (told : Bool) {task : Task} {world : World} {names left : List (List ℕ)}
-    {progress : Progress}
+module _ {told_in told : Bool} {task : Task} {world : World} {names left : List (List ℕ)} {progress : RunProgress}
     {laid : ℕ → List ℕ → Option Content} {sources : List Source} {slots : List Slot}
-    → (walked : Walked told_in told task world names left progress laid sources slots)
-    → is_open walked.error.state ≡ true
-walked_error told {task} walked = rw (all_said_state told task.speaker _ _ _ walked.says) refl
+    (walked : Walked told_in told task world names left progress laid sources slots) where
+  -- where names are left, no file was removed
+  pub slots_at : 1 ≤ length left → OutputsAt told (streams_with walked.error) walked.made.part slots
+  slots_at some = grind (arith, common_steps, walked)
 
-pub walk_streams : {told_in told : Bool} {task : Task} {world : World} {names left : List (List ℕ)}
-    {progress : Progress} {laid : ℕ → List ℕ → Option Content} {sources : List Source} {slots : List Slot}
-    → 1 ≤ length left
-    → Walked told_in told task world names left progress laid sources slots → HasStreams told slots
-walk_streams {told} some walked = record { part = walked.made.part; error = walked.error; at = slots_at some walked; opened = walked_error told walked }
+  pub walked_error : is_open walked.error.state ≡ true
+  walked_error = rw (all_said_state told task.speaker _ _ _ walked.says) refl
+
+  pub walk_streams : 1 ≤ length left → HasStreams told slots
+  walk_streams some = record { part = walked.made.part; error = walked.error; at = slots_at some; opened = walked_error }
+
+  -- all names were taken
+  pub walk_ends : left ≡ []
+      → RunsOver told_in world names (λ found. TookAll told_in told task found sources slots (Ok progress.failed))
+  walk_ends none =
+      let made : made_by task (walked.done ++ []) ≡ walked.made = walked.rest_made [] ∙ joined_nothing in (
+        walked.done ++ [],
+        record {
+          are = walked.rest_are [] (rw none refl);
+          there = λ t. rw none at (walked.rest_there t);
+        },
+        all progress.failed walked.error walked.reached (rw made walked.failed) (rw made walked.says) (rw made walked.at)
+            (rw made walked.swept) (rw (append-nil walked.done) (all_done _ _ _ _ _ _ walked.known)),
+      )
 
 -- while standard input was not read, what it holds is known
 same_input : {world : World} (was_read : Bool) (slot : ℕ) (name : List ℕ) (d : Bool)
@@ -698,122 +716,95 @@ taken_alone {left} slots alone is = elim (alone is) [
   | inr few ↦ (nil_from_length left (omega arith), few.1)
 ]
 
-abbrev pub Takes : Bool → Bool → Task → ℕ → Progress → (ℕ → List ℕ → Option Content) → List Source → List Source
-    → List ℕ → Part → Slot → List Slot → List Slot → Result Progress Fault → Type 0
-Takes told_in told task most progress laid sources new_sources name so_far error slots new result =
-    OfName told_in (world_of laid sources) progress.was_read (length sources) name
-    (λ input. TookInput told_in told task most input (of_input task progress.is_first input) progress.is_first progress.failed
-    (progress.was_read || is_dash name) so_far error (length slots) new_sources new result)
+module _ {told_in told : Bool} {task : Task} {world : World} {names : List (List ℕ)} {name : List ℕ}
+    {left : List (List ℕ)} {progress : RunProgress} {laid : ℕ → List ℕ → Option Content}
+    {sources new_sources : List Source} {slots : List Slot}
+    (walked : Walked told_in told task world names (name ∷ left) progress laid sources slots)
+    (leaves : TakesOne largest_piece progress.was_read name sources new_sources) where
+  unread_on : (progress.was_read || is_dash name) ≡ false → source_at new_sources 0 ≡ source_of world.standard
+  unread_on unread = let both = or_parts progress.was_read _ unread in leaves.unasked both.1 ∙ walked.standard both.0
 
--- one more name was taken
-pub walk_goes_on : {told_in told : Bool} {task : Task} {world : World} {names : List (List ℕ)} {name : List ℕ}
-    {left : List (List ℕ)} {progress next : Progress}
-    {laid new_laid : ℕ → List ℕ → Option Content} {sources new_sources : List Source} {slots new : List Slot}
-    → (walked : Walked told_in told task world names (name ∷ left) progress laid sources slots)
-    → TakesOne largest_piece progress.was_read name sources new_sources
-    → length new_sources ≡ next_slot (length sources) name → new_laid ≡ laid
-    → Takes told_in told task largest_piece progress laid sources new_sources name walked.made.part walked.error slots
-    new (Ok next)
-    → Walked told_in told task world names left next new_laid new_sources new
-walk_goes_on {told_in} {told} {task} {world} {name = name} {left} {progress} {next} {sources = sources} {new_sources}
-    {slots} {new} walked leaves opened_it same (input, is_for, there, took _ after reached is is_done says at swept) =
-    let one = of_input task progress.is_first input in
-    let was : next.was_read ≡ (progress.was_read || is_dash name) = ap (λ (p : Progress). p.was_read) is in
-    let unswept : walked.made.sweeps ≡ false = walked.unswept (omega arith) in
-    let sweeps_one : (walked.made.sweeps || one.sweeps) ≡ one.sweeps = ap (λ (b : Bool). b || one.sweeps) unswept in
-    let only : one.sweeps ≡ true → (left ≡ []) × (length slots ≡ 2) = λ sweeps. taken_alone slots
-    (walked.alone input.shown) (sweeps_clears task (task.work input.shown) progress.is_first input.name input.content sweeps) in
-    record {
-      done = walked.done ++ input ∷ [];
-      made = joined walked.made one;
-      error = after;
-      reached = reached;
-      at = at;
-      swept = rw sweeps_one (swept_from one.sweeps reached new (λ sweeps. (only sweeps).1) swept);
-      says = says_after told task.speaker walked.made.messages one.messages standard_error walked.error after walked.says says;
-      failed = rw (is, walked.failed);
-      alone = λ shown clears. inl (taken_alone slots (walked.alone shown) clears).0;
-      unswept = λ some. sweeps_one ∙ false_from_ne_true one.sweeps (λ sweeps. omega (arith, ap length (only sweeps).0));
-      first = rw (is, walked.first, and_push are_missing (λ (one : Input). is_missing one.content) refl (λ one inputs. refl) walked.done input);
-      rest_made = λ rest. ap (of_inputs task true) (append_assoc walked.done (input ∷ []) rest) ∙ walked.rest_made (input ∷ rest)
-          ∙ (simp (append_assoc, or_assoc))
-          ∙ ap (λ (b : Bool). joined (joined walked.made one) (of_inputs task b rest)) (sym (ap (λ (p : Progress). p.is_first) is));
-      rest_are = λ rest are_rest. rw (append_assoc walked.done (input ∷ []) rest)
-          (walked.rest_are (input ∷ rest) (is_for, rw was at (rw opened_it at are_rest)));
-      rest_there = λ t. append_assoc walked.done (input ∷ []) (inputs_from world next.was_read (length new_sources) left)
-          ∙ ap (λ (first : Input). walked.done ++ first ∷ inputs_from world next.was_read (length new_sources) left)
-          (there t ∙ same_input progress.was_read (length sources) name (is_dash name) sources walked.laid_same walked.standard)
-          ∙ ap (λ n. walked.done ++ input_of world progress.was_read (length sources) name
-          (is_dash name) ∷ inputs_from world next.was_read n left) opened_it
-          ∙ ap (λ (b : Bool). walked.done ++ input_of world progress.was_read (length sources) name
-          (is_dash name) ∷ inputs_from world b (next_slot (length sources) name) left) was
-          ∙ walked.rest_there t;
-      laid_same = same ∙ walked.laid_same;
-      standard = λ unread. let both = or_parts progress.was_read (is_dash name) (sym was ∙ unread) in leaves.unasked both.1 ∙ walked.standard both.0;
-      some = omega arith;
-      known = rw was (done_more told_in task.work largest_piece (progress.was_read || is_dash name) walked.done input new_sources
-          (still_done told_in task.work largest_piece walked.done (λ had. ap (λ (b : Bool). b || is_dash name) had) leaves walked.known)
-          (done_with told_in (task.work input.shown) largest_piece progress.was_read name new_sources is_for walked.some is_done));
-      asked = leaves.asked walked.asked;
-      count = rw (opened_it, walked.count);
-    }
+  done_on : StayDone told_in task.work largest_piece (progress.was_read || is_dash name) walked.done new_sources
+  done_on = still_done told_in task.work largest_piece walked.done (λ had. rw had refl) leaves walked.known
 
--- a fault stopped the run at a name
-pub walk_stops : {told_in : Bool} (told : Bool) {task : Task} {world : World} {names : List (List ℕ)} {name : List ℕ}
-    {left : List (List ℕ)}
-    {progress : Progress} {laid : ℕ → List ℕ → Option Content} {sources new_sources : List Source}
-    {slots new : List Slot} (fault : Fault)
-    → (walked : Walked told_in told task world names (name ∷ left) progress laid sources slots)
-    → TakesOne largest_piece progress.was_read name sources new_sources
-    → Takes told_in told task largest_piece progress laid sources new_sources name walked.made.part walked.error slots
-    new (Err fault)
-    → RunsOver told_in world names (λ found. TookAll told_in told task found new_sources new (Err fault))
-walk_stops {told_in} told {task} {world} {names} {name} {left} {progress} {laid} {sources} {new_sources} {slots}
-    {new} fault walked leaves (input, is_for, there, cut_off _ step reached is_step stops stop swept) =
-    let rest = inputs_from world (progress.was_read || is_dash name) (next_slot (length sources) name) left in
-    let before : made_by task walked.done ≡ walked.made
-    = ap (of_inputs task true) (sym (append-nil walked.done)) ∙ walked.rest_made [] ∙ joined_nothing in (
-      walked.done ++ input ∷ rest,
+  -- one more name was taken
+  pub walk_goes_on : {next : RunProgress} {new_laid : ℕ → List ℕ → Option Content} {new : List Slot}
+      → length new_sources ≡ next_slot (length sources) name → new_laid ≡ laid
+      → Takes told_in told task largest_piece progress.is_first progress.failed progress.was_read laid sources
+      new_sources name walked.made.part walked.error (length slots) new (Ok next)
+      → Walked told_in told task world names left next new_laid new_sources new
+  walk_goes_on {next = next} {new = new} opened_it same (input, is_for, there, took _ after reached is is_done says at swept) =
+      let one = of_input task progress.is_first input in
+      let was : next.was_read ≡ (progress.was_read || is_dash name) = ap (λ (p : RunProgress). p.was_read) is in
+      let unswept : walked.made.sweeps ≡ false = walked.unswept (omega arith) in
+      let sweeps_one : (walked.made.sweeps || one.sweeps) ≡ one.sweeps = ap (λ (b : Bool). b || one.sweeps) unswept in
+      let only : one.sweeps ≡ true → (left ≡ []) × (length slots ≡ 2) = λ sweeps. taken_alone slots
+      (walked.alone input.shown) (sweeps_clears task (task.work input.shown) progress.is_first input.name input.content sweeps) in
       record {
-        are = walked.rest_are (input ∷ rest) (is_for, are_from world (progress.was_read || is_dash name) (next_slot (length sources) name) left);
-        there = λ t. rw (
-          there t,
-          same_input progress.was_read _ name (is_dash name)
-              sources walked.laid_same walked.standard,
-        ) (walked.rest_there t);
-      },
-      stopped_at fault walked.done input rest walked.error step reached refl
-          (all_done _ _ _ (progress.was_read || is_dash name) _ _
-          (still_done told_in task.work largest_piece walked.done (λ had. rw had refl) leaves walked.known))
-          (rest_untouched world (progress.was_read || is_dash name) (next_slot (length sources) name) left new_sources
-          (λ unread. let both = or_parts progress.was_read (is_dash name) unread in leaves.unasked both.1 ∙ walked.standard both.0) leaves.within)
-          (rw before (rw walked.first at is_step))
-          stops (rw before walked.says) stop
-          (swept_from (task.work input.shown).clears reached new (λ clears. (taken_alone slots (walked.alone input.shown) clears).1) swept),
-    )
+        done = walked.done ++ input ∷ [];
+        made = joined walked.made one;
+        error = after;
+        reached = reached;
+        at = at;
+        swept = rw sweeps_one (swept_from one.sweeps reached new (λ sweeps. (only sweeps).1) swept);
+        says = says_after told task.speaker walked.made.messages one.messages standard_error walked.error after walked.says says;
+        failed = rw (is, walked.failed);
+        alone = λ shown clears. inl (taken_alone slots (walked.alone shown) clears).0;
+        unswept = λ some. sweeps_one ∙ false_from_ne_true one.sweeps (λ sweeps. omega (arith, ap length (only sweeps).0));
+        first = rw (is, walked.first, and_push are_missing (λ (one : Input). is_missing one.content) refl (λ one inputs. refl) walked.done input);
+        rest_made = λ rest. ap (of_inputs task true) (append_assoc walked.done (input ∷ []) rest) ∙ walked.rest_made (input ∷ rest)
+            ∙ (simp (append_assoc, or_assoc))
+            ∙ ap (λ (b : Bool). joined (joined walked.made one) (of_inputs task b rest)) (sym (ap (λ (p : RunProgress). p.is_first) is));
+        rest_are = λ rest are_rest. rw (append_assoc walked.done (input ∷ []) rest)
+            (walked.rest_are (input ∷ rest) (is_for, rw was at (rw opened_it at are_rest)));
+        rest_there = λ t. append_assoc walked.done (input ∷ []) (inputs_from world next.was_read (length new_sources) left)
+            ∙ ap (λ (first : Input). walked.done ++ first ∷ inputs_from world next.was_read (length new_sources) left)
+            (there t ∙ same_input progress.was_read (length sources) name (is_dash name) sources walked.laid_same walked.standard)
+            ∙ ap (λ n. walked.done ++ input_of world progress.was_read (length sources) name
+            (is_dash name) ∷ inputs_from world next.was_read n left) opened_it
+            ∙ ap (λ (b : Bool). walked.done ++ input_of world progress.was_read (length sources) name
+            (is_dash name) ∷ inputs_from world b (next_slot (length sources) name) left) was
+            ∙ walked.rest_there t;
+        laid_same = same ∙ walked.laid_same;
+        standard = λ unread. unread_on (sym was ∙ unread);
+        some = omega arith;
+        known = rw was (done_more told_in task.work largest_piece (progress.was_read || is_dash name) walked.done input new_sources
+            done_on
+            (done_with told_in (task.work input.shown) largest_piece progress.was_read name new_sources is_for walked.some is_done));
+        asked = leaves.asked walked.asked;
+        count = rw (opened_it, walked.count);
+      }
 
--- all names were taken
-pub walk_ends : {told_in told : Bool} {task : Task} {world : World} {names left : List (List ℕ)} {progress : Progress}
-    {laid : ℕ → List ℕ → Option Content} {sources : List Source} {slots : List Slot} → left ≡ []
-    → Walked told_in told task world names left progress laid sources slots
-    → RunsOver told_in world names (λ found. TookAll told_in told task found sources slots (Ok progress.failed))
-walk_ends {task = task} {progress = progress} none walked =
-    let made : made_by task (walked.done ++ []) ≡ walked.made = walked.rest_made [] ∙ joined_nothing in (
-      walked.done ++ [],
-      record {
-        are = walked.rest_are [] (rw none refl);
-        there = λ t. rw none at (walked.rest_there t);
-      },
-      all progress.failed walked.error walked.reached (rw made walked.failed)
-          (rw made walked.says)
-          (rw made walked.at)
-          (rw made walked.swept)
-          (rw (append-nil walked.done) (all_done _ _ _ _ _ _ walked.known)),
-    )
+  -- a fault stopped the run at a name
+  pub walk_stops : {new : List Slot} (fault : Fault)
+      → Takes told_in told task largest_piece progress.is_first progress.failed progress.was_read laid sources
+      new_sources name walked.made.part walked.error (length slots) new (Err fault)
+      → RunsOver told_in world names (λ found. TookAll told_in told task found new_sources new (Err fault))
+  walk_stops {new} fault (input, is_for, there, cut_off _ step reached is_step stops stop swept) =
+      let rest = inputs_from world (progress.was_read || is_dash name) (next_slot (length sources) name) left in
+      let before : made_by task walked.done ≡ walked.made
+      = ap (of_inputs task true) (sym (append-nil walked.done)) ∙ walked.rest_made [] ∙ joined_nothing in (
+        walked.done ++ input ∷ rest,
+        record {
+          are = walked.rest_are (input ∷ rest) (is_for, are_from world (progress.was_read || is_dash name) (next_slot (length sources) name) left);
+          there = λ t. rw (
+            there t,
+            same_input progress.was_read _ name (is_dash name)
+                sources walked.laid_same walked.standard,
+          ) (walked.rest_there t);
+        },
+        stopped_at fault walked.done input rest walked.error step reached refl
+            (all_done _ _ _ (progress.was_read || is_dash name) _ _ done_on)
+            (rest_untouched world (progress.was_read || is_dash name) (next_slot (length sources) name) left new_sources
+            unread_on leaves.within)
+            (rw before (rw walked.first at is_step))
+            stops (rw before walked.says) stop
+            (swept_from (task.work input.shown).clears reached new (λ clears. (taken_alone slots (walked.alone input.shown) clears).1) swept),
+      )
 
 -- the words that a loop has left are the first of them and the rest
 pub walked_at : {told_in : Bool} (told : Bool) {task : Task} {world : World} {names : List (List ℕ)}
-    (none : Bor (List ℕ)) (left : List (Bor (List ℕ))) {progress : Progress} {laid : ℕ → List ℕ → Option Content}
+    (none : Bor (List ℕ)) (left : List (Bor (List ℕ))) {progress : RunProgress} {laid : ℕ → List ℕ → Option Content}
     {sources : List Source} {slots : List Slot} → 1 ≤ length left
     → Walked told_in told task world names (map (λ word. word.now) left) progress laid sources slots
     → Walked told_in told task world names

@@ -1,15 +1,14 @@
 -- Lemmas on what is written after what was written before, on outputs that a fault stopped, and on the message that tells it.
 use Rattle.std.proofs.{
   lemmas.{Grind.common_steps, List.{map-append, append-nil}},
-  Common.{◌≡◌, ℕ, ◌+◌, ◌<◌, ◌≤◌, suc, Bool, true, false, List, [], ◌∷◌, ◌++◌, length, take, drop, ◌⊎◌, inl, inr, refl},
-  Common.{sym, ◌∙◌, ap, arith, append_assoc, length-append, zero, lit<, subst},
+  Common.{◌≡◌, ℕ, ◌+◌, ◌<◌, ◌≤◌, suc, Bool, true, false, List, [], ◌∷◌, ◌++◌, length, take, drop, ◌⊎◌, inl},
+  Common.{inr, refl, sym, ◌∙◌, ap, arith, append_assoc, length-append, zero, lit<, subst},
   Math.Seq.{take-append-add, drop-append-add},
 }
 use Rattle.ports_core.specs.{
   Slot.{Slot, with_written, told_of, is_open, slot_at, adds, breaks, unopened, with_broken},
   Part.{nothing, Part, File, only_out, OutputsAt, IsBeginning, Begins, IsNext, IsAt, StoppedBetween, file_of},
-  Part.{told_file, Marks, Output, gets_none, gets_bytes, gets_lines, gets_openings, lines_for, openings_for},
-  Part.LinesInOrder,
+  Part.{told_file, Marks, Output, gets_lines, gets_openings, lines_for, openings_for, LinesInOrder},
   Swept.{Swept, SweptFrom, Cleared},
   declared.fault.Fault.{Fault, TheVariants.{Write, Open}},
   Message.{OnError, output_named, output_reason},
@@ -88,8 +87,6 @@ lines_after : (output : Output) (first low part high : Part) (place : ℕ) (faul
     → LinesInOrder output low part high place fault
     → LinesInOrder output (after_part first low) (after_part first part) (after_part first high)
     (length first.files + place) fault
-lines_after gets_none first low part high place fault lines = tt
-lines_after gets_bytes first low part high place fault lines = tt
 lines_after (gets_openings line) first low part high place fault are = record {
   next = are.next;
   all = ap (λ bytes. first.out ++ bytes) are.all ∙ sym (append_assoc first.out low.out _)
@@ -113,6 +110,7 @@ lines_after (gets_lines line) first low part high place fault (inr (since, is, a
     cut = subst (λ files. (are.next ≡ []) ⊎ ((fault ≡ Write 0) × IsBeginning are.next (lines_for line (take 1 files)))) (sym (drop-append-add first.files part.files place)) are.cut;
   },
 )
+lines_after output first low part high place fault lines = tt
 
 pub stop_after : {output : Output} {told : Bool} {base : List Slot} {first low high : Part} {fault : Fault}
     {mid now : List Slot} → OutputsAt told base first mid → StoppedBetween output told mid low high fault now
@@ -261,10 +259,9 @@ swept_error true old new past swept = swept.before 1 (omega arith)
 
 streams_left : {output error : Slot} {since : List Slot} (mid : List Slot) {first : ℕ} → 2 ≤ first
     → SweptFrom first (output ∷ error ∷ since) mid → (now : List Slot) × (mid ≡ output ∷ error ∷ now)
-streams_left {since} [] past swept = absurd (cc)
-streams_left {since} (one ∷ []) past swept = absurd (cc)
 streams_left {output} (one ∷ two ∷ now) past swept =
     (now, ap (λ slot. slot ∷ two ∷ now) (swept.before 0 (omega arith)) ∙ ap (λ slot. output ∷ slot ∷ now) (swept.before 1 (omega arith)))
+streams_left {since = since} mid past swept = absurd (cc)
 
 -- a fault is of no output that has messages
 abbrev IsBeside : Fault → Type 0
@@ -283,8 +280,8 @@ marked_beside IsName fault place count output error since now from marks = tt
 same_beside : (fault : Fault) (old new : List Slot) → IsBeside fault
     → ((place : ℕ) → (place ≡ 1 → ⊥) → slot_at new place ≡ slot_at old place)
     → (output_named new fault ≡ output_named old fault) × (output_reason new fault ≡ output_reason old fault)
-same_beside (Write slot) old new beside same = (ap (λ (slot : Slot). slot.name) (same slot beside), ap (λ (slot : Slot). slot.reason) (same slot beside))
-same_beside (Open slot) old new beside same = (ap (λ (slot : Slot). slot.name) (same slot beside), ap (λ (slot : Slot). slot.reason) (same slot beside))
+same_beside (Write slot) old new beside same = (cc (same slot beside), cc (same slot beside))
+same_beside (Open slot) old new beside same = (cc (same slot beside), cc (same slot beside))
 same_beside fault old new beside same = (refl, refl)
 
 module _ (told : Bool) (Change : Slot → Slot → Type 0) where

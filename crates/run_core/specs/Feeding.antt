@@ -1,7 +1,7 @@
 -- What becomes of an input that is fed to an engine piece by piece.
 use Rattle.std.specs.{
-  Prelude.{◌≡◌, ℕ, ◌≤◌, ◌^◌, Bool, true, false, not, ◌||◌, List, [], ◌+◌, ◌++◌, length, ◌⊎◌, None, Result, Ok, Err},
-  Prelude.if◌then◌else◌,
+  Prelude.{◌≡◌, ℕ, ◌≤◌, ◌^◌, Bool, true, false, not, ◌||◌, List, [], ◌+◌, ◌++◌, length, ◌⊎◌, None, Result, Ok},
+  Prelude.{Err, if◌then◌else◌},
 }
 use Rattle.ports_core.specs.{
   Slot.{Slot, slot_at},

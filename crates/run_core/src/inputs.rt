@@ -38,7 +38,7 @@ struct Job<'a, A: Adapter> {
 
 /// How far a run over several inputs has come.
 #[derive(Clone, Copy)]
-pub struct Progress {
+pub struct RunProgress {
     /// Standard input was among them.
     was_read: bool,
     /// No header was written.
@@ -108,7 +108,7 @@ fn take_names<A: Adapter, I: Inputs, O: Outs>(
     ensures untouched { has_dash (map (λ name. name.now) names.now) ≡ false
         → source_at (I.sources inputs.new) 0 ≡ source_at (I.sources inputs.old) 0 }
 {
-    let mut progress = Progress {
+    let mut progress = RunProgress {
         was_read: false,
         is_first: true,
         failed: false,
@@ -129,11 +129,11 @@ fn take_names<A: Adapter, I: Inputs, O: Outs>(
 fn take_name<A: Adapter, I: Inputs, O: Outs>(
     job: &Job<'_, A>,
     name: &str,
-    progress: Progress,
+    progress: RunProgress,
     buffer: &mut [u8],
     inputs: &mut I,
     outs: &mut O,
-) -> Result<Progress, Fault>
+) -> Result<RunProgress, Fault>
     requires room { 0 < length buffer.old }
     requires some { 0 < length (I.sources inputs.old) }
     requires standard { progress.was_read ≡ false → IsTrue (is_readable (I.sources inputs.old) 0) }
@@ -154,7 +154,7 @@ fn take_name<A: Adapter, I: Inputs, O: Outs>(
 {
     if is_dash(name) {
         let source = standard_source(progress.was_read);
-        let progress = Progress {
+        let progress = RunProgress {
             was_read: true,
             ..progress
         };
@@ -175,7 +175,7 @@ fn take_name<A: Adapter, I: Inputs, O: Outs>(
                 return Err(fault);
             };
             say_why(job, Some(slot), &fault, name, inputs, outs);
-            Ok(Progress {
+            Ok(RunProgress {
                 failed: true,
                 ..progress
             })
@@ -207,11 +207,11 @@ fn take_input<A: Adapter, I: Inputs, O: Outs>(
     job: &Job<'_, A>,
     name: &str,
     source: Option<usize>,
-    progress: Progress,
+    progress: RunProgress,
     buffer: &mut [u8],
     inputs: &mut I,
     outs: &mut O,
-) -> Result<Progress, Fault>
+) -> Result<RunProgress, Fault>
     requires room { 0 < length buffer.old }
     requires input { IfSome source (λ slot. IsTrue (is_readable (I.sources inputs.old) slot)) }
     requires unread { IfSome source (λ slot. IsUnread (source_at (I.sources inputs.old) slot)) }
@@ -231,7 +231,7 @@ fn take_input<A: Adapter, I: Inputs, O: Outs>(
     ensures laid { I.laid inputs.new ≡ I.laid inputs.old }
 {
     put_header(job, name, progress.is_first, outs)?;
-    let after = Progress {
+    let after = RunProgress {
         is_first: false,
         ..progress
     };
@@ -240,7 +240,7 @@ fn take_input<A: Adapter, I: Inputs, O: Outs>(
         Ok(Fed::Enough) => Ok(after),
         Ok(Fed::Broken) => {
             say_why(job, source, &Fault::Read(0), name, inputs, outs);
-            Ok(Progress {
+            Ok(RunProgress {
                 failed: true,
                 ..after
             })
@@ -258,7 +258,7 @@ fn take_input<A: Adapter, I: Inputs, O: Outs>(
                 subject,
                 outs,
             );
-            Ok(Progress {
+            Ok(RunProgress {
                 failed: true,
                 ..after
             })

@@ -21,18 +21,19 @@ use Rattle.std.specs.Int.{bit_at, trailing_zeros, bit_not, Bits.{or_zero_l, or_z
 use mir.Val.{bool_byte}
 use Rattle.scan_core.specs.{
   Code.At,
-  declared.{closures.Closures.Closures, hops.Hop.Hop, node.Node.Node, way.Way.Way},
-  inner.Closing.{Closer, Follows, HasLanded, IsApart, Passes},
+  declared.{closures.Closures.Closures, hops.Hop.Hop, node.Node.Node, branch.Branch.Branch},
+  inner.Closing.{Closer, Follows, HasLanded, IsApart, FollowsHops},
   inner.Closures.{AreClosures, Closes, HasAnchors, IsBase, IsBegun, IsPlain, Stays},
   inner.Hops.{AreHops, AreLandings, HopsTo, IsHop, IsLanding, Meets, PartsTo, end_of, no_hop},
   inner.Sets.{Flows, FlowsOn, LeadsOn},
-  inner.Ways.IsWay,
+  inner.Branches.IsBranch,
   inner.Words.{Adds, IsIn, SpreadsOut, unset, width},
 }
 use Rattle.scan_core.proofs.{
   Countings.set_elsewhere,
   Enterings.{at_index, at_least, each_more, each_to, flows_of, led_by, parts_anywhere},
   Insides.{adds_anywhere, adds_both, entered_one, either_bit, flows_join, fresh_bit, is_in_word, is_within, left_bit},
+  Insides.lowest_in,
   Insides.{right_bit, spreads_out, unset-set},
 }
 
@@ -40,42 +41,36 @@ use Rattle.scan_core.proofs.{
 pub one_of : {word : ℕ} (from : ℕ) → word < 2 ^ 64 → (bit_and word from ≡ 0 → ⊥)
     → (bit : ℕ) × (bit < 64) × (bit_at word bit ≡ 1) × (bit_at from bit ≡ 1)
 one_of {word} from fits some =
-    let l = and_le_l word from in
-    let lowest = bit_at-trailing_zeros w64 (bit_and word from) (omega arith) (omega arith) in
+    let lowest = lowest_in word from fits some in
     let bit : ℕ = trailing_zeros w64 (bit_and word from) in
     let e = bit_at_and word from bit in
-    let is = lowest.1 in
-    let m = bit_at-lt word bit in
-    let n = bit_at-lt from bit in
-    (bit, lowest.0, omega arith, omega arith)
+    (bit, lowest.0, omega (arith, e, lowest.1, bit_at-lt word bit), omega (arith, e, lowest.1, bit_at-lt from bit))
 
 pub none_of : (word from bit : ℕ) → bit_and word from ≡ 0 → bit_at word bit ≡ 1 → bit_at from bit ≡ 1 → ⊥
 none_of word from bit none here there =
-    let e = bit_at_and word from bit in
-    let z = ap (λ w. bit_at w bit) none ∙ bit_at-zero bit in
-    omega arith
+    omega (arith, bit_at_and word from bit, ap (λ w. bit_at w bit) none ∙ bit_at-zero bit)
 
 -- Hops are added.
 
-pub adding_one : {code : List Node} {old new : List Hop} {hop : Hop} → AreHops code old → IsHop code hop
+adding_one : {code : List Node} {old new : List Hop} {hop : Hop} → AreHops code old → IsHop code hop
     → new ≡ old ++ hop ∷ [] → AreHops code new
 adding_one {old} {hop} are is e = let l = ap length e in let m = length-append old (hop ∷ []) in each_to (each_more are is e) (omega arith)
 
-pub hops_added : (old more : List Hop) {new : List Hop} {at to : ℕ} → new ≡ old ++ more → HopsTo old at to
+hops_added : (old more : List Hop) {new : List Hop} {at to : ℕ} → new ≡ old ++ more → HopsTo old at to
     → HopsTo new at to
 hops_added old more e h = grind (arith, common_steps)
 
 -- what is met stays so when hops are added
-pub meets_kept : (base : List ℕ) (old : List Hop) {new : List Hop} {at to : ℕ} → (more : List Hop) × (new ≡ old ++ more)
+meets_kept : (base : List ℕ) (old : List Hop) {new : List Hop} {at to : ℕ} → (more : List Hop) × (new ≡ old ++ more)
     → Meets base old at to → Meets base new at to
 meets_kept base old grown (inl near) = inl near
 meets_kept base old grown (inr (inl based)) = inr (inl based)
 meets_kept base old grown (inr (inr hop)) = inr (inr (hops_added _ _ grown.1 hop))
 
 -- what a node leads to is met once both are
-pub both_met : {code : List Node} (base : List ℕ) (old new : List Hop) {number : ℕ} {way : Way} {T E : Type 0}
-    (result : Result T E) → IsWay code number way → Meets base old (number / 64) way.one
-    → OnOk result ((more : List Hop) × (new ≡ old ++ more)) → OnOk result (Meets base new (number / 64) way.other)
+pub both_met : {code : List Node} (base : List ℕ) (old new : List Hop) {number : ℕ} {branch : Branch} {T E : Type 0}
+    (result : Result T E) → IsBranch code number branch → Meets base old (number / 64) branch.one
+    → OnOk result ((more : List Hop) × (new ≡ old ++ more)) → OnOk result (Meets base new (number / 64) branch.other)
     → OnOk result ((to : ℕ) → Flows code false false number to → Meets base new (number / 64) to)
 both_met base old new {number} (Ok done) w one grown other = λ to f. led_by (Meets base new (number / 64)) w (meets_kept base old grown one) other f
 both_met base old new (Err fault) w one grown other = tt
@@ -108,7 +103,7 @@ part_onward {all} {count} p is eh en = record {
   first = adding_one p.first is en;
   last = p.last;
   parted = λ place l. elim (cases_eq place count) [
-    | inl same ↦ inl (rw (eh ∙ ap (λ n. get_or all n no_hop) (sym same)) at (hops_to_last _ _ en))
+    | inl same ↦ rw (same, ← eh) (inl (hops_to_last _ _ en))
     | inr other ↦ elim (p.parted place (omega arith)) [
       | inl on ↦ inl (hops_added _ _ en on)
       | inr land ↦ inr land
@@ -123,7 +118,7 @@ part_landing {all} {landings} {count} {hop} p is eh en = record {
   first = p.first;
   last = let l = ap length en in let m = length-append landings (hop ∷ []) in each_to (each_more p.last is en) (omega arith);
   parted = λ place l. elim (cases_eq place count) [
-    | inl same ↦ inr (rw (eh ∙ ap (λ n. get_or all n no_hop) (sym same)) at (hops_to_last _ _ en))
+    | inl same ↦ rw (same, ← eh) (inr (hops_to_last _ _ en))
     | inr other ↦ elim (p.parted place (omega arith)) [
       | inl on ↦ inl on
       | inr land ↦ inr (hops_added _ _ en land)
@@ -141,7 +136,7 @@ parting_ends {all} {onward} {landings} p h met number to f = elim (met number to
   | inr other ↦ inr (elim other [
     | inl based ↦ inl based
     | inr hop ↦ inr (rw hop.3 at (subst (λ at. PartsTo onward landings at (end_of (get_or all hop.0 no_hop))) hop.2
-        (p.parted hop.0 (let l = hop.1 in omega arith))))
+        (p.parted hop.0 (omega (arith, hop.1)))))
   ])
 ]
 
@@ -154,7 +149,7 @@ plain_node code {number} {read} e inside plain = λ to f.
     (read, here, plain number to (flows_of _ _ here f))
 
 pub plain_beyond : (code : List Node) {number : ℕ} → length code ≤ number → IsPlain code number
-plain_beyond code {number} h = λ to f. absurd (let l = at_least code number f.0 f.1 in omega arith)
+plain_beyond code {number} h = λ to f. absurd (omega (arith, at_least code number f.0 f.1))
 
 -- the first words of a set have no anchors
 abbrev pub NoneAnchors : List Node → List ℕ → ℕ → Type 0
@@ -186,7 +181,7 @@ kept_or {word} {all} c fits small = same_from_bits_below 64 (bit_or word all) al
 unset_fuller : (words : List ℕ) (at word : ℕ) → get_or words at 0 ≤ word → unset (set words at word) ≤ unset words
 unset_fuller [] at word l = omega arith
 unset_fuller (x ∷ words) zero word l = omega arith
-unset_fuller (x ∷ words) (suc at) word l = let r = unset_fuller words at word l in omega arith
+unset_fuller (x ∷ words) (suc at) word l = omega (arith, unset_fuller words at word l)
 
 -- a word was closed
 pub record Closed (code : List Node) (at : ℕ) (old now : List ℕ) : Type 0 where
@@ -195,7 +190,7 @@ pub record Closed (code : List Node) (at : ℕ) (old now : List ℕ) : Type 0 wh
   pub fuller : unset now ≤ unset old
   pub closed : (start to : ℕ) → start / 64 ≡ at → IsIn now start → Stays code start to → IsIn now to
 
-pub close_word : {code : List Node} {at word all : ℕ} {old now : List ℕ} → at < length old → word ≡ get_or old at 0
+close_word : {code : List Node} {at word all : ℕ} {old now : List ℕ} → at < length old → word ≡ get_or old at 0
     → Closes code at word all → word < 2 ^ 64 → all < 2 ^ 64 → now ≡ set old at all → Closed code at old now
 close_word {code} {at} {word} {all} {old} {now} h ew c fits small es = record {
   adds = record {
@@ -218,10 +213,10 @@ close_word {code} {at} {word} {all} {old} {now} h ew c fits small es = record {
     ];
   };
   elsewhere = λ number other k. (set_elsewhere _ _ _ other).0 (rw en at k);
-  fuller = rw (← en) at (unset_fuller old at (bit_or word all) (let l = le_or_l word all in omega arith));
+  fuller = rw (← en) at (unset_fuller old at (bit_or word all) (omega (arith, le_or_l word all)));
   closed = λ start to here k s.
       let e : start ≡ at * 64 + start % 64 = omega arith in
-      let f : to ≡ at * 64 + to % 64 = (let q = s.1 in omega arith) in
+      let f : to ≡ at * 64 + to % 64 = omega (arith, s.1) in
       let flow = subst (λ n. Flows code false false n (at * 64 + to % 64)) e (rw f at s.0) in
       let b = c.closed (start % 64) (to % 64) (omega arith) (omega arith) (in_all _ (omega arith) (rw e at k)) flow in
       rw (← f) at ((is_in_word now at (to % 64) (omega arith)).0 (bit_now _ (right_bit word all (to % 64) b)));
@@ -242,6 +237,10 @@ close_word {code} {at} {word} {all} {old} {now} h ew c fits small es = record {
     in_all : (bit : ℕ) → bit < 64 → IsIn now (at * 64 + bit) → bit_at all bit ≡ 1
     in_all bit l k = elim (either_bit _ _ _ (sym (ap (λ w. bit_at w bit) read) ∙ (is_in_word _ _ _ l).1 k)) [ inl w ↦ c.kept bit l w | inr a ↦ a ]
 
+-- all that is in a set is in another
+abbrev pub Within : List ℕ → List ℕ → Type 0
+Within base words = (number : ℕ) → IsIn base number → IsIn words number
+
 -- a number of a word of which none leads out of the base leads to numbers of it
 based_of : {code : List Node} {closures : Closures} {at : ℕ} (words : List ℕ) {start to : ℕ} → AreClosures code closures
     → at < width code → bit_and (get_or words at 0) (get_or closures.leads.items at 0) ≡ 0 → start / 64 ≡ at
@@ -256,7 +255,7 @@ based_of {at} words {start} {to} c inside e here h f =
 
 -- a number of a word that was closed leads to numbers of the set, or by a hop
 closed_meets : {code : List Node} {closures : Closures} {at : ℕ} {old now : List ℕ} → AreClosures code closures
-    → Closed code at old now → ((number : ℕ) → IsIn closures.base.items number → IsIn old number)
+    → Closed code at old now → Within closures.base.items old
     → {start to : ℕ} → start / 64 ≡ at → IsIn now start → Flows code false false start to
     → IsIn now to ⊎ PartsTo closures.hops.onward.items closures.hops.landings.items (start / 64) to
 closed_meets c w begun {start} {to} here k f = elim (c.hops.met start to f) [
@@ -272,7 +271,7 @@ pub record Apart (code : List Node) (closures : Closures) (old now : List ℕ) (
 
 pub apart_skip : {code : List Node} {closures : Closures} {old now : List ℕ} {count : ℕ}
     → Apart code closures old now count → AreClosures code closures
-    → ((number : ℕ) → IsIn closures.base.items number → IsIn old number) → count < width code
+    → Within closures.base.items old → count < width code
     → bit_and (get_or now count 0) (get_or closures.leads.items count 0) ≡ 0 → Apart code closures old now (count + 1)
 apart_skip {count} s c begun inside e = record {
   adds = s.adds;
@@ -284,7 +283,7 @@ apart_skip {count} s c begun inside e = record {
 
 pub apart_more : {code : List Node} {closures : Closures} {old now new : List ℕ} {count all : ℕ}
     → Apart code closures old now count → AreClosures code closures
-    → ((number : ℕ) → IsIn closures.base.items number → IsIn old number) → count < width code → length old ≡ width code
+    → Within closures.base.items old → count < width code → length old ≡ width code
     → Closes code count (get_or now count 0) all → get_or now count 0 < 2 ^ 64 → all < 2 ^ 64 → new ≡ set now count all
     → Apart code closures old new (count + 1)
 apart_more {code} {now} {new} {count} s c begun inside size closes fits small en = record {
@@ -296,11 +295,11 @@ apart_more {code} {now} {new} {count} s c begun inside size closes fits small en
 }
   where
     w : Closed code count now new
-    w = close_word (let e = s.adds.size in omega arith) refl closes fits small en
+    w = close_word (omega arith) refl closes fits small en
 
 pub apart_ends : {code : List Node} {closures : Closures} {old now : List ℕ} {count : ℕ}
     → Apart code closures old now count → length now ≤ count → IsApart code closures.hops now
-apart_ends s h = λ start to k flow. let w = is_within _ k in s.done start to (omega arith) k flow
+apart_ends s h = λ start to k flow. s.done start to (omega (arith, is_within _ k)) k flow
 
 -- Following a hop.
 
@@ -311,27 +310,36 @@ entered_if : (words : List ℕ) {new : List ℕ} {at bit : ℕ} (holds : Bool) �
 entered_if words {at} {bit} true h small en other =
     let here : (at * 64 + bit) / 64 ≡ at = omega arith in
     let there : (at * 64 + bit) % 64 ≡ bit = omega arith in
-    let e = entered_one _ (omega arith) refl
-    (rw (here, there) en) _ in
+    let e = entered_one _ (omega arith) refl (rw (here, there) en) _ in
     (λ k. elim (e.0 k) [ inl was ↦ inl was | inr same ↦ inr (refl, same) ], λ k. e.1 (elim k [ inl was ↦ inl was | inr q ↦ inr q.1 ]))
 entered_if words false h small en other = search (rules, or_zero_r, set-get_or)
+
+-- what a hop leads to from a set is in another
+abbrev pub IsFollowed : List ℕ → List ℕ → Hop → Type 0
+IsFollowed old new hop = (bit : ℕ) → bit < 64 → bit_at hop.from bit ≡ 1 → IsIn old (hop.at * 64 + bit)
+    → IsIn new (end_of hop)
 
 -- what a hop leads to was entered, if it leads from the set
 pub record Led (code : List Node) (hop : Hop) (old mid : List ℕ) (all : ℕ) : Type 0 where
   pub adds : Adds code false false old mid
   pub new : (number : ℕ) → IsIn mid number → IsIn old number ⊎ (number ≡ end_of hop)
-  pub followed : (bit : ℕ) → bit < 64 → bit_at hop.from bit ≡ 1 → IsIn old (hop.at * 64 + bit) → IsIn mid (end_of hop)
+  pub followed : IsFollowed old mid hop
   pub set : mid ≡ set old hop.word all
   pub larger : get_or old hop.word 0 ≤ all
   pub fits : all < 2 ^ 64
 
+not_zero : {n : ℕ} → IsTrue (not (eqb n 0)) → n ≡ 0 → ⊥
+not_zero {n} t = eqb-false n 0 (not-true (eqb n 0) t)
+
+is_not_zero : {n : ℕ} → (n ≡ 0 → ⊥) → IsTrue (not (eqb n 0))
+is_not_zero {n} h = ap not (ne_eqb n 0 h)
+
 pub led_is : {code : List Node} {hop : Hop} {old mid : List ℕ} {holds : Bool} → IsHop code hop → length old ≡ width code
     → get_or old hop.at 0 < 2 ^ 64 → get_or old hop.word 0 < 2 ^ 64
-    → (IsTrue holds → bit_and (get_or old hop.at 0) hop.from ≡ 0 → ⊥)
-    → ((bit_and (get_or old hop.at 0) hop.from ≡ 0 → ⊥) → IsTrue holds)
+    → holds ≡ not (eqb (bit_and (get_or old hop.at 0) hop.from) 0)
     → mid ≡ set old hop.word (bit_or (get_or old hop.word 0) (bool_byte holds * 2 ^ hop.bit % 2 ^ 64))
     → Led code hop old mid (bit_or (get_or old hop.word 0) (bool_byte holds * 2 ^ hop.bit % 2 ^ 64))
-led_is {code} {hop} {old} {mid} {holds} is size fits high some any em = record {
+led_is {code} {hop} {old} {mid} {holds} is size fits high test em = record {
   adds = record {
     size = ap length em ∙ length-set old _ _;
     kept = λ n k. (exact n).1 (inl k);
@@ -340,109 +348,96 @@ led_is {code} {hop} {old} {mid} {holds} is size fits high some any em = record {
   new = λ n k. elim ((exact n).0 k) [ inl was ↦ inl was | inr led ↦ inr led.1 ];
   followed = λ bit small one k.
       let here = (is_in_word _ _ _ small).1 k in
-      (exact _).1 (inr (any (λ none. none_of _ _ _ none here one), refl));
+      (exact _).1 (inr (test ∙ is_not_zero (λ none. none_of _ _ _ none here one), refl));
   set = em;
   larger = le_or_l _ (bool_byte holds * 2 ^ hop.bit % 2 ^ 64);
   fits = or_lt 64 _ (bool_byte holds * 2 ^ hop.bit % 2 ^ 64) high (omega arith);
 }
   where
     exact : (other : ℕ) → IsIn mid other ↔ (IsIn old other ⊎ (IsTrue holds × (other ≡ end_of hop)))
-    exact = entered_if _ _ (let w = is.word in omega arith) is.bit em
+    exact = entered_if _ _ (omega arith) is.bit em
 
     entered : (number : ℕ) → IsTrue holds → number ≡ end_of hop
         → (start : ℕ) × IsIn old start × FlowsOn code false false start number
     entered number t e =
-        let one = one_of _ fits (some t) in
+        let one = one_of _ fits (not_zero (sym test ∙ t)) in
         let start : ℕ = hop.at * 64 + one.0 in
         (start, (is_in_word _ _ _ one.1).0 one.2, (1, (start, refl, rw (← e) at ((is.exact one.0 one.1).0 one.3))))
 
--- no number is new
-pub follows_none : {code : List Node} {closures : Closures} {hop : Hop} {old mid : List ℕ} {all over : ℕ}
-    → IsHop code hop → length old ≡ width code → get_or old hop.word 0 < 2 ^ 64 → IsApart code closures.hops old
-    → Led code hop old mid all
-    → over ≡ bit_and all (bit_not w64 (get_or old hop.word 0)) → over ≡ 0 → Follows code closures hop old mid over
-follows_none {hop} {old} {mid} {all} is size high apart led eo z = record {
-  closer = record {
-    adds = led.adds;
-    apart = λ from to k flow. elim (apart from to (settled from k) flow) [ inl there ↦ inl (led.adds.kept to there) | inr hop ↦ inr hop ];
-    fuller = rw (← led.set) at (unset_fuller old hop.word all led.larger);
-    less = λ some. absurd (some z);
-  };
-  followed = led.followed;
-  settled = λ none. settled;
-}
-  where
-    read : get_or mid hop.word 0 ≡ all
-    read = ap (λ w. get_or w hop.word 0) led.set ∙ get_or-set_same old hop.word all 0 (let w = is.word in omega arith)
+read_led : {code : List Node} {hop : Hop} {old mid : List ℕ} {all : ℕ} → IsHop code hop → length old ≡ width code
+    → Led code hop old mid all → get_or mid hop.word 0 ≡ all
+read_led {hop = hop} {old = old} {all = all} is size led =
+    ap (λ w. get_or w hop.word 0) led.set ∙ get_or-set_same old hop.word all 0 (omega (arith, is.word))
 
-    -- its bit was there
-    was_in : IsIn mid (end_of hop) → IsIn old (end_of hop)
-    was_in k =
-        let now = sym (ap (λ w. bit_at w hop.bit) read) ∙ (is_in_word mid hop.word hop.bit is.bit).1 k in
-        let e = fresh_bit all high is.bit in
-        let none = ap (λ w. bit_at w hop.bit) (sym eo ∙ z) ∙ bit_at-zero hop.bit in
-        let l = bit_at-lt (get_or old hop.word 0) hop.bit in
-        (is_in_word old hop.word hop.bit is.bit).0 (omega arith)
+module _ {code : List Node} {closures : Closures} {hop : Hop} {old mid : List ℕ} {all over : ℕ} (is : IsHop code hop)
+    (size : length old ≡ width code) (high : get_or old hop.word 0 < 2 ^ 64) (apart : IsApart code closures.hops old)
+    (led : Led code hop old mid all) (eo : over ≡ bit_and all (bit_not w64 (get_or old hop.word 0))) where
+  -- no number is new
+  pub follows_none : over ≡ 0 → Follows code closures hop old mid over
+  follows_none z = record {
+    closer = record {
+      adds = led.adds;
+      apart = λ from to k flow. elim (apart from to (settled from k) flow) [ inl there ↦ inl (led.adds.kept to there) | inr hop ↦ inr hop ];
+      fuller = rw (← led.set) at (unset_fuller old hop.word all led.larger);
+      less = λ some. absurd (some z);
+    };
+    followed = led.followed;
+    settled = λ none. settled;
+  }
+    where
+      -- its bit was there
+      was_in : IsIn mid (end_of hop) → IsIn old (end_of hop)
+      was_in k =
+          let now = sym (ap (λ w. bit_at w hop.bit) (read_led is size led)) ∙ (is_in_word mid hop.word hop.bit is.bit).1 k in
+          let none = ap (λ w. bit_at w hop.bit) (sym eo ∙ z) ∙ bit_at-zero hop.bit in
+          (is_in_word old hop.word hop.bit is.bit).0 (omega (arith, now, none, fresh_bit all high is.bit, bit_at-lt (get_or old hop.word 0) hop.bit))
 
-    settled : (number : ℕ) → IsIn mid number → IsIn old number
-    settled number k = elim (led.new number k) [ inl was ↦ was | inr e ↦ rw (← e) at (was_in (subst (IsIn mid) e k)) ]
+      settled : (number : ℕ) → IsIn mid number → IsIn old number
+      settled number k = elim (led.new number k) [ inl was ↦ was | inr e ↦ rw (← e) at (was_in (subst (IsIn mid) e k)) ]
 
--- a number is new, and its word was closed
-pub follows_more : {code : List Node} {closures : Closures} {hop : Hop} {old mid new : List ℕ} {all inside over : ℕ}
-    → AreClosures code closures → IsHop code hop → length old ≡ width code → get_or old hop.word 0 < 2 ^ 64
-    → ((number : ℕ) → IsIn closures.base.items number → IsIn old number) → IsApart code closures.hops old
-    → Led code hop old mid all → over ≡ bit_and all (bit_not w64 (get_or old hop.word 0)) → (over ≡ 0 → ⊥)
-    → Closes code hop.word all inside → inside < 2 ^ 64 → new ≡ set mid hop.word inside
-    → Follows code closures hop old new over
-follows_more {code} {hop} {old} {mid} {new} {all} {over} c is size high begun apart led eo some closes small en = record {
-  closer = record {
-    adds = adds_both led.adds w.adds;
-    apart = λ from to k flow. elim (cases_eq (from / 64) hop.word) [
-      | inl here ↦ closed_meets c w (λ number based. led.adds.kept number (begun number based)) here k flow
-      | inr other ↦ elim (led.new from (w.elsewhere from other k)) [
-        | inl was ↦ elim (apart from to was flow) [ inl there ↦ inl (w.adds.kept to (led.adds.kept to there)) | inr hop ↦ inr hop ]
-        | inr e ↦ absurd (other (let b = is.bit in omega arith))
-      ]
-    ];
-    fuller = omega (arith, w.fuller, less);
-    less = λ some. omega (arith, w.fuller, less);
-  };
-  followed = λ bit small one k. w.adds.kept (end_of hop) (led.followed bit small one k);
-  settled = λ none. absurd (some none);
-}
-  where
-    inside_old : hop.word < length old
-    inside_old = let w = is.word in omega arith
+  -- a number is new, and its word was closed
+  pub follows_more : {new : List ℕ} {inside : ℕ} → AreClosures code closures → Within closures.base.items old
+      → (over ≡ 0 → ⊥) → Closes code hop.word all inside → inside < 2 ^ 64 → new ≡ set mid hop.word inside
+      → Follows code closures hop old new over
+  follows_more {new} c begun some closes small en = record {
+    closer = record {
+      adds = adds_both led.adds w.adds;
+      apart = λ from to k flow. elim (cases_eq (from / 64) hop.word) [
+        | inl here ↦ closed_meets c w (λ number based. led.adds.kept number (begun number based)) here k flow
+        | inr other ↦ elim (led.new from (w.elsewhere from other k)) [
+          | inl was ↦ elim (apart from to was flow) [ inl there ↦ inl (w.adds.kept to (led.adds.kept to there)) | inr hop ↦ inr hop ]
+          | inr e ↦ absurd (other (omega (arith, is.bit)))
+        ]
+      ];
+      fuller = omega (arith, w.fuller, less);
+      less = λ some. omega (arith, w.fuller, less);
+    };
+    followed = λ bit small one k. w.adds.kept (end_of hop) (led.followed bit small one k);
+    settled = λ none. absurd (some none);
+  }
+    where
+      inside_old : hop.word < length old
+      inside_old = omega (arith, is.word)
 
-    read : all ≡ get_or mid hop.word 0
-    read = sym (ap (λ w. get_or w hop.word 0) led.set ∙ get_or-set_same old hop.word all 0 inside_old)
+      w : Closed code hop.word mid new
+      w = close_word (omega (arith, led.adds.size)) (sym (read_led is size led)) closes led.fits small en
 
-    w : Closed code hop.word mid new
-    w = close_word (let s = led.adds.size in omega arith) read closes led.fits small en
+      differs : get_or old hop.word 0 ≡ all → ⊥
+      differs e =
+          let one = bit_at-trailing_zeros w64 over (omega arith) (omega (arith, led.fits, and_le_l all (bit_not w64 (get_or old hop.word 0)))) in
+          let bit : ℕ = trailing_zeros w64 over in
+          omega (arith, fresh_bit all high one.0, sym (ap (λ w. bit_at w bit) eo) ∙ one.1, ap (λ w. bit_at w bit) e)
 
-    differs : get_or old hop.word 0 ≡ all → ⊥
-    differs e =
-        let f = and_le_l all (bit_not w64 (get_or old hop.word 0)) in
-        let a = led.fits in
-        let one = bit_at-trailing_zeros w64 over (omega arith) (omega arith) in
-        let bit : ℕ = trailing_zeros w64 over in
-        let b = fresh_bit all high one.0 in
-        let is = sym (ap (λ w. bit_at w bit) eo) ∙ one.1 in
-        let same = ap (λ w. bit_at w bit) e in
-        omega arith
-
-    less : unset mid < unset old
-    less = rw (← led.set) at (unset-set old hop.word all inside_old (let l = led.larger in omega (arith, l, differs)) (let l = led.fits in omega (arith, l)))
+      less : unset mid < unset old
+      less = rw (← led.set) at (unset-set old hop.word all inside_old (omega (arith, led.larger, differs)) (omega (arith, led.fits)))
 
 -- Following all hops.
 
 -- the first hops were followed
 pub record Following (code : List Node) (closures : Closures) (old now : List ℕ) (count over : ℕ) : Type 0 where
   pub closer : Closer code closures.hops old now over
-  pub done : over ≡ 0 → (place : ℕ) → place < count → (bit : ℕ) → bit < 64
-      → bit_at (get_or closures.hops.onward.items place no_hop).from bit ≡ 1
-      → IsIn now ((get_or closures.hops.onward.items place no_hop).at * 64 + bit)
-      → IsIn now (end_of (get_or closures.hops.onward.items place no_hop))
+  pub done : over ≡ 0 → (place : ℕ) → place < count
+      → IsFollowed now now (get_or closures.hops.onward.items place no_hop)
 
 pub following_more : {code : List Node} {closures : Closures} {hop : Hop} {old now new : List ℕ} {count over led : ℕ}
     → Following code closures old now count over → Follows code closures hop now new led
@@ -458,16 +453,11 @@ following_more {closures} {hop} {now} {count} {over} {led} s f eh = record {
       | inr more ↦ let l = s.closer.less more in let m = f.closer.fuller in omega arith
     ];
   };
-  done = λ z place l bit small one k.
-      let a = le_or_l over led in
-      let b = le_or_r over led in
-      let was = f.settled (omega arith) ((get_or closures.hops.onward.items place no_hop).at * 64 + bit) k in
+  done = λ z place l.
+      let was = f.settled (omega (arith, le_or_r over led)) in
       elim (cases_eq place count) [
-        | inl same ↦
-            let e : get_or closures.hops.onward.items place no_hop ≡ hop = ap (λ p. get_or closures.hops.onward.items p no_hop) same ∙ sym eh in
-            rw (← e) at (f.followed bit small (subst (λ h. bit_at h.from bit ≡ 1) e one) (subst (λ h. IsIn now (h.at * 64 + bit)) e was))
-        | inr other ↦ f.closer.adds.kept (end_of (get_or closures.hops.onward.items place no_hop))
-            (s.done (omega arith) place (omega arith) bit small one was)
+        | inl same ↦ rw (same, ← eh) (λ bit small one k. f.followed bit small one (was _ k))
+        | inr other ↦ λ bit small one k. f.closer.adds.kept _ (s.done (omega (arith, le_or_l over led)) place (omega arith) bit small one (was _ k))
       ];
 }
 
@@ -475,12 +465,11 @@ following_more {closures} {hop} {now} {count} {over} {led} s f eh = record {
 from_bit : {code : List Node} {hop : Hop} {from to : ℕ} → IsHop code hop → hop.at ≡ from / 64 → end_of hop ≡ to
     → Flows code false false from to → bit_at hop.from (from % 64) ≡ 1
 from_bit {code} {hop} {from} is at end flow =
-    let same : from ≡ hop.at * 64 + from % 64 = omega arith in
-    (is.exact (from % 64) (omega arith)).1 (rw same at (subst (Flows code false false from) (sym end) flow))
+    search rules
 
 pub following_ends : {code : List Node} {closures : Closures} {old now : List ℕ} {count over : ℕ}
     → Following code closures old now count over → AreHops code closures.hops.onward.items
-    → length closures.hops.onward.items ≤ count → Passes code closures old now over
+    → length closures.hops.onward.items ≤ count → FollowsHops code closures old now over
 following_ends {code} {closures} {now} {over} s are h = record {
   closer = s.closer;
   done = λ z from to k flow. elim (s.closer.apart from to k flow) [
@@ -492,9 +481,9 @@ following_ends {code} {closures} {now} {over} s are h = record {
     ended : over ≡ 0 → (from to : ℕ) → IsIn now from → Flows code false false from to
         → HopsTo closures.hops.onward.items (from / 64) to → IsIn now to
     ended z from to k flow hop =
-        let same : from ≡ (get_or closures.hops.onward.items hop.0 no_hop).at * 64 + from % 64 = (let e = hop.2 in omega arith) in
+        let same : from ≡ (get_or closures.hops.onward.items hop.0 no_hop).at * 64 + from % 64 = omega (arith, hop.2) in
         let one = from_bit (are.each hop.0 hop.1) hop.2 hop.3 flow in
-        rw hop.3 at (s.done z hop.0 (let l = hop.1 in omega arith) (from % 64) (omega arith) one (subst (IsIn now) same k))
+        rw hop.3 at (s.done z hop.0 (omega (arith, hop.1)) (from % 64) (omega arith) one (subst (IsIn now) same k))
 
 -- Following the landings.
 
@@ -504,8 +493,7 @@ pub record Landing_on (code : List Node) (base : List ℕ) (landings : List Hop)
   pub adds : Adds code false false old now
   pub over : (number : ℕ) → IsIn now number
       → IsIn old number ⊎ ((to : ℕ) → Flows code false false number to → IsIn base to)
-  pub led : (place : ℕ) → place < count → (bit : ℕ) → bit < 64 → bit_at (get_or landings place no_hop).from bit ≡ 1
-      → IsIn old ((get_or landings place no_hop).at * 64 + bit) → IsIn now (end_of (get_or landings place no_hop))
+  pub led : (place : ℕ) → place < count → IsFollowed old now (get_or landings place no_hop)
 
 pub landing_more : {code : List Node} {base : List ℕ} {landings : List Hop} {hop : Hop} {old now new : List ℕ}
     {count all : ℕ} → Landing_on code base landings old now count → IsLanding code base hop → Led code hop now new all
@@ -513,12 +501,9 @@ pub landing_more : {code : List Node} {base : List ℕ} {landings : List Hop} {h
 landing_more {landings} {hop} {old} {count} s is led eh = record {
   adds = adds_both s.adds led.adds;
   over = λ n k. elim (led.new n k) [ inl was ↦ s.over n was | inr e ↦ inr (rw (← e) at is.ends) ];
-  led = λ place l bit small one k. elim (cases_eq place count) [
-    | inl same ↦
-        let e : get_or landings place no_hop ≡ hop = ap (λ p. get_or landings p no_hop) same ∙ sym eh in
-        rw (← e) at (led.followed bit small (subst (λ h. bit_at h.from bit ≡ 1) e one)
-        (s.adds.kept (hop.at * 64 + bit) (subst (λ h. IsIn old (h.at * 64 + bit)) e k)))
-    | inr other ↦ led.adds.kept (end_of (get_or landings place no_hop)) (s.led place (omega arith) bit small one k)
+  led = λ place l. elim (cases_eq place count) [
+    | inl same ↦ rw (same, ← eh) (λ bit small one k. led.followed bit small one (s.adds.kept (hop.at * 64 + bit) k))
+    | inr other ↦ λ bit small one k. led.adds.kept _ (s.led place (omega arith) bit small one k)
   ];
 }
 
@@ -529,9 +514,9 @@ landing_ends {landings} {old} s are h = record {
   adds = s.adds;
   over = s.over;
   led = λ from to k flow hop.
-      let same : from ≡ (get_or landings hop.0 no_hop).at * 64 + from % 64 = (let e = hop.2 in omega arith) in
+      let same : from ≡ (get_or landings hop.0 no_hop).at * 64 + from % 64 = omega (arith, hop.2) in
       let one = from_bit (are.each hop.0 hop.1).leads hop.2 hop.3 flow in
-      rw hop.3 at (s.led hop.0 (let l = hop.1 in omega arith) (from % 64) (omega arith) one (subst (IsIn old) same k));
+      rw hop.3 at (s.led hop.0 (omega (arith, hop.1)) (from % 64) (omega arith) one (subst (IsIn old) same k));
 }
 
 -- Until nothing is missing.
@@ -543,13 +528,13 @@ pub record Spreads (code : List Node) (closures : Closures) (old now : List ℕ)
       → IsIn now to ⊎ HopsTo closures.hops.landings.items (from / 64) to
 
 pub spreads_more : {code : List Node} {closures : Closures} {old now new : List ℕ} {before over : ℕ}
-    → Spreads code closures old now before → Passes code closures now new over → Spreads code closures old new over
+    → Spreads code closures old now before → FollowsHops code closures now new over → Spreads code closures old new over
 spreads_more s p = record { adds = adds_both s.adds p.closer.adds; apart = p.closer.apart; done = p.done }
 
 pub spreads_end : {code : List Node} {closures : Closures} {base : List ℕ} {landings : List Hop} {old now new : List ℕ}
     {over : ℕ} → Spreads code closures old now over → over ≡ 0 → HasLanded code base landings now new
     → base ≡ closures.base.items → landings ≡ closures.hops.landings.items
-    → ((number : ℕ) → IsIn closures.base.items number → IsIn old number) → SpreadsOut code false false old new
+    → Within closures.base.items old → SpreadsOut code false false old new
 spreads_end {code} {new} s z l eb el begun = spreads_out (adds_both s.adds l.adds) closed
   where
     closed : (from to : ℕ) → IsIn new from → Flows code false false from to → IsIn new to
@@ -564,8 +549,8 @@ spreads_end {code} {new} s z l eb el begun = spreads_out (adds_both s.adds l.add
 -- At a line's front and end.
 
 pub spreads_front : {code : List Node} {base front old new : List ℕ} {at_first at_last : Bool} → IsBase code base
-    → IsBegun code true front → length old ≡ width code → ((number : ℕ) → IsIn base number → IsIn old number)
-    → ((number : ℕ) → IsIn old number → IsIn base number) → new ≡ front → IsTrue at_first → at_last ≡ false
+    → IsBegun code true front → length old ≡ width code → Within base old
+    → Within old base → new ≡ front → IsTrue at_first → at_last ≡ false
     → SpreadsOut code at_first at_last old new
 spreads_front {code} {old} {new} b f size begun only e t l = rw (← t) at (subst (λ last. SpreadsOut code true last old new) (sym l) (record {
   size = ap length e ∙ f.size ∙ sym size;
@@ -578,7 +563,7 @@ spreads_front {code} {old} {new} b f size begun only e t l = rw (← t) at (subs
 
 adds_of : {code : List Node} {at_first at_last : Bool} {old new : List ℕ} → SpreadsOut code at_first at_last old new
     → Adds code at_first at_last old new
-adds_of s = record { size = s.size; kept = λ number k. (s.exact number).1 (number, k, (0, refl)); from = λ number. (s.exact number).0 }
+adds_of s = search rules
 
 closed_of : {code : List Node} {at_first at_last : Bool} {old new : List ℕ} → SpreadsOut code at_first at_last old new
     → (from to : ℕ) → IsIn new from → Flows code at_first at_last from to → IsIn new to
@@ -596,9 +581,3 @@ pub spreads_again : {code : List Node} {at_first at_last : Bool} {old now new : 
     → SpreadsOut code false false old now → SpreadsOut code at_first at_last now new
     → SpreadsOut code at_first at_last old new
 spreads_again s t = spreads_out (adds_both (adds_anywhere (adds_of s)) (adds_of t)) (closed_of t)
-
-pub not_zero : {n : ℕ} → IsTrue (not (eqb n 0)) → n ≡ 0 → ⊥
-not_zero {n} t = eqb-false n 0 (not-true (eqb n 0) t)
-
-pub is_not_zero : {n : ℕ} → (n ≡ 0 → ⊥) → IsTrue (not (eqb n 0))
-is_not_zero {n} h = ap not (ne_eqb n 0 h)

@@ -8,11 +8,11 @@ use Rattle.scan_core.specs.{
   declared.{
     compile.{Compiling.Compiling, Pending.{Pending, TheVariants.{Group, Repeated}}},
     emit.Duplication.Duplication,
-    node.Node.{Node, TheVariants.Back},
+    node.Node.{Node},
   },
   inner.{
-    Backwards.{IsBegun, Repeats, begun},
-    Compiling.{AreBegun, Pops, Waits, IsNow, FinishesBy, Finishes, PopsNone, Begins, Closes, Writes, Passes},
+    Backwards.{HasBegun, Repeats, begun},
+    Compiling.{AreBegun, Pops, Waits, IsNow, FinishesBy, Finishes, PopsNone, Begins, Closes},
     Compiling.{PassesLeaf, TakesIn, Takes, TakesAll},
   },
   Code.{code_of, code_of_item, IsOrdered, IsOrderedItem, copies, tail_of, up_to},
@@ -31,7 +31,7 @@ pub begun_wider : (pending : List Pending) {size wider : ℕ} → size ≤ wider
 begun_wider pending h = search rules
 
 pub popped_begun : (old new : Compiling) (d : Duplication) → Pops old (Some d) new → AreBegun old
-    → IsBegun d.high d.low d.start (length new.nodes.items) × AreBegun new
+    → HasBegun d.high d.low d.start (length new.nodes.items) × AreBegun new
 popped_begun old new d p b =
     let parts = All-pop (Waits (length new.nodes.items)) old.pending.items new.pending.items (Some (Repeated d)) p.2 (rw (← p.0) at b) in
     (parts.1, parts.0)
@@ -58,11 +58,11 @@ pub finish_ends : {nodes : List Node} {pending : List Pending} {final : Compilin
 finish_ends {pending} none n = ends_by _ (sym (reverse-reverse pending)) none n
 
 -- what follows from an item that is complete
-pub finished_group : {nodes : List Node} {pending : List Pending} (around : List Pending) {new : Compiling}
+finished_group : {nodes : List Node} {pending : List Pending} (around : List Pending) {new : Compiling}
     → Finishes nodes pending new → pending ≡ around ++ Group ∷ [] → IsNow nodes pending None new
 finished_group around f e = grind (arith, common_steps)
 
-pub finished_all : {nodes : List Node} {pending : List Pending} {new : Compiling} → Finishes nodes pending new
+finished_all : {nodes : List Node} {pending : List Pending} {new : Compiling} → Finishes nodes pending new
     → pending ≡ [] → IsNow nodes [] None new
 finished_all f e = rw e at f
 
@@ -87,23 +87,20 @@ finished_base : {nodes : List Node} {pending : List Pending} {new : Compiling} �
 finished_base (inl e) f = rw (← e) at (finished_all f e)
 finished_base (inr e) f = finished_group _ f e.1
 
-takes_writing : (old new : Compiling) (token : Token) → old.passing ≡ None → Takes old token new → Writes token old new
-takes_writing old new token e t = subst (λ p. TakesIn p token old new) e t
-
-takes_passing : (old new : Compiling) (token : Token) {depth : ℕ} → old.passing ≡ Some depth → Takes old token new
-    → Passes depth token old new
-takes_passing old new token e t = subst (λ p. TakesIn p token old new) e t
+takes_in : {depth : Option ℕ} (old new : Compiling) (token : Token) → old.passing ≡ depth → Takes old token new
+    → TakesIn depth token old new
+takes_in old new token e t = subst (λ p. TakesIn p token old new) e t
 
 -- what is passed over leaves nodes and what waits
 passed_from : (depth : ℕ) (old now new : Compiling) → now.nodes.items ≡ old.nodes.items
     → now.pending.items ≡ old.pending.items → PassesLeaf depth now new → PassesLeaf depth old new
-passed_from zero old now new n p f = rw n at (subst (λ l. Finishes now.nodes.items l new) p f)
+passed_from zero old now new n p f = rw (← n, ← p) f
 passed_from (suc depth) old now new n p f = record { nodes = f.nodes ∙ n; pending = f.pending ∙ p; passing = f.passing }
 
 mutual
   pass_pattern : (pattern : Pattern) {depth : ℕ} (old new : Compiling) → old.passing ≡ Some (suc depth)
       → TakesAll old (written pattern) new → IsNow old.nodes.items old.pending.items (Some (suc depth)) new
-  pass_pattern nothing {depth} old new e s = subst (IsNow old.nodes.items old.pending.items (Some (suc depth))) s (record { nodes = refl; pending = refl; passing = e })
+  pass_pattern nothing old new e s = rw (← s) (record { nodes = refl; pending = refl; passing = e })
   pass_pattern (append pattern item) {depth} old new e s =
       let p = parted (written pattern) (written_item item) old new s in
       let now : IsNow old.nodes.items old.pending.items (Some (suc depth)) p.0 = pass_item item old p.0 e p.1 in
@@ -112,17 +109,17 @@ mutual
 
   pass_item : (item : Item) {depth : ℕ} (old new : Compiling) → old.passing ≡ Some depth
       → TakesAll old (written_item item) new → PassesLeaf depth old new
-  pass_item (set bytes) {depth} old new e s = takes_passing old new (Set bytes) {depth = depth} e (alone s)
-  pass_item front {depth} old new e s = takes_passing old new Front {depth = depth} e (alone s)
-  pass_item end {depth} old new e s = takes_passing old new End {depth = depth} e (alone s)
+  pass_item (set bytes) old new e s = takes_in old new (Set bytes) e (alone s)
+  pass_item front old new e s = takes_in old new Front e (alone s)
+  pass_item end old new e s = takes_in old new End e (alone s)
   pass_item (group pattern) {depth} old new e s =
       let p = last_taken (written pattern) Close old s.0 s.1 in
-      let opened : IsNow old.nodes.items old.pending.items (Some (suc depth)) p.0 = takes_passing old p.0 Close {depth = depth} e p.1 in
+      let opened : IsNow old.nodes.items old.pending.items (Some (suc depth)) p.0 = takes_in old p.0 Close e p.1 in
       let inner = pass_pattern pattern p.0 s.0 opened.passing p.2 in
-      passed_from depth old s.0 new (inner.nodes ∙ opened.nodes) (inner.pending ∙ opened.pending) (takes_passing s.0 new Open {depth = suc depth} inner.passing s.2)
+      passed_from depth old s.0 new (inner.nodes ∙ opened.nodes) (inner.pending ∙ opened.pending) (takes_in s.0 new Open inner.passing s.2)
   pass_item (repeat item low high) {depth} old new e s =
       let p = last_taken (written_item item) (Repeat low high) old new s in
-      let stays : IsNow old.nodes.items old.pending.items (Some depth) p.0 = takes_passing old p.0 (Repeat low high) {depth = depth} e p.1 in
+      let stays : IsNow old.nodes.items old.pending.items (Some depth) p.0 = takes_in old p.0 (Repeat low high) e p.1 in
       passed_from depth old p.0 new stays.nodes stays.pending (pass_item item p.0 new stays.passing p.2)
 
 -- a duplication's item was written out
@@ -156,29 +153,29 @@ mutual
   write_item : (item : Item) (old new : Compiling) → IsOrderedItem item → old.passing ≡ None
       → TakesAll old (written_item item) new
       → Finishes (old.nodes.items ++ reverse (code_of_item item)) old.pending.items new
-  write_item (set bytes) old new o e s = takes_writing old new (Set bytes) e (alone s)
-  write_item front old new o e s = takes_writing old new Front e (alone s)
-  write_item end old new o e s = takes_writing old new End e (alone s)
+  write_item (set bytes) old new o e s = takes_in old new (Set bytes) e (alone s)
+  write_item front old new o e s = takes_in old new Front e (alone s)
+  write_item end old new o e s = takes_in old new End e (alone s)
   write_item (group pattern) old new o e s =
       let p = last_taken (written pattern) Close old s.0 s.1 in
-      let opened : IsNow old.nodes.items (old.pending.items ++ Group ∷ []) None p.0 = takes_writing old p.0 Close e p.1 in
+      let opened : IsNow old.nodes.items (old.pending.items ++ Group ∷ []) None p.0 = takes_in old p.0 Close e p.1 in
       let inner = write_pattern pattern p.0 o opened.passing (inr (old.pending.items, opened.pending)) p.2 in
-      let closed : Closes s.0 new = takes_writing s.0 new Open inner.passing s.2 in
+      let closed : Closes s.0 new = takes_in s.0 new Open inner.passing s.2 in
       rw (inner.nodes ∙ ap (λ l. l ++ reverse (code_of pattern)) opened.nodes) at (closed old.pending.items (inner.pending ∙ opened.pending))
   write_item (repeat item low None) old new o e s =
       let p = last_taken (written_item item) (Repeat low None) old new s in
-      let begins : Begins low None old p.0 = takes_writing old p.0 (Repeat low None) e p.1 in
+      let begins : Begins low None old p.0 = takes_in old p.0 (Repeat low None) e p.1 in
       let nodes = ap (λ l. l ++ reverse (code_of_item item)) begins.nodes ∙ append_assoc _ _ (reverse (code_of_item item)) in
       let d : Duplication = record { start = length old.nodes.items; low = low; high = None } in
       repeated_out old.nodes.items (code_of_item item) p.0 new old.pending.items d refl nodes begins.pending (write_item item p.0 new o.0 begins.passing p.2)
   write_item (repeat item low (Some zero)) old new o e s =
       let p = last_taken (written_item item) (Repeat low (Some zero)) old new s in
-      let begins : Begins low (Some zero) old p.0 = takes_writing old p.0 (Repeat low (Some zero)) e p.1 in
+      let begins : Begins low (Some zero) old p.0 = takes_in old p.0 (Repeat low (Some zero)) e p.1 in
       rw (← (begins.nodes ∙ none_of (code_of_item item) o.1))
       (subst (λ l. Finishes p.0.nodes.items l new) begins.pending (pass_item item p.0 new begins.passing p.2))
   write_item (repeat item low (Some (suc high))) old new o e s =
       let p = last_taken (written_item item) (Repeat low (Some (suc high))) old new s in
-      let begins : Begins low (Some (suc high)) old p.0 = takes_writing old p.0 (Repeat low (Some (suc high))) e p.1 in
+      let begins : Begins low (Some (suc high)) old p.0 = takes_in old p.0 (Repeat low (Some (suc high))) e p.1 in
       let d : Duplication = record { start = length old.nodes.items; low = low; high = Some (suc high) } in
       repeated_out old.nodes.items (code_of_item item) p.0 new old.pending.items d refl (ap (λ l. l ++ reverse (code_of_item item)) begins.nodes) begins.pending (write_item item p.0 new o.0 begins.passing p.2)
 
@@ -218,7 +215,7 @@ pub way_more : (tokens : List Token) {before place : ℕ} {token : Token} (first
     → before < length tokens → token ≡ get_or tokens before token → TakesAll first (drop place tokens) now
     → Takes now token new → TakesAll first (drop before tokens) new
 way_more tokens {before} {token} first now new e h is s t =
-    rw (at_drop_more (λ ts. ts) tokens before token h ∙ ap (λ k. k ∷ drop (before + 1) tokens) (sym is)) (now, subst (λ n. TakesAll first (drop n tokens) now) e s, t)
+    rw (at_drop_more (λ ts. ts) tokens before token h, ← is) (now, rw e at s, t)
 
 pub bounded_at : (tokens : List Token) (place : ℕ) {token : Token} → AreBounded tokens → place < length tokens
     → token ≡ get_or tokens place token → IsBounded token

@@ -18,7 +18,7 @@ use Rattle.std.specs.Int.{bit_at, Count.ones_step}
 use Rattle.scan_core.{
   specs.declared.{masks.Kind.TheVariants.{Takes, Counts}, node.Node.Node},
   specs.Code.{At, weight_of},
-  specs.inner.{Words.{AreTakes, IsMask, counted_at, width, IsIn, bits, flags_of}, Sets.Passes, Each.AreEach},
+  specs.inner.{Words.{AreTakes, IsMask, counted_at, width, IsIn, bits, flags_of}, Sets.StepsBy, Each.AreEach},
   specs.Sets.{IsMarked, weight_if, positions_among},
   proofs.{Enterings.{pass_least, weight_most}, Insides.{left_bit, right_bit, either_bit, is_in_word, is_within}},
 }
@@ -51,7 +51,7 @@ counted_out (node ∷ code) (suc number) h = let r = counted_out code number (om
 
 -- what a byte leads to from a set
 abbrev pub Led : List Node → ℕ → List ℕ → ℕ → Type 0
-Led code byte words number = (before : ℕ) × IsIn words before × Passes code byte before number
+Led code byte words number = (before : ℕ) × IsIn words before × StepsBy code byte before number
 
 -- the same, with what is in each set
 abbrev pub LedOrBase : List Node → ℕ → List ℕ → List ℕ → ℕ → Type 0
@@ -60,10 +60,7 @@ LedOrBase code byte base words number = Led code byte words number ⊎ IsIn base
 -- the bits of a word that is shifted up by one, and of what comes in below
 shifted_low : (kept : ℕ) {carry : ℕ} → carry < 2 → bit_at (bit_or (kept * 2 ^ 1 % 2 ^ 64) carry) 0 ≡ carry
 shifted_low kept {carry} h =
-    let e = bit_at_or (kept * 2 ^ 1 % 2 ^ 64) carry 0 in
-    let a = bit_at_lowest (kept * 2 ^ 1 % 2 ^ 64) in
-    let b = bit_at_lowest carry in
-    omega arith
+    omega (arith, bit_at_or (kept * 2 ^ 1 % 2 ^ 64) carry 0, bit_at_lowest (kept * 2 ^ 1 % 2 ^ 64), bit_at_lowest carry)
 
 shifted_high : (kept carry bit : ℕ) → carry < 2 → bit + 1 < 64
     → bit_at (bit_or (kept * 2 ^ 1 % 2 ^ 64) carry) (suc bit) ≡ bit_at kept bit
@@ -73,9 +70,7 @@ shifted_high kept carry bit h small =
     let half : kept * 2 ^ 1 % 2 ^ 64 / 2 ≡ kept % 2 ^ 63 = omega arith in
     let a = bit_at-suc (kept * 2 ^ 1 % 2 ^ 64) bit ∙ ap (λ x. bit_at x bit) half in
     let whole : kept / 2 ^ 63 * 2 ^ 63 + kept % 2 ^ 63 ≡ kept = omega arith in
-    let b = bit_at_cat_low (kept / 2 ^ 63) 63 (kept % 2 ^ 63) bit (omega arith) in
-    let c = ap (λ x. bit_at x bit) whole in
-    omega arith
+    omega (arith, bit_at_cat_low (kept / 2 ^ 63) 63 (kept % 2 ^ 63) bit (omega arith), ap (λ x. bit_at x bit) whole)
 
 -- a bit of a word that the byte is taken from
 kept_bit : (code : List Node) (words : List ℕ) {byte : ℕ} (at bit takes : ℕ) → IsMask code (Takes byte) at takes
@@ -175,10 +170,8 @@ passing_ends {code} {byte} {base} {old} {now} {at} p h size same number = (
   where
     within : LedOrBase code byte base old number → number < 64 * at
     within (inl k) =
-        let l = pass_least code k.2 in
-        let e = k.2.3 in
-        omega arith
-    within (inr front) = let l = is_within base front in omega arith
+        omega (arith, pass_least code k.2, k.2.3)
+    within (inr front) = omega (arith, is_within base front)
 
 -- no bit of words that are 0
 pub none_in : (words : List ℕ) {at : ℕ} → ((n : ℕ) → n < at → get_or words n 0 ≡ 0) → length words ≤ at → (number : ℕ)
@@ -186,9 +179,11 @@ pub none_in : (words : List ℕ) {at : ℕ} → ((n : ℕ) → n < at → get_or
 none_in words {at} zeros h number k =
     let l = is_within _ k in
     let same : number ≡ number / 64 * 64 + number % 64 = omega arith in
-    let b = (is_in_word _ _ _ (omega arith)).1 (rw same at k) in
-    let z = ap (λ x. bit_at x (number % 64)) (zeros (number / 64) (omega arith)) ∙ bit_at-zero _ in
-    omega arith
+    omega (
+      arith,
+      (is_in_word words (number / 64) (number % 64) (omega arith)).1 (rw same at k),
+      ap (λ x. bit_at x (number % 64)) (zeros (number / 64) (omega arith)) ∙ bit_at-zero (number % 64),
+    )
 
 -- the weights of the marked numbers
 abbrev sum_of : (ℕ → ℕ) → List Bool → ℕ
@@ -203,12 +198,12 @@ sum_same one other e (mark ∷ marks) = grind (arith, common_steps)
 sum_none : (marks : List Bool) → sum_of (λ n. 0) marks ≡ 0
 sum_none [] = refl
 sum_none (true ∷ marks) = let r = sum_none marks in omega arith
-sum_none (false ∷ marks) = let r = sum_none marks in omega arith
+sum_none (false ∷ marks) = omega (arith, sum_none marks)
 
 among_sum : (code : List Node) (marks : List Bool) → positions_among code marks ≡ sum_of (counted_at code) marks
 among_sum code [] = refl
-among_sum [] (mark ∷ marks) = let z = sum_none marks in omega arith
-among_sum (node ∷ code) (mark ∷ marks) = let r = among_sum code marks in omega arith
+among_sum [] (mark ∷ marks) = omega (arith, sum_none marks)
+among_sum (node ∷ code) (mark ∷ marks) = omega (arith, among_sum code marks)
 
 weight_bit : {weight : ℕ} (word counts : ℕ) → bit_at counts 0 ≡ weight
     → weight_if (word % 2 == 1) weight ≡ bit_and word counts % 2
@@ -230,13 +225,10 @@ sum_bits (suc count) {weight} {word} counts rest small exact =
     let r = sum_bits count (counts / 2) rest half (λ bit l. sym (bit_at-suc counts bit) ∙ exact (suc bit) (omega arith)) in
     let step = ones_step (bit_and word counts) in
     let shr : bit_and word counts / 2 ≡ bit_and (word / 2) (counts / 2) = and_shr word counts 1 in
-    let e = ap count_ones shr in
-    let w = weight_bit word counts (exact 0 (omega arith)) in
-    let same = sum_same (λ n. weight (suc (count + n))) (λ n. weight (suc count + n)) (λ n. ap weight (omega arith)) rest in
-    omega arith
+    omega (arith, ap count_ones shr, weight_bit word counts (exact 0 (omega arith)), sum_same (λ n. weight (suc (count + n))) (λ n. weight (suc count + n)) (λ n. ap weight (omega arith)) rest)
   where
     halved : (k n : ℕ) → n < 2 ^ suc k → n / 2 < 2 ^ k
-    halved k n h = let e : 2 ^ suc k ≡ 2 ^ k * 2 = grind arith in omega arith
+    halved k n h = omega arith
 
 -- the set bits of the first words that are positions
 abbrev pub ones_below : List ℕ → List ℕ → ℕ → ℕ
@@ -246,21 +238,20 @@ ones_below words counts (suc n) = ones_below words counts n + count_ones (bit_an
 ones_front : (word other : ℕ) (words counts : List ℕ) (n : ℕ)
     → ones_below (word ∷ words) (other ∷ counts) (suc n) ≡ count_ones (bit_and word other) + ones_below words counts n
 ones_front word other words counts zero = omega arith
-ones_front word other words counts (suc n) = let r = ones_front word other words counts n in omega arith
+ones_front word other words counts (suc n) = omega (arith, ones_front word other words counts n)
 
 ones_sum : (weight : ℕ → ℕ) (words counts : List ℕ) → length counts ≡ length words
     → ((n : ℕ) → n < length words → get_or words n 0 < 2 ^ 64)
     → ((n bit : ℕ) → n < length words → bit < 64 → bit_at (get_or counts n 0) bit ≡ weight (64 * n + bit))
     → ones_below words counts (length words) ≡ sum_of weight (flags_of words)
 ones_sum weight [] counts size fits exact = refl
-ones_sum weight (word ∷ words) [] size fits exact = absurd (omega arith)
+ones_sum weight (word ∷ words) [] size fits exact = omega arith
 ones_sum weight (word ∷ words) (other ∷ counts) size fits exact =
     let z : (bit : ℕ) → bit < 64 → bit_at other bit ≡ weight bit = λ bit l. exact 0 bit (omega arith) l ∙ ap weight (omega arith) in
     let b = sum_bits 64 other (flags_of words) (fits 0 (omega arith)) z in
     let r = ones_sum (λ n. weight (64 + n)) words counts (omega arith) (λ n h. fits (suc n) (omega arith))
     (λ n bit h l. exact (suc n) bit (omega arith) l ∙ ap weight (omega arith)) in
-    let f = ones_front word other words counts (length words) in
-    omega arith
+    omega (arith, ones_front word other words counts (length words))
 
 counted_most : (code : List Node) (n : ℕ) → counted_at code n ≤ 1
 counted_most [] zero = omega arith
@@ -291,15 +282,12 @@ bits_beyond (suc count) word n rest =
 bits_length : (count word : ℕ) → length (bits count word) ≡ count
 unfolding bits
 bits_length zero word = refl
-bits_length (suc count) word = let r = bits_length count (word / 2) in omega arith
+bits_length (suc count) word = omega (arith, bits_length count (word / 2))
 
 pub flags_length : (words : List ℕ) → length (flags_of words) ≡ 64 * length words
 flags_length [] = refl
 flags_length (word ∷ words) =
-    let a = length-append (bits 64 word) (flags_of words) in
-    let b = bits_length 64 word in
-    let r = flags_length words in
-    omega arith
+    omega (arith, length-append (bits 64 word) (flags_of words), bits_length 64 word, flags_length words)
 
 flag_is : (words : List ℕ) (n : ℕ) → get_or (flags_of words) n false ≡ (bit_at (get_or words (n / 64) 0) (n % 64) == 1)
 flag_is [] n = sym (ap (λ x. x == 1) (bit_at-zero _))

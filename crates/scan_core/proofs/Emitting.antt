@@ -20,16 +20,16 @@ pub copies_more : (old : List Node) {now new : List Node} (from size count : ℕ
 copies_more old from size count e h m = grind (arith, common_steps)
 
 -- a copy may stand on either side of the others
-pub copies_turn : (count : ℕ) (code : List Node) → code ++ copies count code ≡ copies count code ++ code
+copies_turn : (count : ℕ) (code : List Node) → code ++ copies count code ≡ copies count code ++ code
 copies_turn zero code = append-nil code
 copies_turn (suc count) code = sym (append_assoc code (copies count code) code) ∙ ap (λ l. l ++ code) (copies_turn count code)
 
-pub reverse-copies : (count : ℕ) (code : List Node) → reverse (copies count code) ≡ copies count (reverse code)
+reverse-copies : (count : ℕ) (code : List Node) → reverse (copies count code) ≡ copies count (reverse code)
 reverse-copies zero code = refl
 reverse-copies (suc count) code = reverse-append (copies count code) code ∙ ap (λ l. reverse code ++ l) (reverse-copies count code) ∙ copies_turn count (reverse code)
 
 -- the stretch after a front
-pub stretch_after : (before : List Node) {code : List Node} (more : List Node) {from size : ℕ} → length before ≡ from
+stretch_after : (before : List Node) {code : List Node} (more : List Node) {from size : ℕ} → length before ≡ from
     → length code ≡ size → stretch from size (before ++ (code ++ more)) ≡ code
 stretch_after before more e f = grind (arith, common_steps)
 
@@ -44,43 +44,26 @@ pub starred_out : {nodes marked chosen new : List Node} (before code : List Node
     → new ≡ chosen ++ copies low (stretch (start + 1) size chosen)
     → new ≡ before ++ reverse (copies low code ++ starred code)
 starred_out {marked} {chosen} before code {start} {size} low b n s m ch e =
-    e ∙ ap (λ l. chosen ++ copies low l) here ∙ ap (λ l. l ++ copies low (reverse code)) whole
-    ∙ append_assoc before (reverse (starred code)) (copies low (reverse code))
-    ∙ ap (λ l. before ++ (reverse (starred code) ++ l)) (sym (reverse-copies low code))
-    ∙ ap (λ l. before ++ l) (sym (reverse-append (copies low code) (starred code)))
+    rw (e, here, whole, append_assoc, reverse-append (copies low code) (starred code), reverse-copies low code)
   where
     counted : size ≡ length code
-    counted =
-        let l = ap length n in
-        let a = length-append before (Back 0 ∷ reverse code) in
-        let r = length-reverse code in
-        omega arith
+    counted = omega (arith, ap length n, length-append before (Back 0 ∷ reverse code), length-reverse code)
 
     set_now : marked ≡ before ++ Back (length code + 1) ∷ reverse code
-    set_now =
-        m ∙ ap (λ l. set l start (Back (size + 1))) n ∙ ap (λ n. set (before ++ Back 0 ∷ reverse code) n (Back (size + 1))) (sym b)
-        ∙ set-append_seam before (Back 0) (reverse code) (Back (size + 1)) ∙ ap (λ k. before ++ Back (k + 1) ∷ reverse code) counted
+    set_now = rw (m, n, ← b, counted) (set-append_seam before (Back 0) (reverse code) (Back (length code + 1)))
 
     skip : length marked - start + 1 ≡ length code + 2
-    skip =
-        let l = ap length set_now in
-        let a = length-append before (Back (length code + 1) ∷ reverse code) in
-        let r = length-reverse code in
-        omega arith
+    skip = omega (arith, ap length set_now, length-append before (Back (length code + 1) ∷ reverse code), length-reverse code)
 
     whole : chosen ≡ before ++ reverse (starred code)
-    whole =
-        ch ∙ ap (λ l. l ++ Choose (length marked - start + 1) ∷ []) set_now ∙ ap (λ k. (before ++ Back (length code + 1) ∷ reverse code) ++ Choose k ∷ []) skip
-        ∙ append_assoc before _ _ ∙ ap (λ l. before ++ l) (sym (reverse-starred _))
+    whole = rw (ch, skip, set_now, append_assoc) (ap (λ l. before ++ l) (sym (reverse-starred _)))
 
     parted : chosen ≡ (before ++ Back (length code + 1) ∷ []) ++ (reverse code ++ Choose (length code + 2) ∷ [])
     parted = whole ∙ ap (λ l. before ++ l) (reverse-starred _) ∙ sym (append_assoc before _ _)
 
     here : stretch (start + 1) size chosen ≡ reverse code
-    here =
-        let a = length-append before (Back (length code + 1) ∷ []) in
-        let r = length-reverse code in
-        ap (stretch (start + 1) size) parted ∙ stretch_after (before ++ Back (length code + 1) ∷ []) (Choose (length code + 2) ∷ []) (omega (arith, a, b)) (omega (arith, r, counted))
+    here = rw parted (stretch_after (before ++ Back (length code + 1) ∷ []) (Choose (length code + 2) ∷ [])
+        (omega (arith, length-append before (Back (length code + 1) ∷ []), b)) (omega (arith, length-reverse code, counted)))
 
 -- the item where it stands, nodes having been written after it
 item_here : {nodes now : List Node} (more before code : List Node) {start size : ℕ} → length before ≡ start
@@ -93,11 +76,9 @@ pub exact_out : {nodes new : List Node} (before code : List Node) {start size lo
     → nodes ≡ before ++ reverse code → size ≡ length nodes - start → low ≡ high → 0 < high
     → new ≡ nodes ++ copies (low - 1) (stretch start size nodes)
     → new ≡ before ++ reverse (copies low code ++ up_to (high - low) code)
-exact_out {nodes} before code {low} {high} b n s same some e =
-    e ∙ ap (λ l. nodes ++ copies (low - 1) l) (item_here [] before code b n s (sym (append-nil nodes))) ∙ ap (λ l. l ++ copies (low - 1) (reverse code)) n
-    ∙ append_assoc before (reverse code) (copies (low - 1) (reverse code)) ∙ ap (λ l. before ++ l) (copies_turn (low - 1) (reverse code))
-    ∙ ap (λ k. before ++ copies k (reverse code)) one ∙ ap (λ l. before ++ l) (sym (reverse-copies low code))
-    ∙ ap (λ l. before ++ reverse l) (sym (append-nil (copies low code))) ∙ ap (λ k. before ++ reverse (copies low code ++ up_to k code)) none
+exact_out {nodes} before code {low = low} {high = high} b n s same some e =
+    rw (e, item_here [] before code b n s (sym (append-nil nodes)), n, append_assoc, copies_turn, ← none, append-nil (copies low code), reverse-copies low code)
+    (ap (λ k. before ++ copies k (reverse code)) one)
   where
     one : suc (low - 1) ≡ low
     one = omega arith

@@ -6,24 +6,26 @@ use Rattle.std.proofs.{
   Common.{◌-◌, max, bit_and, bit_or},
 }
 use Rattle.std.proofs.lemmas.{
-  Bool.{cases_eq, false≢true, cases_lt},
-  List.{get_or-set_same, get_or-set_other, length-set, set-get_or},
-  Nat.{le_or_l, or_lt, and_le_l},
-  Nat.Bits.{shr_and_one, bit_at_set_same, bit_at_set_other, and_high, bit_at_and, bit_at_or, bit_at_not, bit_at-lt},
-  Nat.Bits.{bit_at-zero, bit_at_mask_inside, bit_at_ones, bit_at_above, bit_at_cat_low, bit_at_cat_high},
+  Bool.{cases_eq, cases_lt},
+  List.{get_or-set_other, length-set, set-get_or},
+  Nat.{le_or_l, or_lt, and_le_l, mod-pow-add, pow_pos},
+  Nat.Bits.{bit_at-trailing_zeros, shr_and_one, bit_at_set_same, bit_at_set_other, and_high, bit_at_and, bit_at_or},
+  Nat.Bits.{bit_at_not, bit_at-lt},
+  Nat.Bits.{bit_at-zero, bit_at_ones, bit_at_above, bit_at_cat_low, bit_at_cat_high},
   Grind.common_steps,
 }
-use Rattle.std.specs.Int.{bit_at, bit_not, Bits.{or_zero_r, or_zero_l}}
+use Rattle.std.proofs.Math.Nat.{mod-lt}
+use Rattle.std.specs.Int.{bit_at, bit_not, trailing_zeros, Bits.{or_zero_r, or_zero_l}}
 use mir.Val.{bool_byte}
 use Rattle.scan_core.{
   specs.inner.{
     Sets.{Flows, FlowsOn},
-    Words.{GoesOn, IsIn, unset, Grows, Adds, SpreadsOut, width},
-    Ways.{IsWay, Opens},
+    Words.{IsIn, unset, Grows, Adds, SpreadsOut, width},
+    Branches.{IsBranch, Opens},
     Each.AreEach,
     Closures.{Closes, IsInside, chosen_at},
   },
-  specs.declared.{node.Node.Node, way.Way.Way},
+  specs.declared.{node.Node.Node, branch.Branch.Branch},
   proofs.Enterings.{at_least, parts_anywhere},
 }
 use Rattle.bre_core.specs.Match.{Parts}
@@ -57,7 +59,7 @@ bits_more false a h is = search (rules, or_zero_r, cases_eq)
 
 pub flag_one : (flag : Bool) → (bool_byte flag ≡ 1) ↔ IsTrue flag
 flag_one true = (λ e. refl, λ t. refl)
-flag_one false = (λ e. absurd (omega arith), λ t. absurd (false≢true t))
+flag_one false = search rules
 
 pub not_one : (flag : Bool) → IsTrue flag ⊎ (bool_byte (not flag) ≡ 1)
 not_one true = inl refl
@@ -69,22 +71,18 @@ pub entered_one : (old : List ℕ) {new : List ℕ} {number word : ℕ} → numb
     → (other : ℕ) → IsIn new other ↔ (IsIn old other ⊎ (other ≡ number))
 unfolding IsIn
 entered_one old {new} {number} {word} h ew en other = elim (cases_eq other number) [
-  | inl same ↦
-      let here = ap (λ n. bit_at (get_or new (n / 64) 0) (n % 64)) same ∙ ap (λ x. bit_at x (number % 64)) read in
-      (λ k. inr same, λ k. here ∙ bit_at_set_same w64 word _ (omega arith))
+  | inl same ↦ (λ k. inr same, λ k. rw (same, read) (bit_at_set_same w64 word (number % 64) (omega arith)))
   | inr differs ↦ (λ k. inl (sym (elsewhere differs) ∙ k), λ k. elim k [ inl was ↦ elsewhere differs ∙ was | inr same ↦ absurd (differs same) ])
 ]
   where
     read : get_or new (number / 64) 0 ≡ bit_or word (1 * 2 ^ (number % 64) % 2 ^ 64)
-    read = ap (λ l. get_or l (number / 64) 0) en ∙ get_or-set_same old _ _ 0 (omega arith)
+    read = search rules
 
     elsewhere : (other ≡ number → ⊥)
         → bit_at (get_or new (other / 64) 0) (other % 64) ≡ bit_at (get_or old (other / 64) 0) (other % 64)
     elsewhere differs = elim (cases_eq (other / 64) (number / 64)) [
-      | inl same ↦ ap (λ k. bit_at (get_or new k 0) (other % 64)) same ∙ ap (λ x. bit_at x (other % 64)) read
-          ∙ bit_at_set_other w64 word _ (omega arith) _ (λ e. differs (omega arith))
-          ∙ ap (λ x. bit_at x (other % 64)) ew ∙ ap (λ k. bit_at (get_or old k 0) (other % 64)) (sym same)
-      | inr apart ↦ ap (λ x. bit_at x (other % 64)) (ap (λ l. get_or l (other / 64) 0) en ∙ get_or-set_other old _ _ _ 0 apart)
+      | inl same ↦ rw (same, read, ← ew) (bit_at_set_other w64 word (number % 64) (omega arith) (other % 64) (λ e. differs (omega arith)))
+      | inr apart ↦ rw en (ap (λ x. bit_at x (other % 64)) (get_or-set_other old _ _ _ 0 apart))
     ]
 
 -- one number more
@@ -121,12 +119,9 @@ grows_one {old} {new} {number} {word} h none ew fits en eo = record {
     fuller = rw (← en) at (unset-set old (number / 64) (bit_or word (1 * 2 ^ (number % 64) % 2 ^ 64)) (omega arith) larger
         (let m = or_lt 64 word (1 * 2 ^ (number % 64) % 2 ^ 64) fits (omega arith) in omega arith))
 
-pub goes_none : {words : List ℕ} {before : ℕ} → GoesOn words words before before
-goes_none = record { low = omega arith; under = λ number l h. h; fuller = omega arith; less = λ l. absurd (omega arith) }
-
 pub grows_none : {Added : ℕ → Type 0} {words : List ℕ} {on : ℕ} → ((number : ℕ) → Added number → IsIn words number)
     → Grows Added words words on on
-grows_none within = record { size = refl; exact = λ number. (λ h. inl h, elim [ inl h ↦ h | inr h ↦ within number h ]); goes = goes_none }
+grows_none within = search rules
 
 -- Sets of numbers as words that grow by what a node leads to.
 
@@ -134,20 +129,20 @@ pub grows_by : {Added Other : ℕ → Type 0} {old new : List ℕ} {before on : 
     → ((n : ℕ) → Added n → Other n) → ((n : ℕ) → Other n → Added n) → Grows Other old new before on
 grows_by g there here = search rules
 
-pub grows_both : {Added Other : ℕ → Type 0} {old middle new : List ℕ} {before between on : ℕ}
+grows_both : {Added Other : ℕ → Type 0} {old middle new : List ℕ} {before between on : ℕ}
     → Grows Added old middle before between → Grows Other middle new between on
     → Grows (λ n. Added n ⊎ Other n) old new before on
 grows_both f g = search rules
 
 -- a node that leads nowhere at this place, and one that leads to two numbers
-pub grows_closed : {code : List Node} {number : ℕ} {way : Way} {at_first at_last : Bool} {words : List ℕ} {on : ℕ}
-    → IsWay code number way → (Opens way.when at_first at_last → ⊥)
+pub grows_closed : {code : List Node} {number : ℕ} {branch : Branch} {at_first at_last : Bool} {words : List ℕ} {on : ℕ}
+    → IsBranch code number branch → (Opens branch.when at_first at_last → ⊥)
     → Grows (Flows code at_first at_last number) words words on on
 grows_closed {at_first} {at_last} w never = grows_none (λ to f. absurd (never ((w.exact at_first at_last to).0 f).0))
 
-pub grows_way : {code : List Node} {number : ℕ} {way : Way} {at_first at_last : Bool} {old middle new : List ℕ}
-    {before between on : ℕ} → IsWay code number way → Opens way.when at_first at_last
-    → Grows (λ n. n ≡ way.one) old middle before between → Grows (λ n. n ≡ way.other) middle new between on
+pub grows_way : {code : List Node} {number : ℕ} {branch : Branch} {at_first at_last : Bool} {old middle new : List ℕ}
+    {before between on : ℕ} → IsBranch code number branch → Opens branch.when at_first at_last
+    → Grows (λ n. n ≡ branch.one) old middle before between → Grows (λ n. n ≡ branch.other) middle new between on
     → Grows (Flows code at_first at_last number) old new before on
 grows_way {at_first} {at_last} w o f g =
     grows_by (grows_both f g)
@@ -173,7 +168,7 @@ flows_join code (suc count) f p = let r = flows_join code count f p.1 in (suc r.
 pub adds_both : {code : List Node} {at_first at_last : Bool} {old middle new : List ℕ}
     → Adds code at_first at_last old middle → Adds code at_first at_last middle new → Adds code at_first at_last old new
 adds_both f g = record {
-  size = g.size ∙ f.size;
+  size = cc;
   kept = λ number h. g.kept number (f.kept number h);
   from = λ number h. let one = g.from number h in let two = f.from one.0 one.1 in (two.0, two.1, flows_join _ _ two.2 one.2.1);
 }
@@ -223,11 +218,11 @@ spreading_more {number} s g = record {
 
 pub spreading_ends : {code : List Node} {at_first at_last : Bool} {old now : List ℕ} {number : ℕ}
     → Spreading code at_first at_last old now number → length code ≤ number → SpreadsOut code at_first at_last old now
-spreading_ends {code} s h = spreads_out s.adds (λ start to k flow. s.closed start to (let l = at_least code start flow.0 flow.1 in omega arith) k flow)
+spreading_ends {code} s h = spreads_out s.adds (λ start to k flow. s.closed start to (omega (arith, at_least code start flow.0 flow.1)) k flow)
 
 pub visits_smaller : {Added : ℕ → Type 0} {old new : List ℕ} {number on most : ℕ} → Grows Added old new (number + 1) on
     → number < most → unset new * (most + 1) + (most - on) < unset old * (most + 1) + (most - number)
-visits_smaller g h = let l = g.goes in grind (arith, common_steps)
+visits_smaller g h = grind (arith, common_steps)
 
 -- What numbers lead to without a byte, ready to be looked up.
 
@@ -235,10 +230,10 @@ pub either_bit : (a b bit : ℕ) → bit_at (bit_or a b) bit ≡ 1 → (bit_at a
 either_bit a b bit h = search (rules, cases_eq, bit_at_or, bit_at-lt)
 
 pub left_bit : (a b bit : ℕ) → bit_at a bit ≡ 1 → bit_at (bit_or a b) bit ≡ 1
-left_bit a b bit h = let e = bit_at_or a b bit in let l = bit_at-lt b bit in omega arith
+left_bit a b bit h = omega (arith, bit_at_or a b bit, bit_at-lt b bit)
 
 pub right_bit : (a b bit : ℕ) → bit_at b bit ≡ 1 → bit_at (bit_or a b) bit ≡ 1
-right_bit a b bit h = let e = bit_at_or a b bit in let l = bit_at-lt a bit in omega arith
+right_bit a b bit h = omega (arith, bit_at_or a b bit, bit_at-lt a bit)
 
 -- a bit that stands for a number of a word
 pub bit_is : {at : ℕ} (number bit : ℕ) → number / 64 ≡ at → bit < 64
@@ -250,18 +245,16 @@ bit_is number bit here h =
       λ k. elim (cases_eq bit (number % 64)) [
         | inl e ↦ omega arith
         | inr other ↦
-            let o = bit_at_set_other w64 0 (number % 64) (omega arith) bit other in
-            let z = bit_at-zero bit in
-            let w = ap (λ x. bit_at x bit) word in
-            absurd (omega arith)
+            absurd (omega (arith, bit_at_set_other w64 0 (number % 64) (omega arith) bit other, bit_at-zero bit, ap (λ x. bit_at x bit) word))
       ],
       λ e. let q : bit ≡ number % 64 = omega arith in
           ap (bit_at (1 * 2 ^ (number % 64) % 2 ^ 64)) q ∙ ap (λ x. bit_at x (number % 64)) (sym word) ∙ same,
     )
 
 -- what a number of a word leads to in it
-pub both_led : {code : List Node} {number to : ℕ} {way : Way} (one other bit : ℕ) → IsWay code number way
-    → Opens way.when false false → ((bit_at one bit ≡ 1) ↔ (way.one ≡ to)) → ((bit_at other bit ≡ 1) ↔ (way.other ≡ to))
+pub both_led : {code : List Node} {number to : ℕ} {branch : Branch} (one other bit : ℕ) → IsBranch code number branch
+    → Opens branch.when false false → ((bit_at one bit ≡ 1) ↔ (branch.one ≡ to))
+    → ((bit_at other bit ≡ 1) ↔ (branch.other ≡ to))
     → (bit_at (bit_or one other) bit ≡ 1) ↔ Flows code false false number to
 both_led {to} one other bit w o a b = (
   λ k. (w.exact false false to).1 (o, elim (either_bit _ _ _ k) [ inl first ↦ inl (sym (a.0 first)) | inr second ↦ inr (sym (b.0 second)) ]),
@@ -270,7 +263,7 @@ both_led {to} one other bit w o a b = (
 
 pub none_led : (code : List Node) {number to : ℕ} (bit : ℕ) → (Flows code false false number to → ⊥)
     → (bit_at 0 bit ≡ 1) ↔ Flows code false false number to
-none_led code bit never = (λ k. let z = bit_at-zero bit in absurd (omega arith), λ f. absurd (never f))
+none_led code bit never = search rules
 
 -- what some of the numbers lead to is there
 pub record Insiding (code : List Node) (at word all done : ℕ) : Type 0 where
@@ -279,6 +272,14 @@ pub record Insiding (code : List Node) (at word all done : ℕ) : Type 0 where
       → (bit : ℕ) × (bit < 64) × (bit_at word bit ≡ 1) × FlowsOn code false false (at * 64 + bit) (at * 64 + number)
   pub looked : (bit to : ℕ) → bit < 64 → to < 64 → bit_at done bit ≡ 1
       → Flows code false false (at * 64 + bit) (at * 64 + to) → bit_at all to ≡ 1
+
+-- the lowest bit that is in two words
+pub lowest_in : (word other : ℕ) → word < 2 ^ 64 → (bit_and word other ≡ 0 → ⊥)
+    → (trailing_zeros w64 (bit_and word other) < 64)
+    × (bit_at (bit_and word other) (trailing_zeros w64 (bit_and word other)) ≡ 1)
+lowest_in word other fits some =
+    let l = bit_at-trailing_zeros w64 (bit_and word other) (omega arith) (omega (arith, and_le_l word other)) in
+    (l.0, l.1)
 
 -- what isn't in a word yet
 pub fresh_bit : (found : ℕ) {all bit : ℕ} → all < 2 ^ 64 → bit < 64
@@ -319,66 +320,15 @@ pub inside_smaller : (all : ℕ) {done bit : ℕ} → bit < 64 → done < 2 ^ 64
     → bit_at (bit_and all (bit_not w64 done)) bit ≡ 1 → 2 ^ 64 - bit_or done (1 * 2 ^ bit % 2 ^ 64) < 2 ^ 64 - done
 inside_smaller all {done} {bit} small fits here = elim (cases_eq (bit_or done (1 * 2 ^ bit % 2 ^ 64)) done) [
   | inl same ↦
-      let e = fresh_bit all fits small in
-      let s = sym (bit_at_set_same w64 done bit small) ∙ ap (λ w. bit_at w bit) same in
-      absurd (omega arith)
+      absurd (omega (arith, fresh_bit all fits small, sym (bit_at_set_same w64 done bit small) ∙ ap (λ w. bit_at w bit) same))
   | inr grown ↦ let l = le_or_l done (1 * 2 ^ bit % 2 ^ 64) in let m = or_lt 64 done (1 * 2 ^ bit % 2 ^ 64) fits (omega arith) in omega arith
 ]
-
--- the first eights of a word are joined
-pub record Joining (code : List Node) (at word eight all : ℕ) : Type 0 where
-  pub kept : (bit : ℕ) → bit < eight * 8 → bit_at word bit ≡ 1 → bit_at all bit ≡ 1
-  pub from_word : (number : ℕ) → number < 64 → bit_at all number ≡ 1
-      → (bit : ℕ) × (bit < 64) × (bit_at word bit ≡ 1) × FlowsOn code false false (at * 64 + bit) (at * 64 + number)
-  pub closed : (number to : ℕ) → number < 64 → to < 64 → bit_at all number ≡ 1
-      → Flows code false false (at * 64 + number) (at * 64 + to) → bit_at all to ≡ 1
-
--- the bits of eight numbers of a word
-eight_bits : {word : ℕ} (eight bit : ℕ) → word < 2 ^ 64
-    → bit_at (word / 2 ^ (eight * 8) % 256 * 2 ^ (eight * 8) % 2 ^ 64) bit
-    ≡ min (bit_at word bit) (bit_at (2 ^ (8 + eight * 8) - 2 ^ (eight * 8)) bit)
-eight_bits {word} eight bit h =
-    let e : bit_and word (2 ^ (8 + eight * 8) - 2 ^ (eight * 8)) ≡ word / 2 ^ (eight * 8) % 256 * 2 ^ (eight * 8) = and_high word 8 _ in
-    let l = and_le_l word (2 ^ (8 + eight * 8) - 2 ^ (eight * 8)) in
-    let q : word / 2 ^ (eight * 8) % 256 * 2 ^ (eight * 8) % 2 ^ 64 ≡ bit_and word (2 ^ (8 + eight * 8) - 2 ^ (eight * 8)) = omega arith in
-    ap (λ x. bit_at x bit) q ∙ bit_at_and word (2 ^ (8 + eight * 8) - 2 ^ (eight * 8)) bit
 
 -- an entry by its word, its eight and its choice
 entry_at : {code : List Node} (place : ℕ) {at eight chosen entry : ℕ} → place / 2048 ≡ at → place / 256 % 8 ≡ eight
     → place % 256 ≡ chosen
     → Closes code (place / 2048) (chosen_at place) entry → Closes code at (chosen * 2 ^ (eight * 8) % 2 ^ 64) entry
 entry_at place word which low c = search rules
-
-pub join_more : {code : List Node} {inside : List ℕ} {at word eight all entry : ℕ}
-    → Joining code at word eight all → AreEach 0 (IsInside code) (width code * 2048) inside → at < width code
-    → eight < 8 → word < 2 ^ 64 → entry ≡ get_or inside (at * 2048 + (eight * 256 + word / 2 ^ (eight * 8) % 256)) 0
-    → Joining code at word (eight + 1) (bit_or all entry)
-join_more {code} {at} {word} {eight} {all} {entry} j i within h fits e = record {
-  kept = λ bit l is. elim (cases_lt bit (eight * 8)) [
-    | inl before ↦ left_bit all entry bit (j.kept bit before is)
-    | inr here ↦
-        let m = eight_bits eight bit fits in
-        let o = bit_at_mask_inside (eight * 8) (8 + eight * 8) bit here (omega arith) in
-        right_bit all entry bit (c.kept bit (omega arith) (omega arith))
-  ];
-  from_word = λ number l is. elim (either_bit all entry number is) [
-    | inl old ↦ j.from_word number l old
-    | inr new ↦
-        let k = c.from_chosen number l new in
-        let m = eight_bits eight k.0 fits in
-        let b = bit_at-lt word k.0 in
-        (k.0, k.1, (let is = k.2 in omega arith), k.3)
-  ];
-  closed = λ number to l m is f. elim (either_bit all entry number is) [
-    | inl old ↦ left_bit all entry to (j.closed number to l m old f)
-    | inr new ↦ right_bit all entry to (c.closed number to l m new f)
-  ];
-}
-  where
-    c : Closes code at (word / 2 ^ (eight * 8) % 256 * 2 ^ (eight * 8) % 2 ^ 64) entry
-    c =
-        let place : ℕ = at * 2048 + (eight * 256 + word / 2 ^ (eight * 8) % 256) in
-        rw e (entry_at place (omega arith) (omega arith) (omega arith) (i.each place (omega arith)))
 
 -- the bits of a number in its place in a word
 fitted : (n i : ℕ) → i < 64 → bit_at (n % 2 ^ 64) i ≡ bit_at n i
@@ -390,44 +340,29 @@ fitted n i h =
     let q : n % 2 ^ 64 ≡ bit_and n (2 ^ (64 + 0) - 2 ^ 0) = omega arith in
     ap (λ x. bit_at x i) q ∙ b ∙ omega arith
 
-pub placed_below : (n : ℕ) {s i : ℕ} → i < 64 → i < s → bit_at (n * 2 ^ s % 2 ^ 64) i ≡ 0
+placed_below : (n : ℕ) {s i : ℕ} → i < 64 → i < s → bit_at (n * 2 ^ s % 2 ^ 64) i ≡ 0
 placed_below n {s} {i} h l = fitted _ i h ∙ ap (λ x. bit_at x i) (omega arith) ∙ bit_at_cat_low n s 0 i l ∙ bit_at-zero i
 
-pub placed : (n : ℕ) {s i : ℕ} → i < 64 → s ≤ i → bit_at (n * 2 ^ s % 2 ^ 64) i ≡ bit_at n (i - s)
+placed : (n : ℕ) {s i : ℕ} → i < 64 → s ≤ i → bit_at (n * 2 ^ s % 2 ^ 64) i ≡ bit_at n (i - s)
 placed n {s} {i} h l = fitted _ i h ∙ ap (λ x. bit_at x i) (omega arith) ∙ bit_at_cat_high n s 0 i (search rules) l
 
--- the bits of a number are those of its lower and of its higher four bits
-halved : (high low j : ℕ) → low < 16 → bit_at (high * 16 + low) j ≡ max (bit_at (high * 16) j) (bit_at low j)
-halved high low j h = elim (cases_lt j 4) [
-  | inl l ↦
-      let a = bit_at_cat_low high 4 low j l in
-      let b = bit_at_cat_low high 4 0 j l in
-      let z = bit_at-zero j in
-      let e : bit_at (high * 16 + 0) j ≡ bit_at (high * 16) j = ap (λ x. bit_at x j) (omega arith) in
-      omega arith
-  | inr l ↦
-      let a = bit_at_cat_high high 4 low j h l in
-      let b = bit_at_cat_high high 4 0 j (omega arith) l in
-      let z = bit_at_above low 4 j h l in
-      let e : bit_at (high * 16 + 0) j ≡ bit_at (high * 16) j = ap (λ x. bit_at x j) (omega arith) in
-      omega arith
-]
+-- the bits of a number are those of its lower and of its higher part
+halves : (high low k i : ℕ) → low < 2 ^ k → bit_at (high * 2 ^ k + low) i ≡ max (bit_at (high * 2 ^ k) i) (bit_at low i)
+halves high low k i h =
+    let none : bit_at (high * 2 ^ k + 0) i ≡ bit_at (high * 2 ^ k) i = ap (λ x. bit_at x i) (omega arith) in
+    elim (cases_lt i k) [
+      | inl l ↦ omega (arith, bit_at_cat_low high k low i l, bit_at_cat_low high k 0 i l, bit_at-zero i, none)
+      | inr l ↦ omega (arith, bit_at_cat_high high k low i h l, bit_at_cat_high high k 0 i (omega arith) l, bit_at_above low k i h l, none)
+    ]
 
 halved_placed : (high low s i : ℕ) → low < 16 → i < 64
     → bit_at ((high * 16 + low) * 2 ^ s % 2 ^ 64) i
     ≡ max (bit_at (high * 16 * 2 ^ s % 2 ^ 64) i) (bit_at (low * 2 ^ s % 2 ^ 64) i)
 halved_placed high low s i h small = elim (cases_lt i s) [
   | inl l ↦
-      let a = placed_below (high * 16 + low) small l in
-      let b = placed_below (high * 16) small l in
-      let d = placed_below low small l in
-      omega arith
+      omega (arith, placed_below (high * 16 + low) small l, placed_below (high * 16) small l, placed_below low small l)
   | inr l ↦
-      let a = placed (high * 16 + low) small l in
-      let b = placed (high * 16) small l in
-      let d = placed low small l in
-      let e = halved high low (i - s) h in
-      omega arith
+      omega (arith, placed (high * 16 + low) small l, placed (high * 16) small l, placed low small l, halves high low 4 (i - s) h)
 ]
 
 -- what two choices lead to is what both together lead to
@@ -437,17 +372,46 @@ closes_both : {code : List Node} {at : ℕ} (one other : ℕ) {chosen : ℕ} (al
 closes_both one other all more c d e = record {
   kept = λ bit h is. elim (cases_eq (bit_at one bit) 1) [
     | inl first ↦ left_bit _ _ _ (c.kept bit h first)
-    | inr differs ↦ right_bit _ _ _ (d.kept bit h (let q = e bit h in let l = bit_at-lt one bit in let m = bit_at-lt other bit in omega arith))
+    | inr differs ↦ right_bit _ _ _ (d.kept bit h (omega (arith, e bit h, bit_at-lt one bit, bit_at-lt other bit)))
   ];
   from_chosen = λ number h is. elim (either_bit _ _ _ is) [
-    | inl old ↦ let k = c.from_chosen number h old in (k.0, k.1, (let q = e k.0 k.1 in let is = k.2 in let l = bit_at-lt other k.0 in omega arith), k.3)
-    | inr new ↦ let k = d.from_chosen number h new in (k.0, k.1, (let q = e k.0 k.1 in let is = k.2 in let l = bit_at-lt one k.0 in omega arith), k.3)
+    | inl old ↦ let k = c.from_chosen number h old in (k.0, k.1, (omega (arith, e k.0 k.1, k.2, bit_at-lt other k.0)), k.3)
+    | inr new ↦ let k = d.from_chosen number h new in (k.0, k.1, (omega (arith, e k.0 k.1, k.2, bit_at-lt one k.0)), k.3)
   ];
   closed = λ number to h l is f. elim (either_bit _ _ _ is) [
     | inl old ↦ left_bit _ _ _ (c.closed number to h l old f)
     | inr new ↦ right_bit _ _ _ (d.closed number to h l new f)
   ];
 }
+
+-- nothing leads nowhere
+pub closes_none : (code : List Node) (at : ℕ) → Closes code at 0 0
+closes_none code at = search rules
+
+-- the entry of the next eight numbers of a word is joined to what those before them lead to
+pub join_more : {code : List Node} {inside : List ℕ} {at eight all entry : ℕ} (word : ℕ)
+    → Closes code at (word % 2 ^ (eight * 8)) all → AreEach 0 (IsInside code) (width code * 2048) inside
+    → at < width code → eight < 8
+    → entry ≡ get_or inside (at * 2048 + (eight * 256 + word / 2 ^ (eight * 8) % 256)) 0
+    → Closes code at (word % 2 ^ ((eight + 1) * 8)) (bit_or all entry)
+join_more {code} {inside} {at} {eight} {all} {entry} word j i within h e = closes_both _ _ _ _ j here bits
+  where
+    here : Closes code at (word / 2 ^ (eight * 8) % 256 * 2 ^ (eight * 8) % 2 ^ 64) entry
+    here =
+        let place : ℕ = at * 2048 + (eight * 256 + word / 2 ^ (eight * 8) % 256) in
+        rw e (entry_at place (omega arith) (omega arith) (omega arith) (i.each place (omega arith)))
+
+    bits : (bit : ℕ) → bit < 64 → bit_at (word % 2 ^ ((eight + 1) * 8)) bit
+        ≡ max (bit_at (word % 2 ^ (eight * 8)) bit)
+        (bit_at (word / 2 ^ (eight * 8) % 256 * 2 ^ (eight * 8) % 2 ^ 64) bit)
+    bits bit l =
+        let next : (eight + 1) * 8 ≡ 8 + eight * 8 = omega arith in
+        let low : word % 2 ^ (eight * 8) < 2 ^ (eight * 8) = mod-lt word (pow_pos (eight * 8)) in
+        rw (next, mod-pow-add word 8 (eight * 8)) (omega (
+          arith,
+          halves (word / 2 ^ (eight * 8) % 256) _ _ bit low,
+          fitted (word / 2 ^ (eight * 8) % 256 * 2 ^ (eight * 8)) bit l,
+        ))
 
 -- the entry of a choice with both lower and higher numbers
 pub entry_of_halves : {code : List Node} {inside : List ℕ} {place : ℕ} → AreEach 0 (IsInside code) place inside

@@ -1,7 +1,7 @@
 -- What each line with a match has, and where a text lacks it.
 use Rattle.std.proofs.{
   Common.{rules, ◌≡◌, inl, inr, ℕ, zero, suc, ◌+◌, ◌-◌, ◌<◌, ◌≤◌, Bool, true, false, IsTrue, List, [], ◌∷◌, ◌++◌},
-  Common.{length, slice_index, refl, sym, ap, ◌∙◌, arith, length-append},
+  Common.{length, slice_index, refl, ◌∙◌, arith, length-append},
   lemmas.{Bool.cases_eq, List.get_or_append_left, Grind.common_steps},
   Math.Seq.get_or-append_seam,
 }
@@ -87,7 +87,7 @@ is_byte_needle code {number} bytes few passed here among line are ends =
     let walk = comes _ passed (at_least _ _ _ here) ends in
     let same : number ≡ number + 0 = omega arith in
     let first : AreTakes code number 0 = λ k low. (bytes, at_at code (Take bytes) (omega arith) here) in
-    let t = taken code line 0 number walk.0 walk.2 walk.1 walk.3 (let low = at_least code number (Take bytes) here in omega arith) first in
+    let t = taken code line 0 number walk.0 walk.2 walk.1 walk.3 (omega (arith, at_least code number (Take bytes) here)) first in
     (walk.0 + 0, t.0, among (slice_index line (walk.0 + 0)) (are (walk.0 + 0) t.0) (t.1 bytes (at_at _ _ same here)))
 
 -- a node that takes one byte alone takes bytes
@@ -105,7 +105,7 @@ pub is_text_needle : (code : List Node) {number : ℕ} {text needle : List ℕ} 
 is_text_needle code {number} {text} passed literal same some line are ends = (
   walk.0,
   rw same (record {
-    fits = let last = each (length text - 1) (omega arith) in omega arith;
+    fits = omega (arith, each (length text - 1) (omega arith));
     reads = λ j within. (each j within).1;
   }),
 )
@@ -115,7 +115,7 @@ is_text_needle code {number} {text} passed literal same some line are ends = (
     takes k within = let one = literal k within in only_takes code (number + k) one.0 one.1 one.2
 
     walk : (there : ℕ) × (rest : ℕ) × (stop : ℕ) × Walks code line rest number there (length code) stop
-    walk = comes code passed (let one = takes 0 some in let low = at_least code (number + 0) (Take one.0) one.1 in omega arith) ends
+    walk = comes code passed (omega (arith, at_least code (number + 0) _ (takes 0 some).1)) ends
 
     each : (k : ℕ) → k < length text → (walk.0 + k < length line) × (slice_index line (walk.0 + k) ≡ slice_index text k)
     each k within =
@@ -125,7 +125,7 @@ is_text_needle code {number} {text} passed literal same some line are ends = (
 
 -- Stretches of a text
 
-pub part_at : (before part after : List ℕ) {k : ℕ} → k < length part
+part_at : (before part after : List ℕ) {k : ℕ} → k < length part
     → slice_index (before ++ part ++ after) (length before + k) ≡ slice_index part k
 part_at before part after within = grind (arith, common_steps)
 
@@ -138,12 +138,10 @@ pub lacks_text : {needle text : List ℕ} {place : ℕ} → Nowhere (OccursAt te
 lacks_text none before part after all ends has =
     let fits = has.1.fits in
     none (length before + has.0) (omega arith) (omega arith) (rw all (record {
-      fits = (let one : length (before ++ part) ≡ length before + length part = length-append before part in
-          let two : length (before ++ part ++ after) ≡ length (before ++ part) + length after = length-append _ after
-          in omega arith);
+      fits = omega (arith, length-append before part, length-append (before ++ part) after);
       reads = λ j within.
           let there : length before + has.0 + j ≡ length before + (has.0 + j) = omega arith in
-          ap (λ n. slice_index (before ++ part ++ after) n) there ∙ part_at before part after (omega arith) ∙ has.1.reads j within;
+          rw there (part_at before part after (omega arith) ∙ has.1.reads j within);
     }))
 
 -- a stretch that lacks the needle contains no match
@@ -172,11 +170,9 @@ pub literal_more : (code : List Node) (from : ℕ) {at : ℕ} (byte : ℕ) (text
 literal_more code from {at} byte text node all literal here only k within = elim (cases_eq k (length text)) [
   | inl same ↦
       let there : at ≡ from + k = omega arith in
-      let last : byte ≡ slice_index (text ++ byte ∷ []) k = sym (ap (λ n. slice_index (text ++ byte ∷ []) n) same ∙ get_or-append_seam text byte [] _) in
-      (node, at_at _ _ there here, rw last at only)
+      (node, at_at _ _ there here, rw (same, get_or-append_seam text byte [] 0) only)
   | inr other ↦
-      let long : length (text ++ byte ∷ []) ≡ length text + 1 = length-append text _ in
-      let less : k < length text = omega arith in
+      let less : k < length text = omega (arith, length-append text (byte ∷ [])) in
       let one = literal k less in
       (one.0, one.1, rw (← get_or_append_left text (byte ∷ []) _ k less) at one.2)
 ]

@@ -1,25 +1,27 @@
 -- A search by sets of words, place by place.
 use Rattle.std.proofs.{
-  Common.{◌≡◌, ◌⊎◌, ◌↔◌, inl, inr, ℕ, suc, ◌+◌, ◌*◌, ◌<◌, ◌≤◌, Bool, true, false, IsTrue, List, length, slice_index},
-  Common.{refl, sym, ◌∙◌, subst, arith, rules, ◌/◌, ◌%◌, [], ◌∷◌, ◌++◌, length-append, get_or, ap, mul-le-mul},
+  Common.{◌≡◌, ◌⊎◌, ◌↔◌, inl, inr, ℕ, suc, ◌+◌, ◌*◌, ◌<◌, ◌≤◌, Bool, true, false, IsTrue, List, length},
+  Common.slice_index,
+  Common.{refl, sym, ◌∙◌, arith, rules, ◌/◌, ◌%◌, [], ◌∷◌, ◌++◌, length-append, get_or, ap, mul-le-mul},
   lemmas.{Bool.{false≢true, cases_eq}, List.{get_or_append_left, get_or_default}},
 }
 use Rattle.scan_core.specs.{
   declared.{node.Node.{Node, TheVariants.Take}, build.Building.Building, table.{State.State, Table.Table}},
   inner.Closures.IsBase,
-  inner.Sets.{FlowsOn, Passes, Came},
+  inner.Sets.{FlowsOn, Came},
   inner.Table.{IsCounted, Next, InSets, entry, Tells, IsState, no_state, IsTable},
   inner.Words.{IsIn, width, flags_of, SpreadsOut},
   inner.Built.{AreAlike, Built, IsBuilding, IsOpen, LeadsTo, Led},
   inner.Each.AreEach,
-  Code.{Entered, weight, At},
+  Code.{weight, At},
   Sets.{IsMarked, positions_among},
   Table.IsOutcome,
   Counted.set_at,
 }
 use Rattle.scan_core.proofs.{
-  Shiftings.{IsPlace, reaches_exact, came_exact, counted_more, counted_found, counted_ends, steps_more, steps_wider},
-  Countings.{flags_are, flags_length},
+  Shiftings.{AreEntered, IsPlace, reaches_exact, came_exact, counted_more, counted_found, counted_ends, steps_more},
+  Shiftings.steps_wider,
+  Countings.{LedOrBase, flags_are, flags_length},
   Enterings.{positions_most, parts_anywhere, weight_length, each_more, each_to, each_by, at_index, at_once, at_least},
   Insides.flows_join,
 }
@@ -34,12 +36,12 @@ pub record Searched (code : List Node) (line : List ℕ) (place : ℕ) (words : 
 -- at the line's front nothing came before
 pub front_is : {code : List Node} {line base words : List ℕ} {place steps : ℕ} → Searched code line place words steps
     → IsBase code base → place ≡ 0 → (number : ℕ) → IsIn words number → IsIn base number
-front_is s b z number k = elim ((s.came number).0 k) [ inl came ↦ absurd (let e = came.1 in omega arith) | inr on ↦ (b.exact number).1 on ]
+front_is s b z number k = search rules
 
 -- what is entered at a place
 pub entered_here : {code : List Node} {line : List ℕ} {place steps : ℕ} {at_first at_last : Bool} {old new : List ℕ}
     → Searched code line place old steps → IsPlace line place at_first at_last
-    → SpreadsOut code at_first at_last old new → (number : ℕ) → IsIn new number ↔ Entered code line number place
+    → SpreadsOut code at_first at_last old new → AreEntered code line place (IsIn new)
 entered_here s p o number = let r = reaches_exact _ p _ in (
   λ h. let f = (o.exact number).0 h in r.0 (elim ((s.came f.0).0 f.1) [
     | inl came ↦ (f.0, inl came, f.2)
@@ -48,67 +50,53 @@ entered_here s p o number = let r = reaches_exact _ p _ in (
   λ e. let f = r.1 e in (o.exact number).1 (f.0, (s.came f.0).1 (elim f.1 [ inl came ↦ inl came | inr e ↦ inr (0, sym e) ]), f.2),
 )
 
--- the set of a place has no more positions than the code
-pub few_positions : (code : List Node) (words : List ℕ) {positions : ℕ}
-    → positions ≡ positions_among code (flags_of words) → positions ≤ weight code + 1
-few_positions code words e = let m = positions_most code (flags_of words) in omega arith
+module _ {code : List Node} {line : List ℕ} {place steps positions : ℕ} {old : List ℕ} (now : List ℕ)
+    (s : Searched code line place old steps) (p : positions ≡ positions_among code (flags_of now)) where
+  -- the set of a place has no more positions than the code
+  few : positions ≤ weight code + 1
+  few = omega (arith, p, positions_most code (flags_of now))
 
--- the steps so far and those of one place more fit 128 bits
-pub search_fits : {code : List Node} {line : List ℕ} {place steps positions : ℕ} {old : List ℕ} (now : List ℕ)
-    → Searched code line place old steps
-    → positions ≡ positions_among code (flags_of now) → length code < 9223372036854775808 → place ≤ 18446744073709551616
-    → steps + positions < 340282366920938463463374607431768211456
-search_fits {code} {place} now s e few far =
-    let w = weight_length code in
-    let m = few_positions code now e in
-    let size : weight code + 1 ≤ 9223372036854775808 = omega arith in
-    let most : place * (weight code + 1) ≤ 18446744073709551616 * 9223372036854775808 = mul-le-mul far size in
-    omega arith
+  -- the steps so far and those of one place more fit 128 bits
+  pub search_fits : length code < 9223372036854775808 → place ≤ 18446744073709551616
+      → steps + positions < 340282366920938463463374607431768211456
+  search_fits short far =
+      let size : weight code + 1 ≤ 9223372036854775808 = omega (arith, weight_length code) in
+      let most : place * (weight code + 1) ≤ 18446744073709551616 * 9223372036854775808 = mul-le-mul far size in
+      omega (arith, few, s.so_far.bound)
 
-marked_here : (code : List Node) {line : List ℕ} {place : ℕ} (words : List ℕ)
-    → ((number : ℕ) → IsIn words number ↔ Entered code line number place) → (number : ℕ)
-    → IsMarked (flags_of words) number ↔ Entered code line number place
-marked_here code words here number = (λ h. (here number).0 ((flags_are _ _).0 h), λ e. (flags_are _ _).1 ((here number).1 e))
+  module _ (here : AreEntered code line place (IsIn now)) where
+    marked_here : AreEntered code line place (IsMarked (flags_of now))
+    marked_here number = (λ h. (here number).0 ((flags_are _ _).0 h), λ e. (flags_are _ _).1 ((here number).1 e))
 
--- one byte more
-pub search_more : {code : List Node} {line base : List ℕ} {place byte steps positions : ℕ} {old : List ℕ}
-    (now : List ℕ) {new : List ℕ} {found : Bool} → IsBase code base → Searched code line place old steps
-    → ((number : ℕ) → IsIn now number ↔ Entered code line number place) → place < length line
-    → byte ≡ slice_index line place → positions ≡ positions_among code (flags_of now)
-    → found ≡ false → (IsTrue found ↔ IsIn now (length code)) → length new ≡ width code
-    → ((number : ℕ)
-    → IsIn new number ↔ (((before : ℕ) × IsIn now before × Passes code byte before number) ⊎ IsIn base number))
-    → Searched code line (place + 1) new (steps + positions)
-search_more {place} now b s here h e p absent test size passed = record {
-  size = size;
-  came = λ number.
-      let one : suc place ≡ place + 1 = omega arith in
-      let c = came_exact _ here h e _ in
-      rw (← one) (
-        λ k. elim ((passed number).0 k) [ inl led ↦ inl (c.0 led) | inr based ↦ inr ((b.exact number).0 based) ],
-        λ k. elim k [ inl came ↦ (passed number).1 (inl (c.1 came)) | inr flows ↦ (passed number).1 (inr ((b.exact number).1 flows)) ],
-      );
-  so_far = rw (← p) at (counted_more _ s.so_far (marked_here _ _ here) (λ m. false≢true (sym absent ∙ test.1 ((flags_are _ _).0 m))));
-}
+    -- one byte more
+    pub search_more : {base new : List ℕ} {byte : ℕ} {found : Bool} → IsBase code base → place < length line
+        → byte ≡ slice_index line place → found ≡ false → (IsTrue found ↔ IsIn now (length code))
+        → length new ≡ width code → ((number : ℕ) → IsIn new number ↔ LedOrBase code byte base now number)
+        → Searched code line (place + 1) new (steps + positions)
+    search_more b h e absent test size passed = record {
+      size = size;
+      came = λ number.
+          let one : place + 1 ≡ suc place = omega arith in
+          let c = came_exact _ here h e _ in
+          rw one (
+            λ k. elim ((passed number).0 k) [ inl led ↦ inl (c.0 led) | inr based ↦ inr ((b.exact number).0 based) ],
+            λ k. (passed number).1 (elim k [ inl came ↦ inl (c.1 came) | inr flows ↦ inr ((b.exact number).1 flows) ]),
+          );
+      so_far = rw p (counted_more _ s.so_far marked_here (λ m. false≢true (sym absent ∙ test.1 ((flags_are _ _).0 m))));
+    }
 
--- the end is entered
-pub search_found : {code : List Node} {line : List ℕ} {place steps positions : ℕ} {old : List ℕ} (now : List ℕ)
-    → Searched code line place old steps → ((number : ℕ) → IsIn now number ↔ Entered code line number place)
-    → place < length line → positions ≡ positions_among code (flags_of now) → IsIn now (length code)
-    → IsOutcome code line (record { found = true; steps = steps + positions })
-search_found {code} now s here h p is =
-    counted_found s.so_far (omega arith) ((here (length code)).0 is) (omega arith)
-    (steps_wider _ (steps_more _ s.so_far.bound (few_positions _ _ p)) (omega arith))
+    -- the end is entered
+    pub search_found : place < length line → IsIn now (length code)
+        → IsOutcome code line (record { found = true; steps = steps + positions })
+    search_found h is = counted_found s.so_far (omega arith) ((here (length code)).0 is) (omega arith)
+        (steps_wider _ (steps_more _ s.so_far.bound few) (omega arith))
 
--- the line's end
-pub search_ends : {code : List Node} {line : List ℕ} {place steps positions : ℕ} {old : List ℕ} (now : List ℕ)
-    {found : Bool} → Searched code line place old steps
-    → ((number : ℕ) → IsIn now number ↔ Entered code line number place)
-    → place ≡ length line → positions ≡ positions_among code (flags_of now) → (IsTrue found ↔ IsIn now (length code))
-    → IsOutcome code line (record { found = found; steps = steps + positions })
-search_ends now s here e p test =
-    let f = flags_are _ _ in
-    rw (← p) at (counted_ends _ s.so_far (marked_here _ _ here) e (λ t. f.1 (test.0 t), λ m. test.1 (f.0 m)))
+    -- the line's end
+    pub search_ends : {found : Bool} → place ≡ length line → (IsTrue found ↔ IsIn now (length code))
+        → IsOutcome code line (record { found = found; steps = steps + positions })
+    search_ends e test =
+        let f = flags_are _ _ in
+        rw p (counted_ends _ s.so_far marked_here e (λ t. f.1 (test.0 t), λ m. test.1 (f.0 m)))
 
 -- A table that is built set by set and entry by entry.
 
@@ -134,12 +122,12 @@ tells_at e h = search rules
 
 next_by : (code : List Node) {byte : ℕ} {One Other : ℕ → Type 0} → ((n : ℕ) → One n → Other n) → {number : ℕ}
     → Next code byte One number → Next code byte Other number
-next_by code there h = (h.0, elim h.1 [ inl s ↦ inl (s.0, there s.0 s.1, s.2) | inr e ↦ inr e ], h.2)
+next_by code there h = search rules
 
 -- two bytes that every node treats alike lead alike
 next_alike : (code : List Node) {one other : ℕ} {Set : ℕ → Type 0} {number : ℕ} → AreAlike code one other
     → Next code one Set number → Next code other Set number
-next_alike code a n = (n.0, elim n.1 [ inl s ↦ inl (s.0, s.1, (s.2.0, s.2.1, sym (a s.0 s.2.0 s.2.1) ∙ s.2.2, s.2.3)) | inr e ↦ inr e ], n.2)
+next_alike code a n = search rules
 
 -- the entry of a byte's twin is the byte's
 pub twin_entry : {code : List Node} {most place twin read : ℕ} (d : ℕ) {building : Building}
@@ -157,9 +145,9 @@ twin_entry {code} {place} {twin} {read} d {building} f a less e = record {
 
     t : Tells code building.sets.items (place / 256) twin read
     t =
-        let here : place / 256 * 256 + twin < place = omega arith in
-        rw (← (e ∙ get_or_default building.rows.items (place / 256 * 256 + twin) d 0 (omega arith))) at (subst
-        (λ t. t) (sym (tells_at refl (omega arith))) (f.built.told.each (place / 256 * 256 + twin) here))
+        let here = f.built.told.each (place / 256 * 256 + twin) (omega arith) in
+        let l : twin < 256 = omega arith in
+        rw (e ∙ get_or_default building.rows.items (place / 256 * 256 + twin) d 0 (omega arith), tells_at refl l) here
 
 -- the sets stay, or one is added
 record Grown (code : List Node) (place : ℕ) (sets sets' : List (List Bool)) (rows : List ℕ) : Type 0 where
@@ -183,7 +171,7 @@ grown {sets} {set} b r k (inr e) = let l = length-append sets (set ∷ []) in rw
 pub set_size : {code : List Node} {sets : List (List Bool)} {state : ℕ} (words : List ℕ)
     → AreEach [] (λ _. IsOpen code) (length sets) sets → state < length sets
     → flags_of words ≡ set_at sets state → length words ≡ width code
-set_size words are h e = let l = flags_length words in let m = ap length e in let s = (are.each _ h).size in omega arith
+set_size words are h e = omega (arith, flags_length words, ap length e, (are.each _ h).size)
 
 pub led_on : {code : List Node} {most place read : ℕ} {old new : Building} (before : List ℕ) {words : List ℕ}
     → IsBuilding code most place old → place / 256 < length old.sets.items
@@ -202,10 +190,7 @@ led_on {code} {place} {old} {new} before {words} f k is size advanced l er ew = 
   where
     set : (new.sets.items ≡ old.sets.items)
         ⊎ ((new.sets.items ≡ old.sets.items ++ flags_of words ∷ []) × IsOpen code (flags_of words))
-    set = elim l.sets [
-      | inl e ↦ inl e
-      | inr e ↦ inr (e.0, record { size = flags_length _ ∙ ap (λ n. 64 * n) size; going = λ m. e.1 ((flags_are _ _).0 m) })
-    ]
+    set = elim l.sets [ inl e ↦ inl e | inr e ↦ inr (e.0, record { size = flags_length _ ∙ ap (λ n. 64 * n) size; going = λ m. e.1 ((flags_are _ _).0 m) }) ]
 
     g : Grown code place old.sets.items new.sets.items old.rows.items
     g = grown f.built f.order k set
@@ -223,8 +208,7 @@ pub building_more : {code : List Node} {most place read : ℕ} {old new : Buildi
     → IsBuilding code most (place + 1) new
 building_more {code} {place} {old} {new} l es ew er =
     let b = l.so_far.built in
-    let built : Built code (place + 1) old.sets.items new.rows.items = record { some = b.some; front = b.front; going = b.going; told = each_more b.told l.tells er } in
-    rw es (record { built = built; room = l.so_far.room; size = ap (λ w. length w.items) ew ∙ l.so_far.size; order = omega arith })
+    rw es (record { built = record { some = b.some; front = b.front; going = b.going; told = each_more b.told l.tells er }; room = l.so_far.room; size = ap (λ w. length w.items) ew ∙ l.so_far.size; order = omega arith })
 
 -- a set that a line's front has
 pub front_built : {code : List Node} (words : List ℕ) {sets : List (List Bool)} → length words ≡ width code
@@ -234,10 +218,8 @@ front_built words size exact none e = search (rules, flags_are, each_more, flags
 
 -- what a byte leads to from a set, with all that follows
 pub advanced : {code : List Node} {byte : ℕ} {base : List ℕ} (old : List ℕ) {middle new : List ℕ} → IsBase code base
-    → ((number : ℕ)
-    → IsIn middle number ↔ (((before : ℕ) × IsIn old before × Passes code byte before number) ⊎ IsIn base number))
-    → SpreadsOut code false false middle new
-    → (number : ℕ) → IsIn new number ↔ Next code byte (IsIn old) number
+    → ((number : ℕ) → IsIn middle number ↔ LedOrBase code byte base old number)
+    → SpreadsOut code false false middle new → (number : ℕ) → IsIn new number ↔ Next code byte (IsIn old) number
 advanced old b passed s number = (
   λ h. let f = (s.exact number).0 h in elim ((passed f.0).0 f.1) [
     | inl led ↦ (f.0, inl led, f.2)
@@ -260,7 +242,7 @@ alike_below code n one other {node} before is h here m bytes l at = elim (cases_
 pub alike_all : (code : List Node) {n one other : ℕ} → length code ≤ n
     → ((m : ℕ) (bytes : List Bool) → m < n → At code m (Take bytes) → has bytes one ≡ has bytes other)
     → AreAlike code one other
-alike_all code h before number bytes at = let l = at_least code number (Take bytes) at in before number bytes (omega arith) at
+alike_all code h before number bytes at = before number bytes (omega (arith, at_least code number (Take bytes) at)) at
 
 -- what was seen of a set is so
 pub state_is : {code : List Node} {sets : List (List Bool)} {rows : List ℕ} {number : ℕ} {now last : List ℕ}

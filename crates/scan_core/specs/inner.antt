@@ -1,4 +1,5 @@
 pub mod Backwards
+pub mod Branches
 pub mod Built
 pub mod Closing
 pub mod Closures
@@ -9,5 +10,4 @@ pub mod Needles
 pub mod Sets
 pub mod Shifts
 pub mod Table
-pub mod Ways
 pub mod Words

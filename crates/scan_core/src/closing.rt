@@ -3,7 +3,7 @@
 
 ghost use Rattle.std.specs.Prelude.{◌≡◌, ℕ, false, IsFalse, IsTrue, length};
 ghost use Rattle.scan_core.specs.inner.{
-  Closing.{Follows, HasLanded, IsApart, Passes},
+  Closing.{Follows, HasLanded, IsApart, FollowsHops},
   Closures.{AreClosures, IsPlain},
   Hops.{AreLandings, IsHop},
   Sets.{IsCode, Flows},
@@ -60,7 +60,7 @@ fn follow_all(words: &mut [u64], nodes: &[Node], closures: &Closures) -> u64
     requires closures { AreClosures nodes.now closures.now }
     requires begun { (number : ℕ) → IsIn closures.now.base.items number → IsIn words.old number }
     requires apart { IsApart nodes.now closures.now.hops words.old }
-    ensures { Passes nodes.now closures.now words.old words.new result }
+    ensures { FollowsHops nodes.now closures.now words.old words.new result }
 {
     let mut over = 0;
     for place in 0..closures.hops.onward.len() {

@@ -12,9 +12,9 @@ ghost use Rattle.scan_core.specs.inner.{
   Words.width,
 };
 
+use crate::branch::{branch_of, is_open};
 use crate::hops::{Hops, hops_of, is_within};
 use crate::node::Node;
-use crate::way::{is_open, way_of};
 use crate::worklist::begun_of;
 use bre_core::BreFault;
 use std::alloc::Global;
@@ -102,11 +102,11 @@ fn targets(nodes: &[Node], at: usize, bit: usize) -> u64
     requires at { at < width nodes.now }
     ensures { (to : ℕ) → to < 64 → (bit_at result to ≡ 1) ↔ Flows nodes.now false false (at * 64 + bit) (at * 64 + to) }
 {
-    let way = way_of(nodes, at * 64 + bit);
-    if !is_open(way.when, false, false) {
+    let branch = branch_of(nodes, at * 64 + bit);
+    if !is_open(branch.when, false, false) {
         return 0;
     }
-    bit_in(at, way.one) | bit_in(at, way.other)
+    bit_in(at, branch.one) | bit_in(at, branch.other)
 }
 
 /// What some numbers of a word lead to in it, without a byte.

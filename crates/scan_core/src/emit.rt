@@ -5,7 +5,7 @@ ghost use Rattle.bre_core.specs.declared.fault.BreFault.TheVariants.{Memory};
 ghost use Rattle.scan_core.specs.{
   declared.node.Node.{Node, TheVariants.{Choose, Back}},
   Code.{copies, starred, up_to},
-  inner.Backwards.{stretch, IsBegun, Repeats},
+  inner.Backwards.{stretch, HasBegun, Repeats},
 };
 
 use crate::node::Node;
@@ -68,7 +68,7 @@ fn copy_times(nodes: &mut Vec<Node>, from: usize, size: usize, count: u8) -> Res
 
 /// Writes the item of a duplication out as often as the duplication asks for: its nodes stand last, and some are there.
 pub fn write_out(nodes: &mut Vec<Node>, duplication: Duplication) -> Result<(), BreFault>
-    requires { IsBegun duplication.high duplication.low duplication.start (length nodes.old.items) }
+    requires { HasBegun duplication.high duplication.low duplication.start (length nodes.old.items) }
     ensures ok { OnOk result (Repeats duplication nodes.old.items nodes.new.items) }
     ensures more { OnOk result (length nodes.old.items ≤ length nodes.new.items) }
     ensures err { IfErr result (λ fault. fault ≡ Memory) }

@@ -11,8 +11,8 @@ ghost use Rattle.scan_core.specs.{
   inner.{Hops.{AreHops, AreParted, HopsTo, Meets}, Sets.{IsCode, Flows}, Words.{IsIn, width}},
 };
 
+use crate::branch::{branch_of, is_open};
 use crate::node::Node;
-use crate::way::{is_open, way_of};
 use crate::words::has;
 use bre_core::BreFault;
 use std::alloc::Global;
@@ -43,14 +43,14 @@ fn leads_to(nodes: &[Node], number: usize, to: usize) -> bool
     requires { IsCode nodes.now }
     ensures { IsTrue result ↔ Flows nodes.now false false number to }
 {
-    let way = way_of(nodes, number);
-    if !is_open(way.when, false, false) {
+    let branch = branch_of(nodes, number);
+    if !is_open(branch.when, false, false) {
         return false;
     }
-    if to == way.one {
+    if to == branch.one {
         return true;
     }
-    to == way.other
+    to == branch.other
 }
 
 /// The numbers of a word that lead to a number.
@@ -141,12 +141,12 @@ fn add_hops(
         → Meets base.now hops.new.items (number / 64) to) }
     ensures err { IfErr result (λ fault. fault ≡ Memory) }
 {
-    let way = way_of(nodes, number);
-    if !is_open(way.when, false, false) {
+    let branch = branch_of(nodes, number);
+    if !is_open(branch.when, false, false) {
         return Ok(());
     }
-    add_hop(hops, nodes, base, start, number / 64, way.one)?;
-    add_hop(hops, nodes, base, start, number / 64, way.other)
+    add_hop(hops, nodes, base, start, number / 64, branch.one)?;
+    add_hop(hops, nodes, base, start, number / 64, branch.other)
 }
 
 /// All hops of a code, word by word. `base` is what is in each set.
@@ -175,14 +175,14 @@ pub fn is_within(nodes: &[Node], words: &[u64], number: usize) -> bool
     requires size { length words.now ≡ width nodes.now }
     ensures { IsTrue result → (to : ℕ) → Flows nodes.now false false number to → IsIn words.now to }
 {
-    let way = way_of(nodes, number);
-    if !is_open(way.when, false, false) {
+    let branch = branch_of(nodes, number);
+    if !is_open(branch.when, false, false) {
         return true;
     }
-    if !has(words, way.one) {
+    if !has(words, branch.one) {
         return false;
     }
-    has(words, way.other)
+    has(words, branch.other)
 }
 
 /// The hops of a code, in two parts, each word by word. `base` is what is in each set.

@@ -6,6 +6,7 @@
 //! end is entered exactly where the line contains a match, and that its positions are the pattern's, are laws.
 #![tactic(auto)]
 
+mod branch;
 mod bre;
 mod build;
 mod closing;
@@ -25,7 +26,6 @@ mod shift_table;
 mod shift_walk;
 mod table;
 mod walk;
-mod way;
 mod words;
 mod worklist;
 

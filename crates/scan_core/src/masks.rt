@@ -4,7 +4,7 @@ ghost use Rattle.std.specs.Prelude.{◌≡◌, ◌↔◌, ◌<◌, ◌+◌, ℕ,
 ghost use Rattle.bre_core.specs.declared.fault.BreFault.TheVariants.{Memory};
 ghost use Rattle.scan_core.specs.{
   declared.masks.Kind.TheVariants.Counts,
-  inner.{Sets.Passes, Words.{IsMask, IsMasks, IsOf, width}},
+  inner.{Sets.StepsBy, Words.{IsMask, IsMasks, IsOf, width}},
 };
 
 use crate::node::Node;
@@ -31,8 +31,8 @@ pub struct Masks {
 
 /// Whether a byte leads on from a number.
 fn passes(nodes: &[Node], number: usize, byte: u8) -> bool
-    ensures yes { IsTrue result → Passes nodes.now byte number (number + 1) }
-    ensures no { (to : ℕ) → Passes nodes.now byte number to → IsTrue result }
+    ensures yes { IsTrue result → StepsBy nodes.now byte number (number + 1) }
+    ensures no { (to : ℕ) → StepsBy nodes.now byte number to → IsTrue result }
 {
     if number < nodes.len() {
         match &nodes[number] {

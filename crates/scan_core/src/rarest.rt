@@ -8,10 +8,10 @@ ghost use Rattle.scan_core.specs.{
   inner.{Needles.{IsLiteral, IsNeedle, IsPassed, IsRarest, TakesOnly}, Sets.IsCode},
 };
 
+use crate::branch::branch_of;
 use crate::few_bytes::{COMMON, FewBytes};
 use crate::needle::Needle;
 use crate::node::Node;
-use crate::way::way_of;
 use bre_core::BreFault;
 use memchr::memmem::Finder;
 use std::alloc::Global;
@@ -74,8 +74,8 @@ impl Rarest {
         ensures low { self.far ≤ result }
         ensures choice { (skip : ℕ) → At nodes.now at (Choose skip) → at + skip ≤ result }
     {
-        let way = way_of(nodes, at);
-        self.far.max(way.one).max(way.other)
+        let branch = branch_of(nodes, at);
+        self.far.max(branch.one).max(branch.other)
     }
 
     /// With the node at a number.

@@ -3,12 +3,12 @@
 ghost use Rattle.std.specs.Prelude.{◌≡◌, ◌⊎◌, ◌↔◌, ◌<◌, ◌*◌, ℕ, IsTrue, length};
 ghost use Rattle.scan_core.specs.{
   declared.masks.Kind.TheVariants.Counts,
-  inner.{Each.AreEach, Sets.{IsCode, Flows, Passes}, Words.{AreTakes, Grows, IsIn, IsMask, flags_of, width}},
+  inner.{Each.AreEach, Sets.{IsCode, Flows, StepsBy}, Words.{AreTakes, Grows, IsIn, IsMask, flags_of, width}},
   Sets.positions_among,
 };
 
+use crate::branch::{branch_of, is_open};
 use crate::node::Node;
-use crate::way::{is_open, way_of};
 
 /// Whether a number is in a set.
 #[tactic(auto, using(crate::proofs::Insides::has_tests))]
@@ -47,12 +47,12 @@ pub fn lead(
     requires room { length nodes.now < 64 * length words.old }
     ensures { Grows (Flows nodes.now at_first at_last number) words.old words.new on result }
 {
-    let way = way_of(nodes, number);
-    if !is_open(way.when, at_first, at_last) {
+    let branch = branch_of(nodes, number);
+    if !is_open(branch.when, at_first, at_last) {
         return on;
     }
-    let on = enter(words, way.one, on);
-    enter(words, way.other, on)
+    let on = enter(words, branch.one, on);
+    enter(words, branch.other, on)
 }
 
 /// Takes all out.
@@ -75,7 +75,7 @@ pub fn pass(words: &mut [u64], nodes: &[Node], base: &[u64], takes: &[u64], byte
     ensures size { length words.new ≡ length words.old }
     ensures exact { (number : ℕ)
         → IsIn words.new number
-        ↔ (((before : ℕ) × IsIn words.old before × Passes nodes.now byte before number) ⊎ IsIn base.now number) }
+        ↔ (((before : ℕ) × IsIn words.old before × StepsBy nodes.now byte before number) ⊎ IsIn base.now number) }
 {
     let from = byte as usize * words.len();
     let mut carry: u64 = 0;

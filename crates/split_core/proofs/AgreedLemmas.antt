@@ -18,11 +18,10 @@ use Rattle.ports_core.proofs.{AgreedLemmas.{none_comes, agreed_now, beginning_sh
 use Rattle.split_core.specs.{
   Parts.{after_first, cut_up, unless_empty, parts, settled_rest, waiting_rest},
   inner.CutLaws.named,
-  Split.{Filing, Plan, Share, share, are_named, output_by, settled_parts, split_work, dealt_files},
-  Split.bytes_in,
+  Split.{Filing, Plan, Share, share, are_named, output_by, settled_parts, split_work, dealt_files, bytes_in},
   PartsState.parts_work,
   Round.{round_plan, round_work},
-  laws.{CutLaws.{rest_short}, ShareLaws.{cut_first, parts_on, settled_count}, WorkLaws.{parts_lawful, round_lawful}},
+  laws.{CutLaws.rest_short, ShareLaws.{cut_first, parts_on, settled_count}, WorkLaws.{parts_lawful, round_lawful}},
 }
 use Rattle.split_core.proofs.{SectionLemmas.{settled_list, settled_bytes, list_all}, CutLaws.{bytes_of_shares}}
 use Rattle.seg_core.specs.declared.cut.Cut.TheVariants as cut

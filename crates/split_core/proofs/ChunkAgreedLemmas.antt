@@ -217,10 +217,10 @@ AreFiles elide chunks said x place = (y : List ℕ) × (z : List ℕ) × CanFoll
     → IsBeginning front (get_or (files_by elide (in_the_end chunks said (x ++ z))) place [])
     → length front ≤ length (get_or (files_by elide (decided chunks 1 said x)) place []))
 
-grown : (elide : Bool) {chunks : Chunks} {said : Option ℕ} {x r : List ℕ} (place : ℕ) → Grows chunks said x r
+file_grows : (elide : Bool) {chunks : Chunks} {said : Option ℕ} {x r : List ℕ} (place : ℕ) → Grows chunks said x r
     → length (get_or (kept elide (decided chunks 1 said x).full ++ unless_empty r) place [])
     ≤ length (get_or (files_by elide (decided chunks 1 said x)) place []) → AreFiles elide chunks said x place
-grown elide {chunks} {said} {x} {r} place on enough = let one = on 0 (omega arith) in let two = on 1 (omega arith) in (
+file_grows elide {chunks} {said} {x} {r} place on enough = let one = on 0 (omega arith) in let two = on 1 (omega arith) in (
   one.y,
   two.y,
   one.comes,
@@ -235,9 +235,9 @@ grown elide {chunks} {said} {x} {r} place on enough = let one = on 0 (omega arit
 files_longest : (elide : Bool) (chunks : Chunks) (said : Option ℕ) (x : List ℕ) (place : ℕ) → 0 < chunks.count
     → is_longer said x ≡ false → AreFiles elide chunks said x place
 files_longest elide chunks None [] place some fits =
-    grown elide place (none_grows chunks [] some) (rw (none_kept elide) (omega arith))
+    file_grows elide place (none_grows chunks [] some) (rw (none_kept elide) (omega arith))
 files_longest elide chunks None (byte ∷ x) (suc place) some fits =
-    grown elide (suc place) (none_grows chunks (byte ∷ x) some) (rw (none_kept elide) (omega arith))
+    file_grows elide (suc place) (none_grows chunks (byte ∷ x) some) (rw (none_kept elide) (omega arith))
 files_longest elide chunks None (byte ∷ x) zero some fits =
     let file = first_file elide chunks (byte ∷ x) some (omega arith) in
     let r = before_chunk chunks (length (byte ∷ x)) 1 (byte ∷ x) in (
@@ -248,7 +248,7 @@ files_longest elide chunks None (byte ∷ x) zero some fits =
       rw (append-nil x, file.1, none_kept elide, first_made r) (λ front first second. beginning_short front r first),
     )
 files_longest elide chunks (Some size) x place some fits = elim (cases_lt (length x) size) [
-  | inl short ↦ grown elide place (said_grows chunks x some short) (omega arith)
+  | inl short ↦ file_grows elide place (said_grows chunks x some short) (omega arith)
   | inr full ↦ (
       let comes : CanFollow (Some size) x [] =
       (none_comes, eq-eqb _ _ (omega (arith, ltb-false, length-append x []))) in

@@ -1,8 +1,7 @@
 -- Lemmas on what stands before one chunk alone: which bytes these are is no matter.
 use Rattle.std.proofs.{
   Common.{◌≡◌, ℕ, ◌+◌, ◌-◌, ◌<◌, ◌≤◌, max, nat_le, false, List, [], ◌++◌, length, take, get_or, Some, refl, sym},
-  Common.◌∙◌,
-  Common.{ap, arith},
+  Common.{◌∙◌, ap, arith},
   lemmas.{Grind.common_steps, Bool.cases_lt},
   Math.Seq.{drop-append-add, take-append-add},
 }

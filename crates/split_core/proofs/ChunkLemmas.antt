@@ -6,9 +6,8 @@ use Rattle.std.{
       List.{drop-take, length-append, length-drop, length-take, take_all, take-append-drop},
       List.FromFn.{get_or-map-range_with_len, length-map-range_with_len, take-map-range_with_len},
     },
-    Common.{◌≡◌, ℕ, ◌+◌, ◌-◌, ◌<◌, ◌≤◌, zero, suc, true, false, List, [], ◌∷◌, ◌++◌, length},
-    Common.take,
-    Common.{drop, map, get_or, Option, refl, ◌∙◌, arith},
+    Common.{◌≡◌, ℕ, ◌+◌, ◌-◌, ◌<◌, ◌≤◌, zero, suc, true, false, List, [], ◌∷◌, ◌++◌, length, take, drop, map},
+    Common.{get_or, Option, refl, ◌∙◌, arith},
   },
   specs.List.{flat_map, range_with_len},
 }

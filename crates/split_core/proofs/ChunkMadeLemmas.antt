@@ -28,9 +28,8 @@ use Rattle.split_core.specs.{
   ChunkAgreed.{AreMade, CanFollow, TwoDiffer},
   ChunkWork.{ChunksPlan, chunk_work, chunks_settled, chunks_whole, chunks_work, files_by, kept},
   laws.{
-    ChunkWorkLaws.{chunks_go_on, kept-append},
+    ChunkWorkLaws.{chunks_go_on, kept-append, chunk_lawful},
     ChunkLaws.{all_joined, ended_all, has_ended_before, rest_none},
-    ChunkWorkLaws.chunk_lawful,
   },
 }
 use Rattle.split_core.proofs.{

@@ -7,8 +7,7 @@ use Rattle.std.proofs.{
     List.{append-nil, drop_all, take_at, take-append-drop, length-append, length-drop, length-take},
   },
   Common.{◌≡◌, ℕ, ◌+◌, ◌-◌, ◌<◌, ◌≤◌, min, Bool, true, false, eqb, nat_lt, List, [], ◌++◌, ◌⊎◌, length, take},
-  Common.drop,
-  Common.{Option, Some, None, Ok, Err, inl, inr, refl, sym, ◌∙◌, ap, arith, append_assoc},
+  Common.{drop, Option, Some, None, Ok, Err, inl, inr, refl, sym, ◌∙◌, ap, arith, append_assoc},
 }
 use Rattle.ports_core.{
   specs.{
@@ -23,13 +22,13 @@ use Rattle.ports_core.{
 use Rattle.seg_core.specs.declared.cut.Chunks.{Chunks}
 use Rattle.split_core.specs.{
   Chunks.{chunks_within, ended, has_ended},
-  ChunkerState.{ChunkerState, Course, CutterState, Holds, IsAimed, IsSaid, TargetState, can_cut},
+  ChunkerState.{ChunkerState, Course, CutterState, Holds, IsAimed, IsSaid, SinkState, can_cut},
   ChunkerState.{course, course_of, in_files, in_output, part_on, whole_on, work, work_on, total},
   inner.{
     Chunker.{Comes, EndsAs, IsLike, PassesAs},
-    Cutter.{Cuts, CutsAs, IsCut, part_so, said_work},
+    Cutter.{CutsMore, CutsAs, IsCut, part_so, said_work},
     Seen.{is_each_on, is_past_at, is_past_on},
-    Sends.{Brings, EndsAll},
+    Brings.{Brings, EndsAll},
   },
   Parts.CutUp,
   laws.{
@@ -41,7 +40,7 @@ use Rattle.split_core.specs.{
 use Rattle.split_core.proofs.{
   ChunkerWays.{ends_at, ends_changed, passes_at, passes_changed},
   CutterLemmas.{placed_at},
-  TargetLemmas.brings_wider,
+  SinkLemmas.brings_wider,
 }
 
 -- What is made
@@ -65,7 +64,7 @@ past_at chunks size place (in_files filing elide) x can fits is = sym (le-ltb _ 
 past_at chunks size place (in_output chunk) x can fits is = grind (arith, common_steps, cases_lt, lt-ltb, has_ended_before, le-ltb, ended_after, ltb-true)
 
 pub past_is : {cutter : CutterState} {size : ℕ} {x : List ℕ} → IsCut cutter size x
-    → is_past_on cutter.target ≡ (said_work cutter size).is_complete x
+    → is_past_on cutter.sink ≡ (said_work cutter size).is_complete x
 past_is {cutter} {size} {x} is = past_at _ _ _ _ x is.cut.can is.fits (placed_at is)
 
 -- and where a text has its size
@@ -205,10 +204,10 @@ said_is {chunker} {size} {x} said is = grind (arith, common_steps)
 
 module _ {chunker : ChunkerState} {size : ℕ} where
   cut_brings : {next : CutterState} {bytes : List ℕ} {told : Bool} {old new : List Slot} {fault : Option Fault}
-      → Cuts told chunker.cutter size bytes old new next fault
+      → CutsMore told chunker.cutter size bytes old new next fault
       → (chunker.cutter.at ≤ size → chunker.cutter.at + length bytes ≤ size) → {x : List ℕ}
       → (has : IsSaid chunker size x)
-      → Brings told (course chunker.cutter) chunker.cutter.target.aim next.target.aim
+      → Brings told (course chunker.cutter) chunker.cutter.sink.aim next.sink.aim
       ((said_work chunker.cutter size).settled x)
       (part_so chunker.cutter size (has.spare.used ++ bytes)) old new fault
   cut_brings {bytes = bytes} cuts fits has = rw (part_is has) at (cuts.brings has.spare.used (cut_is has)
@@ -251,7 +250,7 @@ module _ {chunker : ChunkerState} {next : CutterState} {size : ℕ} (piece : Lis
       (λ x holds. said_is said (said_on takes ok (is_said said holds) after is))
 
   pub passes_not : {why : Fault}
-      → Cuts told chunker.cutter size (take (min (length piece) (size - chunker.cutter.at)) piece) old new next
+      → CutsMore told chunker.cutter size (take (min (length piece) (size - chunker.cutter.at)) piece) old new next
       (Some why) → PassesAs told chunker piece old new (record chunker { cutter = next }) (Err why)
   passes_not {why} cuts = let n = min (length piece) (size - chunker.cutter.at) in
       let fits : chunker.cutter.at ≤ size → chunker.cutter.at + length (take n piece) ≤ size =
@@ -306,7 +305,7 @@ module _ (chunker : ChunkerState) {next : CutterState} {size : ℕ} (piece : Lis
   full = elim takes.enough [
     | inl none ↦ absurd (omega (arith, none, some))
     | inr later ↦ elim later [
-      | inl closed ↦ absurd (false≢true (sym (never_past (course next) next.target.place each) ∙ closed))
+      | inl closed ↦ absurd (false≢true (sym (never_past (course next) next.sink.place each) ∙ closed))
       | inr enough ↦ enough
     ]
   ]
@@ -399,7 +398,7 @@ ends_badly (in_output chunk) chunks size x short open_still = rw (open_still, sh
 
 module _ {chunker next : ChunkerState} {size : ℕ} {told : Bool} {old new : List Slot} (said : chunker.said ≡ Some size)
     (same : IsLike chunker next) (bound : total next ≤ total chunker) where
-  end_comes : (fault : Option Fault) → EndsAll told chunker.cutter.target old new next.cutter.target fault
+  end_comes : (fault : Option Fault) → EndsAll told chunker.cutter.sink old new next.cutter.sink fault
       → Comes told chunker (work chunker).whole old new next fault
   end_comes fault ends = record {
     stays = ends.stays;
@@ -407,14 +406,14 @@ module _ {chunker next : ChunkerState} {size : ℕ} {told : Bool} {old new : Lis
         rw said (rw (part_is has, whole_said has) at (ends.brings _ has.cut.carries));
   }
 
-  pub said_stops : {why : Fault} → IsAimed chunker.cutter.target.aim old
-      → EndsAll told chunker.cutter.target old new next.cutter.target (Some why) → IsWrite why
+  pub said_stops : {why : Fault} → IsAimed chunker.cutter.sink.aim old
+      → EndsAll told chunker.cutter.sink old new next.cutter.sink (Some why) → IsWrite why
       → EndsAs told chunker old new next (Err why)
   said_stops {why} aimed ends broke = ends_at (Err why) aimed same bound (end_comes (Some why) ends) (λ x holds. tt) (λ some. broke)
 
-  pub said_ends : IsAimed chunker.cutter.target.aim old
-      → EndsAll told chunker.cutter.target old new next.cutter.target None
-      → (is_past_on chunker.cutter.target ≡ true) ⊎ (size ≤ chunker.cutter.at)
+  pub said_ends : IsAimed chunker.cutter.sink.aim old
+      → EndsAll told chunker.cutter.sink old new next.cutter.sink None
+      → (is_past_on chunker.cutter.sink ≡ true) ⊎ (size ≤ chunker.cutter.at)
       → EndsAs told chunker old new next (Ok tt)
   said_ends aimed ends full = ends_at (Ok tt) aimed same bound (end_comes None ends)
       (λ x holds. let has = is_said said holds in rw said
@@ -423,8 +422,8 @@ module _ {chunker next : ChunkerState} {size : ℕ} {told : Bool} {old new : Lis
         | inr all ↦ inr (omega arith)
       ]))) (λ some. tt)
 
-  pub said_changed : EndsAll told chunker.cutter.target old new next.cutter.target None
-      → is_past_on chunker.cutter.target ≡ false → chunker.cutter.at < size
+  pub said_changed : EndsAll told chunker.cutter.sink old new next.cutter.sink None
+      → is_past_on chunker.cutter.sink ≡ false → chunker.cutter.at < size
       → EndsAs told chunker old new next (Err (Verdict Changed))
   said_changed ends going short = ends_changed same bound (end_comes None ends) (λ x holds. let has = is_said said holds in
       let open_still = sym (past_is (cut_is has)) ∙ going in
@@ -435,6 +434,6 @@ module _ {chunker next : ChunkerState} {size : ℕ} {told : Bool} {old new : Lis
       rw (said, all) (ends_badly (course chunker.cutter) chunker.cutter.chunks size has.spare.used
       (omega arith) open_still))
 
-pub past_same : (one two : TargetState) → course_of two.aim ≡ course_of one.aim → two.place ≡ one.place
+pub past_same : (one two : SinkState) → course_of two.aim ≡ course_of one.aim → two.place ≡ one.place
     → is_past_on two ≡ is_past_on one
 past_same one two same place = rw (same, place) refl

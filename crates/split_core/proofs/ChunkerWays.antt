@@ -2,17 +2,16 @@
 use Rattle.std.proofs.Common.{rules}
 use Rattle.std.{
   specs.Option.is_none,
-  proofs.lemmas.{Grind.common_steps},
+  proofs.lemmas.Grind.common_steps,
   proofs.Common.{◌≡◌, ℕ, ◌+◌, ◌≤◌, Bool, true, false, IsTrue, List, ◌++◌, length, Option, Some, None, Result, Ok},
-  proofs.Common.Err,
-  proofs.Common.{IfNone, IfSome, refl, sym, ap, subst, arith},
+  proofs.Common.{Err, IfNone, IfSome, refl, sym, ap, subst, arith},
 }
 use Rattle.ports_core.specs.{
   Engine.{IsMet, StandsAt},
   FileWriter.{Breaks, IsWrite},
   Part.{Part, gets_bytes, writes},
   Slot.{Slot, is_writable},
-  Turn.fault_in,
+  InTurn.fault_in,
   Work.{IsSettled, IsSpare, Judges, Means, Needs, Work, on_output},
   declared.{
     fault.Fault.{Fault, TheVariants.{Memory, Verdict, Write}},
@@ -26,7 +25,7 @@ use Rattle.split_core.specs.{
   ChunkerState.{AimState, ChunkerState, Course, Holds, HoldsBy, IsAimed, course, course_of},
   ChunkerState.{to_files, to_output, in_files, in_output, total, work, work_on},
   Split.{manner_of},
-  inner.{Chunker.{Comes, EndsAs, IsLike, PassesAs}, Sends.{AtAim, IsOf, manner_on, output_on}},
+  inner.{Chunker.{Comes, EndsAs, IsLike, PassesAs}, Brings.{AtAim, IsOf, manner_on, output_on}},
 }
 use Rattle.split_core.proofs.{PartsLemmas.{met_files, unjudged}, WayLemmas.passes_lacking}
 use Rattle.ports_core.specs.Engine as engine
@@ -91,7 +90,7 @@ module _ (chunks : Chunks) (Why : Judgement → Type 0) (old new : List Slot) (f
 
 at_aim : {told : Bool} {state : ChunkerState} {start : List Slot} {x : List ℕ} {now : List Slot}
     → StandsAt ways.terms (way.Chunks state) told start x now
-    → AtAim told state.cutter.target.aim start ((work state).settled x) now
+    → AtAim told state.cutter.sink.aim start ((work state).settled x) now
 at_aim at = grind (arith, common_steps)
 
 -- How a call leaves the outputs that were to come to what is due.
@@ -172,7 +171,7 @@ aimed_writable (to_files writer elide) chunks said slots aimed told = search rul
 aimed_writable (to_output chunk) chunks said slots aimed told = aimed
 
 module _ {told : Bool} {old new : ChunkerState} {before after : List Slot} where
-  pub ends_at : (result : Result (Unit {0}) Fault) → IsAimed old.cutter.target.aim before → IsLike old new
+  pub ends_at : (result : Result (Unit {0}) Fault) → IsAimed old.cutter.sink.aim before → IsLike old new
       → total new ≤ total old → Comes told old (work old).whole before after new (fault_in result)
       → ((x : List ℕ) → Holds old x → IfNone (fault_in result) ((work old).verdict x ≡ None))
       → (is_none old.said ≡ false → IfSome (fault_in result) IsWrite) → EndsAs told old before after new result
@@ -181,7 +180,7 @@ module _ {told : Bool} {old new : ChunkerState} {before after : List Slot} where
     size = bound;
     well = well;
     outputs = went_out new comes;
-    writable = λ told_is. comes.stays.output (aimed_writable old.cutter.target.aim old.cutter.chunks old.said before aimed told_is);
+    writable = λ told_is. comes.stays.output (aimed_writable old.cutter.sink.aim old.cutter.chunks old.said before aimed told_is);
     owns = comes.stays.owns;
     there = λ are. tt;
     cut = tt;

@@ -7,8 +7,7 @@ use Rattle.std.proofs.{
   lemmas.List.FromFn.length-map-range_with_len,
   Math.Seq.take-add,
   Common.{◌≡◌, ℕ, ◌+◌, ◌-◌, ◌<◌, ◌≤◌, min, zero, suc, Bool, true, false, cond, nat_lt, List, [], ◌∷◌, ◌++◌},
-  Common.◌⊎◌,
-  Common.{length, take, drop, replicate, Option, Some, None, Ok, inl, inr, refl, sym, ◌∙◌, ap, subst, arith},
+  Common.{◌⊎◌, length, take, drop, replicate, Option, Some, None, Ok, inl, inr, refl, sym, ◌∙◌, ap, subst, arith},
   Common.append_assoc,
 }
 use Rattle.ports_core.{
@@ -29,17 +28,16 @@ use Rattle.seg_core.{
   proofs.FirstLines.{delimiters-first_lines, first_lines-is_take, lines_of-first_lines},
 }
 use Rattle.split_core.specs.{
-  Chunks.{before_chunk, begun_before, chunk_start, chunks_of, chunks_within, ended, is_within, open_from},
-  Chunks.{passed},
-  ChunkWork.{draft_by},
-  ChunkerState.{Carries, Course, CutterState, HasAll, HasCut, IsAimed, can_cut},
-  ChunkerState.{part_on, work_on, TargetState, course, in_files, in_output},
+  Chunks.{before_chunk, begun_before, chunk_start, chunks_of, chunks_within, ended, is_within, open_from, passed},
+  ChunkWork.draft_by,
+  ChunkerState.{Carries, Course, CutterState, HasAll, HasCut, IsAimed, can_cut, part_on, work_on, SinkState, course},
+  ChunkerState.{in_files, in_output},
   Parts.CutUp,
   Split.manner_of,
-  inner.Cutter.{Cuts, CutsAs, EndsFull, IsCut, IsCutOff, IsOpen, Steps, WritesTo, cut_to, said_work},
+  inner.Cutter.{CutsMore, CutsAs, EndsFull, IsCut, IsCutOff, IsOpen, CutsStretch, WritesTo, cut_to, said_work},
   inner.Chunks.GoesOn as Goes,
   inner.Seen.{is_past_at, is_past_on},
-  inner.Sends.{Changes, Gives, HasName, Stays, with_full, with_fulls, with_rest},
+  inner.Brings.{Changes, Gives, HasName, Stays, with_full, with_fulls, with_rest},
   laws.BegunLaws.{begun_begins, begun_long, begun_some, begun_stays, begun_within, open_append, open_within},
   laws.ChunkLaws.{ended_grows, ended_is, ended_only, ends_here, goes_on, passed_full, passed_open, piece_all},
   laws.ChunkLaws.{start_grows, start_past, start_within},
@@ -47,8 +45,8 @@ use Rattle.split_core.specs.{
   laws.ShareLaws.part_begins,
 }
 use Rattle.split_core.proofs.{
-  TargetLemmas.{brings_none, brings_then, brings_wider, ends_begin, ends_full, gives_then, piece_full, stays_none},
-  TargetLemmas.stays_then,
+  SinkLemmas.{brings_none, brings_then, brings_wider, ends_begin, ends_full, gives_then, piece_full, stays_none},
+  SinkLemmas.stays_then,
 }
 
 -- The lines that begin before a place
@@ -126,7 +124,7 @@ passed_all : (chunks : Chunks) (size : ℕ) (x : List ℕ) → length x ≤ size
     → (is_within chunks.unit chunks.delim x ≡ true → size ≤ length x) → passed chunks size x ≡ length x
 passed_all chunks size x fits whole = grind (arith, common_steps, cases_lt, passed_open, passed_full, no_line)
 
-pub ends_open : {told : Bool} {cutter : CutterState} {size : ℕ} {slots : List Slot} → IsAimed cutter.target.aim slots
+pub ends_open : {told : Bool} {cutter : CutterState} {size : ℕ} {slots : List Slot} → IsAimed cutter.sink.aim slots
     → cutter.is_within ≡ true → cutter.at < size → EndsFull told cutter size slots slots cutter None
 ends_open {told} {cutter} {size} {slots} ready within short = record {
   chunks = refl;
@@ -137,7 +135,7 @@ ends_open {told} {cutter} {size} {slots} ready within short = record {
       let less : length x < size = omega arith in
       let line = sym so.within ∙ within in
       let is = still_ended _ _ _ _ less (so.begun line less) line so.from in
-      let e : ended cutter.chunks size x - cutter.target.place ≡ 0 = omega arith in
+      let e : ended cutter.chunks size x - cutter.sink.place ≡ 0 = omega arith in
       rw e (record { brings = brings_none; carries = so.carries });
 }
 
@@ -149,14 +147,14 @@ pub record Ending (told : Bool) (cutter : CutterState) (size : ℕ) (old slots :
   pub chunks : now.chunks ≡ cutter.chunks
   pub at : now.at ≡ cutter.at
   pub within : now.is_within ≡ cutter.is_within
-  pub from : cutter.target.place ≤ now.target.place
-  pub stays : Stays (course cutter) cutter.target.aim now.target.aim old slots None
+  pub from : cutter.sink.place ≤ now.sink.place
+  pub stays : Stays (course cutter) cutter.sink.aim now.sink.aim old slots None
   pub gives : (x : List ℕ) (cut : CutUp) → IsCutOff cutter size x cut
-      → Gives told (course cutter) cutter.target now.target cut
-      (with_fulls (now.target.place - cutter.target.place) cut) old slots None
-  pub low : (x : List ℕ) (cut : CutUp) → IsCutOff cutter size x cut → now.target.place ≤ ended cutter.chunks size x
+      → Gives told (course cutter) cutter.sink now.sink cut
+      (with_fulls (now.sink.place - cutter.sink.place) cut) old slots None
+  pub low : (x : List ℕ) (cut : CutUp) → IsCutOff cutter size x cut → now.sink.place ≤ ended cutter.chunks size x
 
-pub ends_none : {told : Bool} {cutter : CutterState} {size : ℕ} {slots : List Slot} → IsAimed cutter.target.aim slots
+pub ends_none : {told : Bool} {cutter : CutterState} {size : ℕ} {slots : List Slot} → IsAimed cutter.sink.aim slots
     → Ending told cutter size slots slots cutter
 ends_none {told} {cutter} {size} {slots} ready = record {
   chunks = refl;
@@ -164,7 +162,7 @@ ends_none {told} {cutter} {size} {slots} ready = record {
   within = refl;
   from = omega arith;
   stays = stays_none ready;
-  gives = λ x cut so. let e : cutter.target.place - cutter.target.place ≡ 0 = omega arith in
+  gives = λ x cut so. let e : cutter.sink.place - cutter.sink.place ≡ 0 = omega arith in
       rw e (record { brings = brings_none; carries = so.carries });
   low = λ x cut so. so.from;
 }
@@ -191,55 +189,55 @@ passed_at {cutter} {size} {x} whole so = grind (arith, common_steps, passed_all)
 
 module _ {told : Bool} {cutter now : CutterState} {size : ℕ} {old slots : List Slot}
     (whole : cutter.is_within ≡ true → size ≤ cutter.at) (so_far : Ending told cutter size old slots now)
-    (less : now.target.place < now.chunks.count)
-    (ends : chunk_start now.chunks.count size (now.target.place + 1) ≤ now.at) where
+    (less : now.sink.place < now.chunks.count)
+    (ends : chunk_start now.chunks.count size (now.sink.place + 1) ≤ now.at) where
   abbrev k : ℕ
-  k = now.target.place - cutter.target.place
+  k = now.sink.place - cutter.sink.place
 
-  later : {x : List ℕ} {cut : CutUp} → IsCutOff cutter size x cut → now.target.place + 1 ≤ ended cutter.chunks size x
-  later {x} so = elim (cases_lt now.target.place (ended cutter.chunks size x)) [
+  later : {x : List ℕ} {cut : CutUp} → IsCutOff cutter size x cut → now.sink.place + 1 ≤ ended cutter.chunks size x
+  later {x} so = elim (cases_lt now.sink.place (ended cutter.chunks size x)) [
     | inl before ↦ omega arith
-    | inr past ↦ (let e : ended cutter.chunks size x ≡ now.target.place = omega (arith, so_far.low x _ so) in
+    | inr past ↦ (let e : ended cutter.chunks size x ≡ now.sink.place = omega (arith, so_far.low x _ so) in
         let next = (rw e at (ended_is cutter.chunks size x)).next (rw so_far.chunks at less) in
         absurd (omega (arith, rw so_far.chunks at ends, passed_at whole so)))
   ]
 
-  next_gives : {next : TargetState} {new : List Slot} {fault : Option Fault}
-      → Changes told now.target with_full slots new next fault → (x : List ℕ) (cut : CutUp) → IsCutOff cutter size x cut
-      → Gives told (course cutter) cutter.target next cut (with_fulls (suc k) cut) old new fault
+  next_gives : {next : SinkState} {new : List Slot} {fault : Option Fault}
+      → Changes told now.sink with_full slots new next fault → (x : List ℕ) (cut : CutUp) → IsCutOff cutter size x cut
+      → Gives told (course cutter) cutter.sink next cut (with_fulls (suc k) cut) old new fault
   next_gives went x cut so = let done = so_far.gives x cut so in
       let name = name_of (course cutter) _ _ so.all (rw so_far.chunks at less) in
       gives_then done (rw so_far.stays.course at (went.gives _ (done.carries, rw so_far.stays.course name)))
 
-  next_stays : {next : TargetState} {new : List Slot} {fault : Option Fault}
-      → Changes told now.target with_full slots new next fault
-      → Stays (course cutter) cutter.target.aim next.aim old new fault
+  next_stays : {next : SinkState} {new : List Slot} {fault : Option Fault}
+      → Changes told now.sink with_full slots new next fault
+      → Stays (course cutter) cutter.sink.aim next.aim old new fault
   next_stays went = stays_then so_far.stays (rw so_far.stays.course at went.stays)
 
   pub ends_next : {next : CutterState} {new : List Slot} → next.chunks ≡ now.chunks → next.at ≡ now.at
-      → next.is_within ≡ now.is_within → next.target.place ≡ now.target.place + 1
-      → Changes told now.target with_full slots new next.target None → Ending told cutter size old new next
+      → next.is_within ≡ now.is_within → next.sink.place ≡ now.sink.place + 1
+      → Changes told now.sink with_full slots new next.sink None → Ending told cutter size old new next
   ends_next {next} chunks at within place went = record {
     chunks = chunks ∙ so_far.chunks;
     at = at ∙ so_far.at;
     within = within ∙ so_far.within;
     from = omega arith;
     stays = next_stays went;
-    gives = let e : next.target.place - cutter.target.place ≡ suc k = omega arith in rw e (next_gives went);
+    gives = let e : next.sink.place - cutter.sink.place ≡ suc k = omega arith in rw e (next_gives went);
     low = λ x cut so. omega (arith, later so);
   }
 
   pub ends_stopped : {next : CutterState} {new : List Slot} {why : Fault} → next.chunks ≡ now.chunks
       → next.at ≡ now.at → next.is_within ≡ now.is_within
-      → Changes told now.target with_full slots new next.target (Some why)
+      → Changes told now.sink with_full slots new next.sink (Some why)
       → EndsFull told cutter size old new next (Some why)
   ends_stopped chunks at within stopped = record {
     chunks = chunks ∙ so_far.chunks;
     at = at ∙ so_far.at;
     within = within ∙ so_far.within;
     stays = next_stays stopped;
-    gives = λ x cut so. let more = ended cutter.chunks size x - (now.target.place + 1) in
-        let e : suc k + more ≡ ended cutter.chunks size x - cutter.target.place = omega (arith, later so) in record {
+    gives = λ x cut so. let more = ended cutter.chunks size x - (now.sink.place + 1) in
+        let e : suc k + more ≡ ended cutter.chunks size x - cutter.sink.place = omega (arith, later so) in record {
           brings = brings_wider (rw e at (fulls_begin (course cutter) cut (suc k) more)) (next_gives stopped x cut so).brings;
           carries = tt;
         };
@@ -247,42 +245,42 @@ module _ {told : Bool} {cutter now : CutterState} {size : ℕ} {old slots : List
 
 pub ends_so : {told : Bool} {cutter now : CutterState} {size : ℕ} {old slots : List Slot}
     → (cutter.is_within ≡ true → size ≤ cutter.at) → Ending told cutter size old slots now
-    → (now.target.place < now.chunks.count → now.at < chunk_start now.chunks.count size (now.target.place + 1))
+    → (now.sink.place < now.chunks.count → now.at < chunk_start now.chunks.count size (now.sink.place + 1))
     → EndsFull told cutter size old slots now None
 ends_so {told} {cutter} {now} {size} {old} {slots} whole so_far last = record {
   chunks = so_far.chunks;
   at = so_far.at;
   within = so_far.within;
   stays = so_far.stays;
-  gives = λ x cut so. subst (λ place. Gives told (course cutter) cutter.target now.target cut (with_fulls (place - cutter.target.place) cut) old slots None)
+  gives = λ x cut so. subst (λ place. Gives told (course cutter) cutter.sink now.sink cut (with_fulls (place - cutter.sink.place) cut) old slots None)
       (same so) (so_far.gives x cut so);
 } where
-  same : {x : List ℕ} {cut : CutUp} → IsCutOff cutter size x cut → now.target.place ≡ ended cutter.chunks size x
-  same {x} so = let is = ended_is cutter.chunks size x in elim (cases_lt now.target.place (ended cutter.chunks size x)) [
+  same : {x : List ℕ} {cut : CutUp} → IsCutOff cutter size x cut → now.sink.place ≡ ended cutter.chunks size x
+  same {x} so = let is = ended_is cutter.chunks size x in elim (cases_lt now.sink.place (ended cutter.chunks size x)) [
     | inl before ↦ absurd
         (omega (
           arith,
           last (omega (arith, before, is.within, ap (λ (chunks : Chunks). chunks.count) so_far.chunks)),
           passed_at whole so,
           ap
-              (λ (chunks : Chunks). chunk_start chunks.count size (now.target.place + 1)) so_far.chunks,
-          start_grows cutter.chunks.count size (now.target.place + 1) (ended cutter.chunks size x)
+              (λ (chunks : Chunks). chunk_start chunks.count size (now.sink.place + 1)) so_far.chunks,
+          start_grows cutter.chunks.count size (now.sink.place + 1) (ended cutter.chunks size x)
               (omega (arith, before)),
         ))
     | inr past ↦ omega (arith, so_far.low x _ so)
   ]
 
 -- none does before the end of the chunk that was begun
-pub ends_short : {told : Bool} {cutter : CutterState} {size : ℕ} {slots : List Slot} → IsAimed cutter.target.aim slots
+pub ends_short : {told : Bool} {cutter : CutterState} {size : ℕ} {slots : List Slot} → IsAimed cutter.sink.aim slots
     → 0 < cutter.chunks.count
-    → cutter.at < chunk_start cutter.chunks.count size (min (cutter.target.place + 1) cutter.chunks.count)
+    → cutter.at < chunk_start cutter.chunks.count size (min (cutter.sink.place + 1) cutter.chunks.count)
     → EndsFull told cutter size slots slots cutter None
 ends_short {told} {cutter} {size} {slots} ready some short = by cutter.is_within refl where
   by : (within : Bool) → cutter.is_within ≡ within → EndsFull told cutter size slots slots cutter None
   by true is = ends_open ready is
       (omega (
         arith,
-        start_within cutter.chunks.count size (min (cutter.target.place + 1) cutter.chunks.count) some
+        start_within cutter.chunks.count size (min (cutter.sink.place + 1) cutter.chunks.count) some
             (omega arith),
       ))
   by false is = ends_so (λ within. absurd (false≢true (sym is ∙ within))) (ends_none ready)
@@ -345,10 +343,10 @@ so_grows on chunks size x y some within =
 pub record Place (cutter : CutterState) (size : ℕ) (x : List ℕ) : Type 0 where
   pub short : length x < size
   pub some : 0 < cutter.chunks.count
-  pub is : ended cutter.chunks size x ≡ cutter.target.place
-  pub less : cutter.target.place < cutter.chunks.count
+  pub is : ended cutter.chunks size x ≡ cutter.sink.place
+  pub less : cutter.sink.place < cutter.chunks.count
   pub early : open_from cutter.chunks.unit cutter.chunks.delim x < chunk_start cutter.chunks.count size
-      (cutter.target.place + 1)
+      (cutter.sink.place + 1)
 
 pub some_of : (on : Course) (count : ℕ) → can_cut on count ≡ true → 0 < count
 some_of (in_files filing elide) count can = ltb-true _ _ can
@@ -358,7 +356,7 @@ pub some_in : {cutter : CutterState} {x : List ℕ} {cut : CutUp} → HasCut cut
 some_in {cutter} has = some_of _ _ has.can
 
 pub placed_at : {cutter : CutterState} {size : ℕ} {x : List ℕ} → IsCut cutter size x
-    → ended cutter.chunks size x ≡ cutter.target.place
+    → ended cutter.chunks size x ≡ cutter.sink.place
 placed_at {cutter} {size} {x} is = grind (arith, common_steps, length-map-range_with_len)
 
 pub place_of : {cutter : CutterState} {size : ℕ} {x : List ℕ} (y : List ℕ) → IsCut cutter size x → 0 < length y
@@ -367,12 +365,12 @@ place_of {cutter} {size} {x} y is some within = let chunks = cutter.chunks in
     let short : length x < size = omega (arith, length-append x y) in
     let count : 0 < chunks.count = some_in is.cut in
     let here = rw (placed_at is) at (ended_is chunks size x) in
-    let less : cutter.target.place < chunks.count = elim (cases_lt cutter.target.place chunks.count) [
+    let less : cutter.sink.place < chunks.count = elim (cases_lt cutter.sink.place chunks.count) [
       | inl before ↦ before
       | inr past ↦ absurd
           (omega (
             arith,
-            start_past chunks.count size cutter.target.place count past,
+            start_past chunks.count size cutter.sink.place count past,
             passed_open chunks size x short,
             open_within chunks.unit chunks.delim x,
           ))
@@ -386,23 +384,23 @@ place_of {cutter} {size} {x} y is some within = let chunks = cutter.chunks in
 
 -- the end of the chunk that was begun
 abbrev pub end_so : CutterState → ℕ → ℕ
-end_so cutter size = chunk_start cutter.chunks.count size (min (cutter.target.place + 1) cutter.chunks.count)
+end_so cutter size = chunk_start cutter.chunks.count size (min (cutter.sink.place + 1) cutter.chunks.count)
 
 end_here : {cutter : CutterState} {size : ℕ} {x : List ℕ} → Place cutter size x
-    → end_so cutter size ≡ chunk_start cutter.chunks.count size (cutter.target.place + 1)
+    → end_so cutter size ≡ chunk_start cutter.chunks.count size (cutter.sink.place + 1)
 end_here {cutter} at = grind (arith, common_steps)
 
 -- all of it stands before that
-all_before : {cutter : CutterState} {size : ℕ} {x : List ℕ} (text : List ℕ) → IsCut cutter size x → Place cutter size x
+all_within : {cutter : CutterState} {size : ℕ} {x : List ℕ} (text : List ℕ) → IsCut cutter size x → Place cutter size x
     → before_chunk cutter.chunks size (ended cutter.chunks size x + 1) (x ++ cut_to cutter (end_so cutter size) text)
     ≡ x ++ cut_to cutter (end_so cutter size) text
-all_before {cutter} {size} {x} text is at = grind (arith, common_steps, ended_is, end_here, piece_all)
+all_within {cutter} {size} {x} text is at = grind (arith, common_steps, ended_is, end_here, piece_all)
 
 -- and the chunks end that have all then
 pub record Cutting (cutter mid : CutterState) (y : List ℕ) : Type 0 where
   pub some : 0 < length y
   pub chunks : mid.chunks ≡ cutter.chunks
-  pub place : mid.target.place ≡ cutter.target.place
+  pub place : mid.sink.place ≡ cutter.sink.place
   pub course : course mid ≡ course cutter
   pub at : mid.at ≡ cutter.at + length y
   pub within : mid.is_within ≡ is_within cutter.chunks.unit cutter.chunks.delim y
@@ -410,13 +408,13 @@ pub record Cutting (cutter mid : CutterState) (y : List ℕ) : Type 0 where
 pub has_cut : {cutter next : CutterState} {x : List ℕ} (y : List ℕ) {from to : CutUp} → next.chunks ≡ cutter.chunks
     → course next ≡ course cutter → next.at ≡ cutter.at + length y
     → next.is_within ≡ is_within cutter.chunks.unit cutter.chunks.delim y → 0 < length y
-    → HasCut cutter x from → Carries next.target to → HasCut next (x ++ y) to
+    → HasCut cutter x from → Carries next.sink to → HasCut next (x ++ y) to
 has_cut {cutter} {x = x} y chunks stays at within some has carries = grind (arith, common_steps, length-append, within_last)
 
 pub cuts_on : {told : Bool} {cutter mid next : CutterState} {size : ℕ} (text : List ℕ) {y : List ℕ}
     {old wet new : List Slot} (fault : Option Fault) → y ≡ cut_to cutter (end_so cutter size) text
-    → Cutting cutter mid y → Changes told cutter.target (with_rest y) old wet mid.target None
-    → EndsFull told mid size wet new next fault → Cuts told cutter size y old new next fault
+    → Cutting cutter mid y → Changes told cutter.sink (with_rest y) old wet mid.sink None
+    → EndsFull told mid size wet new next fault → CutsMore told cutter size y old new next fault
 cuts_on {told} {cutter} {mid} {next} {size} text {y} {old} {new = new} fault is step changes ends = record {
   chunks = ends.chunks ∙ step.chunks;
   bound = omega arith;
@@ -429,12 +427,12 @@ cuts_on {told} {cutter} {mid} {next} {size} text {y} {old} {new = new} fault is 
   });
 } where
   both : (x : List ℕ) → IsCut cutter size x → length (x ++ y) ≤ size
-      → Gives told (course cutter) cutter.target next.target (chunks_within cutter.chunks size x)
+      → Gives told (course cutter) cutter.sink next.sink (chunks_within cutter.chunks size x)
       (chunks_within cutter.chunks size (x ++ y)) old new fault
   both x has within = let place = place_of y has step.some within in
-      let all : before_chunk cutter.chunks size (ended cutter.chunks size x + 1) (x ++ y) ≡ x ++ y = rw is (all_before text has place) in
+      let all : before_chunk cutter.chunks size (ended cutter.chunks size x + 1) (x ++ y) ≡ x ++ y = rw is (all_within text has place) in
       let first = changes.gives _ (has.cut.carries, name_of _ _ _ has.cut.all place.less) in
-      let cut : with_fulls (ended mid.chunks size (x ++ y) - mid.target.place) (with_rest y (chunks_within cutter.chunks size x))
+      let cut : with_fulls (ended mid.chunks size (x ++ y) - mid.sink.place) (with_rest y (chunks_within cutter.chunks size x))
       ≡ chunks_within cutter.chunks size (x ++ y) =
       rw (step.chunks, step.place, ← place.is) (grown _ _ x y place.some within all) in
       gives_then first (rw (step.course, cut) at (ends.gives (x ++ y) _ (record {
@@ -454,8 +452,8 @@ fulls_follow on low n is = let e : 0 + n ≡ n = omega arith in rw (e, is) at (f
 
 pub cuts_not : {told : Bool} {cutter next : CutterState} {size : ℕ} (text : List ℕ) {y : List ℕ} {old new : List Slot}
     {why : Fault} → y ≡ cut_to cutter (end_so cutter size) text → 0 < length text → next.chunks ≡ cutter.chunks
-    → next.at ≡ cutter.at → Changes told cutter.target (with_rest y) old new next.target (Some why)
-    → Cuts told cutter size y old new next (Some why)
+    → next.at ≡ cutter.at → Changes told cutter.sink (with_rest y) old new next.sink (Some why)
+    → CutsMore told cutter size y old new next (Some why)
 cuts_not {cutter = cutter} {size = size} text {y} {why = why} is some chunks at stopped = record {
   chunks = chunks;
   bound = omega arith;
@@ -463,7 +461,7 @@ cuts_not {cutter = cutter} {size = size} text {y} {why = why} is some chunks at 
   brings = λ x has within. let some : 0 < length y = rw is (begun_some cutter.chunks.unit cutter.chunks.delim _ text (omega arith) some) in
       let here = place_of y has some within in
       brings_wider (fulls_follow (course cutter) _ (ended cutter.chunks size (x ++ y) - ended cutter.chunks size x)
-      (grown cutter.chunks size x y here.some within (rw is (all_before text has here))))
+      (grown cutter.chunks size x y here.some within (rw is (all_within text has here))))
       (stopped.gives _ (has.cut.carries, name_of _ _ _ has.cut.all here.less)).brings;
   leads = λ x has within. tt;
 }
@@ -471,7 +469,7 @@ cuts_not {cutter = cutter} {size = size} text {y} {why = why} is some chunks at 
 -- on the way to all of a text
 pub cuts_all : {told : Bool} {cutter next : CutterState} {size : ℕ} (text : List ℕ) {y : List ℕ}
     {old new : List Slot} {why : Fault} → y ≡ cut_to cutter (end_so cutter size) text
-    → Cuts told cutter size y old new next (Some why) → Cuts told cutter size text old new next (Some why)
+    → CutsMore told cutter size y old new next (Some why) → CutsMore told cutter size text old new next (Some why)
 cuts_all {cutter = cutter} {size = size} text {y} {why = why} is cuts =
     let (rest, both) : (rest : List ℕ) × (text ≡ y ++ rest) = rw is (begun_begins cutter.chunks.unit cutter.chunks.delim _ text) in
     let all : (x : List ℕ) → (x ++ y) ++ rest ≡ x ++ text = λ x. append_assoc x y rest ∙ ap (λ more. x ++ more) (sym both) in record {
@@ -499,7 +497,7 @@ not_yet chunks size place (in_output chunk) z short early past = lt-leb _ _
     ))
 
 pub needed_in : {cutter : CutterState} {size : ℕ} {x : List ℕ} (text : List ℕ) (n : ℕ)
-    → is_past_on cutter.target ≡ false → 0 < n → n ≤ length text → take n text ≡ cut_to cutter (end_so cutter size) text
+    → is_past_on cutter.sink ≡ false → 0 < n → n ≤ length text → take n text ≡ cut_to cutter (end_so cutter size) text
     → IsCut cutter size x → length (x ++ text) ≤ size
     → IsOpen cutter size (x ++ take (n - 1) text)
 needed_in {cutter} {size} {x} text n going some few is has within = let chunks = cutter.chunks in
@@ -509,7 +507,7 @@ needed_in {cutter} {size} {x} text n going some few is has within = let chunks =
     let front : take (n - 1) (take n text) ≡ take (n - 1) text = take-take (n - 1) n text (omega arith) in
     let both : z ++ last ≡ x ++ take n text =
     rw (append_assoc x (take (n - 1) text) last, ← front, take-append-drop (n - 1) (take n text)) refl in
-    let all : before_chunk chunks size (ended chunks size x + 1) (z ++ last) ≡ z ++ last = rw (both, is) (all_before _ has place) in
+    let all : before_chunk chunks size (ended chunks size x + 1) (z ++ last) ≡ z ++ last = rw (both, is) (all_within _ has place) in
     let one : length last ≡ 1 = omega (arith, length-drop (n - 1) (take n text), length-take n text) in
     not_yet _ _ _ _ z
     (omega (arith, length-append x (take (n - 1) text), length-take (n - 1) text, length-append x text))
@@ -523,7 +521,7 @@ cutting {n = n} text writes = grind (arith, common_steps)
 -- what was written of a text goes with the chunk that was begun, and what is full has ended
 pub steps_so : {told : Bool} {cutter mid next : CutterState} {size n : ℕ} (text : List ℕ) {old wet new : List Slot}
     → WritesTo told cutter (end_so cutter size) text old wet mid (Ok n) → EndsFull told mid size wet new next None
-    → Steps told cutter size text old new next (Ok n)
+    → CutsStretch told cutter size text old new next (Ok n)
 steps_so {n = n} text writes ends = let is = writes.count.2 in (
   writes.count.0,
   writes.count.1,
@@ -535,20 +533,20 @@ steps_so {n = n} text writes ends = let is = writes.count.2 in (
 -- nothing is full before that chunk's end
 pub steps_short : {told : Bool} {cutter next : CutterState} {size n : ℕ} (text : List ℕ) {old new : List Slot}
     → 0 < cutter.chunks.count → WritesTo told cutter (end_so cutter size) text old new next (Ok n)
-    → next.at < end_so cutter size → Steps told cutter size text old new next (Ok n)
+    → next.at < end_so cutter size → CutsStretch told cutter size text old new next (Ok n)
 steps_short {size = size} text some writes short = steps_so _ writes
     (ends_short writes.changes.stays.ready (rw writes.chunks some) (rw (writes.chunks, writes.place) short))
 
 -- Stretch after stretch
 
-pub cuts_nothing : {told : Bool} {cutter : CutterState} {size : ℕ} {slots : List Slot} → IsAimed cutter.target.aim slots
-    → Cuts told cutter size [] slots slots cutter None
+pub cuts_nothing : {told : Bool} {cutter : CutterState} {size : ℕ} {slots : List Slot} → IsAimed cutter.sink.aim slots
+    → CutsMore told cutter size [] slots slots cutter None
 cuts_nothing {told} {cutter} {size} {slots} ready = search (rules, stays_none, append-nil, brings_none)
 
 pub cuts_again : {told : Bool} {cutter mid next : CutterState} {size : ℕ} (first more : List ℕ)
-    {old wet new : List Slot} (fault : Option Fault) → Cuts told cutter size first old wet mid None
-    → Cuts told mid size more wet new next fault
-    → Cuts told cutter size (first ++ more) old new next fault
+    {old wet new : List Slot} (fault : Option Fault) → CutsMore told cutter size first old wet mid None
+    → CutsMore told mid size more wet new next fault
+    → CutsMore told cutter size (first ++ more) old new next fault
 cuts_again {told} {cutter} {mid} {next} {size} first more {wet = wet} {new} fault one other = record {
   chunks = other.chunks ∙ one.chunks;
   bound = omega (arith, length-append first more);
@@ -567,22 +565,22 @@ pub record CutsAway (told : Bool) (cutter : CutterState) (size : ℕ) (text left
     (now : CutterState) : Type 0 where
   pub done : List ℕ
   pub both : text ≡ done ++ left
-  pub cuts : Cuts told cutter size done old slots now None
+  pub cuts : CutsMore told cutter size done old slots now None
   pub at : now.at ≡ cutter.at + length done
-  pub start : ((now ≡ cutter) × (done ≡ [])) ⊎ (is_past_on cutter.target ≡ false)
+  pub start : ((now ≡ cutter) × (done ≡ [])) ⊎ (is_past_on cutter.sink ≡ false)
   pub needed : (done ≡ []) ⊎ ((x : List ℕ) → IsCut cutter size x → length (x ++ text) ≤ size
       → IsNeeded (said_work cutter size).is_complete 1 (x ++ done))
 
 pub away_none : {told : Bool} {cutter : CutterState} {size : ℕ} {text : List ℕ} {slots : List Slot}
-    → IsAimed cutter.target.aim slots → CutsAway told cutter size text text slots slots cutter
+    → IsAimed cutter.sink.aim slots → CutsAway told cutter size text text slots slots cutter
 away_none {text = text} ready = record { done = []; both = refl; cuts = cuts_nothing ready; at = omega arith; start = inl (refl, refl); needed = inl refl }
 
 module _ {told : Bool} {cutter now : CutterState} {size : ℕ} {text left : List ℕ} {old slots : List Slot}
     (so_far : CutsAway told cutter size text left old slots now) where
   pub away_more : {next : CutterState} {rest : List ℕ} {n : ℕ} {new : List Slot}
-      → (0 < n) × (n ≤ length left) × (next.at ≡ now.at + n) × Cuts told now size (take n left) slots new next None
-      × (is_past_on now.target ≡ false → (x : List ℕ) → IsCut now size x → length (x ++ left) ≤ size
-      → IsOpen now size (x ++ take (n - 1) left)) → is_past_on now.target ≡ false → rest ≡ drop n left
+      → (0 < n) × (n ≤ length left) × (next.at ≡ now.at + n) × CutsMore told now size (take n left) slots new next None
+      × (is_past_on now.sink ≡ false → (x : List ℕ) → IsCut now size x → length (x ++ left) ≤ size
+      → IsOpen now size (x ++ take (n - 1) left)) → is_past_on now.sink ≡ false → rest ≡ drop n left
       → CutsAway told cutter size text rest old new next
   away_more {next} {rest} {n} (some, within, at, step, going) not_past is = record {
     done = so_far.done ++ take n left;
@@ -617,12 +615,12 @@ module _ {told : Bool} {cutter now : CutterState} {size : ℕ} {text left : List
   }
 
   pub away_stops : {next : CutterState} {new : List Slot} {why : Fault}
-      → Cuts told now size left slots new next (Some why) → Cuts told cutter size text old new next (Some why)
+      → CutsMore told now size left slots new next (Some why) → CutsMore told cutter size text old new next (Some why)
   away_stops {why = why} stops = rw so_far.both (cuts_again _ _ _ so_far.cuts stops)
 
   pub away_so : (piece : List ℕ) (own : ℕ) {count : ℕ} → own ≡ min (length piece) (size - cutter.at)
       → text ≡ take own piece → count ≡ length left + (length piece - own)
-      → (length left ≡ 0) ⊎ (is_past_on now.target ≡ true) → CutsAs told cutter size piece old slots now count
+      → (length left ≡ 0) ⊎ (is_past_on now.sink ≡ true) → CutsAs told cutter size piece old slots now count
   away_so piece own {count} is text_is count_is ends = record {
     few = omega (arith, long, is, count_is);
     at = omega (arith, so_far.at, long, is, count_is);

@@ -20,7 +20,7 @@ use Rattle.ports_core.specs.{
   Part.{File, Part, OutputsAt, FilesBegin, Begins, IsBeginning, IsDueLine, IsNext, IsAt, LinesInOrder, Marks},
   Draft.{manner_by, opening_line, output_of, part_with, told_before, told_of_files},
   FileWriter.Breaks,
-  Turn.fault_in,
+  InTurn.fault_in,
   inner.Write.Wrote,
 }
 use Rattle.ports_core.proofs.{
@@ -406,12 +406,12 @@ reached_not told files {old = old} place ready here named same fails =
 -- Writing
 
 -- of files the one at a place changed
-files_changed : (filing : Filing) (makes : File → File) (low high : ℕ → Share) {n place : ℕ} → place < n
+changed_files : (filing : Filing) (makes : File → File) (low high : ℕ → Share) {n place : ℕ} → place < n
     → ((i : ℕ) → (i ≡ place → ⊥) → low i ≡ high i)
     → makes (file_at filing place (low place)) ≡ file_at filing place (high place)
     → record { out = (part_by filing low n).out; files = changed_at place makes (files_by filing low n) }
     ≡ part_by filing high n
-files_changed filing makes low high {n} {place} within other here =
+changed_files filing makes low high {n} {place} within other here =
     let file : (ℕ → Share) → ℕ → File = λ those i. file_at filing i (those i) in cc (
       told_same filing.verbose (file low) (file high) (λ i. refl) 0 n,
       changed_by makes (file low) (file high) 0 n place (zero-add place) within (λ i differs. cc (other i differs)) here,
@@ -423,7 +423,7 @@ writes : {told : Bool} {files : FilesState} {before : List Slot} {had has : ℕ 
     → ((i : ℕ) → has i ≡ had i ++ only_at place bytes i)
     → OutputsAt told before (part_by (filing_in files) (all_open has) (length files.outputs)) new
 writes {told} {files} {had = had} {has} {place = place} bytes within is at are =
-    rw (files_changed (filing_in files) (gets bytes) (all_open had) (all_open has) within
+    rw (changed_files (filing_in files) (gets bytes) (all_open had) (all_open has) within
     (λ i differs. grind (arith, nat_tests, are i, append-nil (had i), differs)) (grind (arith, nat_tests, are place))) at
     (file_changes told _ (gets bytes) (write_makes told bytes) _ _ _ _ place at.outputs (rw (at.owns.stand place within) at is))
 
@@ -493,7 +493,7 @@ module _ (told : Bool) {files : FilesState} {place : ℕ} {old now : List Slot} 
       → {before : List Slot} {had : ℕ → List ℕ} → StandAt told files before had old
       → OutputsAt told before (part_by (filing_in files) (closed_first (place + 1) had) (length files.outputs)) new
   closes_next is {before} {had} at =
-      rw (files_changed (filing_in files) ended (closed_first place had) (closed_first (place + 1) had) within
+      rw (changed_files (filing_in files) ended (closed_first place had) (closed_first (place + 1) had) within
       (λ i differs. grind (arith, nat_tests, differs)) (grind (arith, nat_tests))) at
       (file_changes told _ ended (close_makes told) _ _ _ _ place (so_far.closed before had at) (rw (at.owns.stand place within) at is))
 

@@ -2,8 +2,7 @@
 use Rattle.std.proofs.Common.{rules}
 use Rattle.std.proofs.{
   Common.{◌≡◌, ℕ, ◌<◌, Bool, true, false, List, [], Option, Some, None, IfSome, refl, sym, ◌∙◌, ap, subst, arith},
-  Common.inl,
-  Common.{zero, suc, max},
+  Common.{inl, zero, suc, max},
   Math.Seq.{drop-nil, take-nil},
 }
 use Rattle.seg_core.specs.declared.{cut.Chunks.Chunks, unit.Unit.{Unit as Counted, TheVariants.{Bytes, Lines}}}
@@ -13,7 +12,7 @@ use Rattle.split_core.specs.{
   Split.{Filing, manner_of},
   Parts.uncut,
   Chunks.{chunks_within, decided, is_within},
-  ChunkerState.{Carries, Course, CutterState, HasAll, HasCut, HoldsBy, TargetState, can_cut, course_of, in_files},
+  ChunkerState.{Carries, Course, CutterState, HasAll, HasCut, HoldsBy, SinkState, can_cut, course_of, in_files},
   ChunkerState.{in_output, work_on},
   laws.BegunLaws.begun_of_none,
 }
@@ -23,10 +22,10 @@ none_so : (unit : Counted) (delim : ℕ) → is_within unit delim [] ≡ false
 none_so Bytes delim = refl
 none_so Lines delim = refl
 
-module _ (chunks : Chunks) (target : TargetState) (can : can_cut (course_of target.aim) chunks.count ≡ true)
-    (all : HasAll (course_of target.aim) chunks.count) (fresh : Carries target (uncut [])) where
+module _ (chunks : Chunks) (sink : SinkState) (can : can_cut (course_of sink.aim) chunks.count ≡ true)
+    (all : HasAll (course_of sink.aim) chunks.count) (fresh : Carries sink (uncut [])) where
   abbrev cutter : CutterState
-  cutter = record { chunks = chunks; at = 0; is_within = false; target = target }
+  cutter = record { chunks = chunks; at = 0; is_within = false; sink = sink }
 
   has_none : HasCut cutter [] (uncut [])
   has_none = record { can = can; all = all; at = refl; within = sym (none_so _ _); carries = fresh }

@@ -17,7 +17,7 @@ use Rattle.split_core.{
   specs.ChunkerState.{to_output, work, work_on},
   specs.inner.Chunker.{TakesFront, passed_to},
   specs.laws.{
-    BegunLaws.{begun_long, none_open},
+    BegunLaws.{begun_long, open_from_none},
     ChunkLaws.{ended_only, passed_open, start_first, start_grows, start_within},
   },
   proofs.{
@@ -34,7 +34,7 @@ use Rattle.split_core.specs.declared.splitter.Splitter.TheVariants as way
 -- The engine is to write this chunk of an input of this size, and was fed nothing.
 pub record AsksFor (chunker : ChunkerState) (size chunk : ℕ) : Type 0 where
   pub said : chunker.said ≡ Some size
-  pub aim : chunker.cutter.target.aim ≡ to_output chunk
+  pub aim : chunker.cutter.sink.aim ≡ to_output chunk
   pub fresh : Holds chunker []
 
 -- A text that it may have been fed: no more bytes than stand before the chunk. With them the chunk at a place was begun.
@@ -196,7 +196,7 @@ module _ {chunker : ChunkerState} {size chunk : ℕ} (asks : AsksFor chunker siz
     fits_in = omega (arith, some, later, ends_in)
 
     from_front : open_from Lines chunks.delim z ≡ 0
-    from_front = none_open chunks.delim z (none_in n)
+    from_front = open_from_none chunks.delim z (none_in n)
 
     has_passed : passed chunks size z ≡ 0
     has_passed = passed_open chunks size z (omega (arith, size_z, later, ends_in))

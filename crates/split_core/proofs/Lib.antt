@@ -21,5 +21,5 @@ pub mod PartsLemmas
 pub mod CutterLemmas
 pub mod ChunkerLemmas
 pub mod UnsaidLemmas
-pub mod TargetLemmas
+pub mod SinkLemmas
 pub mod SectionLemmas

@@ -9,12 +9,11 @@ use Rattle.std.proofs.{
 use Rattle.ports_core.specs.{
   Draft.{Manner, Draft, share, Share, shares_of, draft_part, output_of, with_bytes, with_next},
   Engine.{CutsOff, EndsWith, EndsThere, IsMet, StandsAt, is_verdict},
-  FileWriter.{Leaves, At, Breaks, CanCount, CanTell, Goes, IsWrite, is_file},
-  FileWriter.manner_in,
-  Name.{has_name},
+  FileWriter.{Leaves, At, Breaks, CanCount, CanTell, Goes, IsWrite, is_file, manner_in},
+  Name.has_name,
   Part.writes,
   Slot.{Slot, is_writable},
-  Turn.fault_in,
+  InTurn.fault_in,
   inner.Shares.SharesBegin,
   declared.fault.Fault.{Fault, TheVariants.{Memory, Write, Open}},
   declared.verdict.Verdict.{Verdict, TheVariants.Suffixes},
@@ -32,13 +31,12 @@ use Rattle.seg_core.specs.{Cut.most}
 use Rattle.split_core.specs.{
   Parts.{cut_up, is_full, parts, settled_rest, unless_empty, waiting_rest},
   PartsState.{PartsState, IsReady, Lacks, Stands, filing_of, work},
-  Split.{Filing, TellsNoSizes, are_named, is_verbose, draft_of, manner_of, output_by, settled_parts},
-  Split.split_means,
+  Split.{Filing, TellsNoSizes, are_named, is_verbose, draft_of, manner_of, output_by, settled_parts, split_means},
   declared.step.Step.{Step, TheVariants.{Goes as GoesOn, Ends, Begins, Waits}},
   inner.CutLaws.{cut_so, named},
   inner.Sharing.{CannotClose, always_named},
   inner.Step.{IsTurned, Leads},
-  inner.Takes.{Extends, Finishes, Moves, Steps, Takes, Turns, numbers, settled_part, turns, whole_part},
+  inner.Takes.{Extends, Finishes, Moves, TakesStretch, Takes, BeginsNext, numbers, settled_part, begins_next, whole_part},
   laws.{
     CutLaws.{cut_none, cut_on},
     ShareLaws.{are_named_more, named_short, part_begins, settled_count, settled_grow, shares_fewer},
@@ -235,7 +233,7 @@ module _ {told : Bool} {state next : PartsState} (piece : List ℕ) (bytes : ℕ
 
   -- what waits begins the next part
   pub begins_on : (fault : Option Fault) → LeadsOn state piece (Begins bytes)
-      → Turns told state (take bytes piece) old new next fault
+      → BeginsNext told state (take bytes piece) old new next fault
       → Takes told state (taken bytes piece fault) old new next fault
   begins_on fault leads = takes_by fault _ (λ x stands.
       rw stands.waits (turned_so (leads _ stands.lacks)))
@@ -244,8 +242,8 @@ module _ {told : Bool} {state next : PartsState} (piece : List ℕ) (bytes : ℕ
 
 module _ {state : PartsState} (piece : List ℕ) (end bytes : ℕ) (leads : LeadsOn state piece (Ends end bytes)) where
   ends_to : (x : List ℕ) → Stands state x → Comes state x (take bytes piece)
-      (turns (drop end (take bytes piece)) (with_bytes (state.waiting ++ take end piece) (draft_of state.limit x)))
-      (most state.limit - length (drop end (take bytes piece)), false, [])
+      (begins_next (drop end (take bytes piece)) (with_bytes (state.waiting ++ take end piece)
+      (draft_of state.limit x))) (most state.limit - length (drop end (take bytes piece)), false, [])
   ends_to x stands = rw (all_of (take end piece) stands) (turned_so (leads (rest_of state x) stands.lacks))
 
   pub ends_stopped : {told : Bool} {mid : PartsState} {old wet : List Slot} {f : Fault}
@@ -255,13 +253,13 @@ module _ {state : PartsState} (piece : List ℕ) (end bytes : ℕ) (leads : Lead
 
   pub ends_on : {told : Bool} {mid next : PartsState} {old wet new : List Slot} (fault : Option Fault) → end ≤ bytes
       → Extends told state (take end piece) old wet mid None
-      → Turns told mid (take (bytes - end) (drop end piece)) wet new next fault
+      → BeginsNext told mid (take (bytes - end) (drop end piece)) wet new next fault
       → Takes told state (taken bytes piece fault) old new next fault
   ends_on {mid = mid} fault low extends turn = takes_by piece bytes fault
-      (λ draft. turns _ _) ends_to (record {
+      (λ draft. begins_next _ _) ends_to (record {
         limit = turn.limit ∙ extends.limit;
         same = where_well fault turn.same (λ same. same ∙ cc (all));
-        goes = goes_again _ (λ draft. ap (λ bytes. turns bytes (with_bytes (state.waiting ++ take end piece) draft)) all)
+        goes = goes_again _ (λ draft. ap (λ bytes. begins_next bytes (with_bytes (state.waiting ++ take end piece) draft)) all)
             (λ manner draft. bytes_begin manner (state.waiting ++ take end piece) draft) extends.goes turn.goes;
       }) where
         all : mid.waiting ++ take (bytes - end) (drop end piece) ≡ drop end (take bytes piece)
@@ -275,7 +273,7 @@ pub waited : (told : Bool) (state next : PartsState) (piece : List ℕ) (slots :
     → 0 < length piece → LeadsOn state piece Waits
     → IsReady state slots → IfOk result (λ n. n ≡ length piece)
     → OnOk result (next ≡ record state { left = state.left - length piece; waiting = state.waiting ++ piece })
-    → IfErr result (λ f. (f ≡ Memory) × (next ≡ state)) → Steps told state piece slots slots next result
+    → IfErr result (λ f. (f ≡ Memory) × (next ≡ state)) → TakesStretch told state piece slots slots next result
 waited told state next piece slots (Ok n) some leads ready count waits err = (
   omega arith,
   omega arith,

@@ -13,8 +13,7 @@ use Rattle.std.proofs.{
   },
   lemmas.Bool.{cases_lt, eq-eqb, ne_eqb},
   Common.{◌≡◌, ℕ, ◌+◌, ◌-◌, ◌*◌, ◌<◌, ◌≤◌, zero, suc, List, [], ◌∷◌, ◌++◌, length, take, drop, map, get_or},
-  Common.false,
-  Common.{refl, sym, ◌∙◌, ap, arith, length-append, length-drop, ◌%◌, min, true, cond, eqb, if◌then◌else◌},
+  Common.{false, refl, sym, ◌∙◌, ap, arith, length-append, length-drop, ◌%◌, min, true, cond, eqb, if◌then◌else◌},
   Common.{◌==◌, inl, inr, nat_le, nat_lt, ◌&&◌},
   Math.{ListN.get_or-map, Nat.{mod-eq_of_lt, add-mod_right}},
 }
@@ -38,8 +37,7 @@ use Rattle.split_core.specs.{
 }
 use Rattle.split_core.proofs.CutLaws.{bytes_of_shares, cut_all}
 use Rattle.split_core.specs.laws.{
-  LimitLaws.{full_from, full_some, settled_then_waiting, short_from, short_some, whole_some},
-  LimitLaws.whole_within,
+  LimitLaws.{full_from, full_some, settled_then_waiting, short_from, short_some, whole_some, whole_within},
 }
 use Rattle.split_core.specs.laws.LimitLaws.{waits_few}
 use Rattle.split_core.specs.laws.CutLaws.{rest_short}

@@ -9,7 +9,7 @@ use Rattle.ports_core.{
   specs.{
     Engine.{cut},
     Slot.{Slot, is_writable},
-    Turn.fault_in,
+    InTurn.fault_in,
     inner.Write.Wrote,
     declared.fault.Fault.{Fault, TheVariants.Memory},
   },

@@ -28,10 +28,7 @@ use Rattle.ports_core.specs.{
   Part.{File, FilesBegin},
   declared.slot.State.TheVariants.{Open, Closed},
 }
-use Rattle.ports_core.proofs.{
-  AgreedLemmas.{none_comes, common, none_before, nothing_waits, AreFront},
-  AgreedLemmas.stretch_placed,
-}
+use Rattle.ports_core.proofs.{AgreedLemmas.{none_comes, common, none_before, nothing_waits, AreFront, stretch_placed}}
 use Rattle.split_core.specs.{
   Parts.{parts, cut_up, unless_empty, settled_rest, dealt},
   inner.{CutLaws.named, Dealt.share_of},

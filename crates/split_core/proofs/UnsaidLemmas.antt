@@ -8,10 +8,8 @@ use Rattle.std.proofs.{
   lemmas.List.nil_from_length,
   lemmas.List.FromFn.{get_or-map-range_with_len, length-map-range_with_len, map-range_with_len_more},
   Common.{◌≡◌, ℕ, ◌+◌, ◌-◌, ◌<◌, ◌≤◌, max, min, zero, suc, Bool, true, false, ◌||◌, nat_lt, List, [], ◌∷◌},
-  Common.{◌++◌, ◌⊎◌},
-  Common.{IfNone, length, map, take, drop, replicate, get_or, Option, Some, None, Result, Ok, Err, inl},
-  Common.{inr, refl},
-  Common.{sym, ◌∙◌, ap, arith, append_assoc},
+  Common.{◌++◌, ◌⊎◌, IfNone, length, map, take, drop, replicate, get_or, Option, Some, None, Result, Ok, Err, inl},
+  Common.{inr, refl, sym, ◌∙◌, ap, arith, append_assoc},
   Math.Seq.{drop-append-add, drop-nil},
 }
 use Rattle.ports_core.{
@@ -19,7 +17,7 @@ use Rattle.ports_core.{
     Part.{Begins, IsBeginning},
     Slot.Slot,
     declared.{fault.Fault.Fault, file_writer.Opening.TheVariants.Never},
-    Turn.fault_in,
+    InTurn.fault_in,
   },
   proofs.{
     PartLemmas.{part_begins_itself, part_trans},
@@ -29,18 +27,17 @@ use Rattle.ports_core.{
 }
 use Rattle.seg_core.specs.declared.{cut.Chunks.Chunks, unit.Unit.Unit as Counted}
 use Rattle.split_core.specs.{
-  Chunks.{before_chunk, pieces_in, begun_before, chunk_at, chunk_start, chunks_within, ended},
-  Chunks.{is_within, open_from},
+  Chunks.{before_chunk, pieces_in, begun_before, chunk_at, chunk_start, chunks_within, ended, is_within, open_from},
   Parts.{CutUp, uncut},
-  ChunkerState.{AimState, Carries, ChunkerState, Course, course_of, to_files, to_output, CutterState, Holds},
-  ChunkerState.{IsAimed, IsUnsaid, TargetState, can_cut, course, first_on, in_files, in_output, part_on, whole_on},
-  ChunkerState.{work, work_on},
+  ChunkerState.{AimState, Carries, ChunkerState, Course, course_of, to_files, to_output, CutterState, Holds, IsAimed},
+  ChunkerState.{IsUnsaid, SinkState, can_cut, course, first_on, in_files, in_output, part_on, whole_on, work},
+  ChunkerState.work_on,
   Split.manner_of,
   ChunkWork.draft_by,
   inner.Chunker.{EndsAs, PassesAs},
-  inner.Cutter.{BeginsBefore, Cuts, CutsAs, EndsFull, EndsHeld, IsCut, IsCutOff, IsFront, Settles, WritesTo},
+  inner.Cutter.{BeginsBefore, CutsMore, CutsAs, EndsFull, EndsHeld, IsCut, IsCutOff, IsFront, Settles, WritesTo},
   inner.Cutter.{all_before, cut_to},
-  inner.Sends.{Brings, Changes, EndsAll, Gives, Stays, with_fulls, with_rest},
+  inner.Brings.{Brings, Changes, EndsAll, Gives, Stays, with_fulls, with_rest},
   laws.ChunkLaws.{chunk_none, cut_all, ended_all, passed_open, ended_only, start_first, begin_then_rest},
   laws.ChunkLaws.start_by_size,
   laws.BegunLaws.{begun_of_none, begun_again, begun_begins, begun_monotone, begun_on, begun_some, begun_stays},
@@ -50,7 +47,7 @@ use Rattle.split_core.proofs.{
   ChunkerWays.{ends_at, passes_at},
   CutterLemmas.{cut_of, so_grows, fulls_are, grown, cutting, has_cut, name_of, no_line, open_early, some_in},
   ChunkerLemmas.{complete_all, past_is, whole_within},
-  TargetLemmas.{brings_none, brings_then, brings_wider, piece_full, stays_none, stays_then, whole_draft},
+  SinkLemmas.{brings_none, brings_then, brings_wider, piece_full, stays_none, stays_then, whole_draft},
 }
 
 -- What is settled is written
@@ -73,7 +70,7 @@ still_all cutter waiting end z (has, all) (inl none) = grind (arith, common_step
 still_all cutter waiting end z (has, all) (inr stops) = grind (arith, common_steps, or_parts, no_line, begun_stays, ltb-false)
 
 pub settles_none : {told : Bool} {cutter : CutterState} {waiting : List ℕ} {end : ℕ} {slots : List Slot}
-    → IsAimed cutter.target.aim slots
+    → IsAimed cutter.sink.aim slots
     → (length waiting ≡ 0) ⊎ (false ≡ (nat_lt cutter.at end || cutter.is_within))
     → Settles told cutter waiting end slots slots cutter waiting None
 settles_none {cutter = cutter} {waiting} {end} ready ends = record {
@@ -86,11 +83,11 @@ settles_none {cutter = cutter} {waiting} {end} ready ends = record {
 
 module _ {told : Bool} {cutter : CutterState} (waiting : List ℕ) (end : ℕ) {old : List Slot}
     (short : true ≡ (nat_lt cutter.at end || cutter.is_within)) where
-  gives_on : {next : TargetState} {new : List Slot} {fault : Option Fault}
-      → Changes told cutter.target (with_rest (cut_to cutter end waiting)) old new next fault → (z : List ℕ)
+  gives_on : {next : SinkState} {new : List Slot} {fault : Option Fault}
+      → Changes told cutter.sink (with_rest (cut_to cutter end waiting)) old new next fault → (z : List ℕ)
       → BeginsBefore cutter end z
-      → Gives told (course cutter) cutter.target next (uncut z) (uncut (all_before cutter waiting end z)) old new fault
-  gives_on changes z so = let has = so.0 in let less : cutter.target.place < cutter.chunks.count = omega (arith, some_in has) in
+      → Gives told (course cutter) cutter.sink next (uncut z) (uncut (all_before cutter waiting end z)) old new fault
+  gives_on changes z so = let has = so.0 in let less : cutter.sink.place < cutter.chunks.count = omega (arith, some_in has) in
       rw (writes_on _ _ z _ so short) (changes.gives (uncut z) (has.carries, name_of _ _ _ has.all less))
 
   pub settles_on : {next : CutterState} {left : List ℕ} {new : List Slot} {n : ℕ}
@@ -337,13 +334,13 @@ to_whole {cutter} {waiting} {size} z so = part_trans _ _ _ (so_grows (course cut
 module _ {told : Bool} {cutter mid : CutterState} {waiting : List ℕ} {size : ℕ} {old wet : List Slot} where
   gives_first : {fault : Option Fault} → EndsFull told cutter size old wet mid fault → {z : List ℕ}
       → IsFront cutter waiting size z
-      → Gives told (course cutter) cutter.target mid.target (uncut z) (chunks_within cutter.chunks size z) old wet fault
+      → Gives told (course cutter) cutter.sink mid.sink (uncut z) (chunks_within cutter.chunks size z) old wet fault
   gives_first {fault} ends {z} so =
-      let e : ended cutter.chunks size z - cutter.target.place ≡ ended cutter.chunks size z = omega (arith, so.cut.carries.placed) in
+      let e : ended cutter.chunks size z - cutter.sink.place ≡ ended cutter.chunks size z = omega (arith, so.cut.carries.placed) in
       let full = rw e at (ends.gives z (uncut z) (cut_off_so so)) in let some = some_in so.cut in let all = settled_cut so in record {
         brings = rw (part_same (course cutter) cutter.chunks size z some (omega arith) all) at full.brings;
         carries = where_well fault full.carries
-            (carries_same cutter.chunks size z mid.target.place mid.target.aim some (omega arith) (rw ends.stays.course all));
+            (carries_same cutter.chunks size z mid.sink.place mid.sink.aim some (omega arith) (rw ends.stays.course all));
       }
 
   pub held_not_ended : {why : Fault} → EndsFull told cutter size old wet mid (Some why)
@@ -357,9 +354,9 @@ module _ {told : Bool} {cutter mid : CutterState} {waiting : List ℕ} {size : �
 
   module _ (ends : EndsFull told cutter size old wet mid None) {done : List ℕ} {next : CutterState} {new : List Slot}
       {fault : Option Fault} (few : length done ≤ length waiting)
-      (cuts : Cuts told mid size done wet new next fault) where
+      (cuts : CutsMore told mid size done wet new next fault) where
     rest_cut : (z : List ℕ) → IsFront cutter waiting size z
-        → Brings told (course cutter) cutter.target.aim next.target.aim (part_on (course cutter) (uncut z))
+        → Brings told (course cutter) cutter.sink.aim next.sink.aim (part_on (course cutter) (uncut z))
         (part_on (course cutter) (chunks_within cutter.chunks size (z ++ done))) old new fault
         × IfNone fault (IsCut next size (z ++ done))
     rest_cut z so = let stays = ends.stays.course in let first = gives_first ends so in
@@ -380,7 +377,7 @@ module _ {told : Bool} {cutter mid : CutterState} {waiting : List ℕ} {size : �
 
   pub held_not_cut : {next : CutterState} {new : List Slot} {why : Fault}
       → size ≡ cutter.at + length waiting → EndsFull told cutter size old wet mid None
-      → Cuts told mid size (take (min (length waiting) (size - mid.at)) waiting) wet new next (Some why)
+      → CutsMore told mid size (take (min (length waiting) (size - mid.at)) waiting) wet new next (Some why)
       → EndsHeld told cutter waiting size old new next [] (Some why)
   held_not_cut all ends stopped =
       let same = take_all (min (length waiting) (size - mid.at)) waiting (omega arith) in
@@ -395,7 +392,7 @@ module _ {told : Bool} {cutter mid : CutterState} {waiting : List ℕ} {size : �
   pub held_ends : {later next : CutterState} {left : ℕ} {between new : List Slot} (fault : Option Fault)
       → size ≡ cutter.at + length waiting → EndsFull told cutter size old wet mid None
       → CutsAs told mid size waiting wet between later left
-      → EndsAll told later.target between new next.target fault → next.chunks ≡ later.chunks → next.at ≡ later.at
+      → EndsAll told later.sink between new next.sink fault → next.chunks ≡ later.chunks → next.at ≡ later.at
       → EndsHeld told cutter waiting size old new next [] fault
   held_ends {later} {left = left} {between} fault all ends cuts last chunks at = record {
     chunks = chunks ∙ is;
@@ -413,7 +410,7 @@ module _ {told : Bool} {cutter mid : CutterState} {waiting : List ℕ} {size : �
     is : later.chunks ≡ cutter.chunks
     is = cuts.cuts.chunks ∙ ends.chunks
 
-    first : Stays (course cutter) cutter.target.aim later.target.aim old between None
+    first : Stays (course cutter) cutter.sink.aim later.sink.aim old between None
     first = stays_then ends.stays (rw ends.stays.course at cuts.cuts.stays)
 
     whole : (z : List ℕ) → IsFront cutter waiting size z → IsCut later size (z ++ done)
@@ -445,7 +442,7 @@ well_none (in_files filing elide) chunks x = refl
 well_none (in_output chunk) chunks x = refl
 
 pub ends_unsaid : {told : Bool} {chunker next : ChunkerState} {size : ℕ} {old new : List Slot}
-    (result : Result (Unit {0}) Fault) → IsAimed chunker.cutter.target.aim old
+    (result : Result (Unit {0}) Fault) → IsAimed chunker.cutter.sink.aim old
     → chunker.said ≡ None → next.said ≡ chunker.said → next.spare ≡ chunker.spare
     → size ≡ chunker.cutter.at + length chunker.waiting
     → EndsHeld told chunker.cutter chunker.waiting size old new next.cutter next.waiting (fault_in result)

@@ -27,7 +27,7 @@ use Rattle.split_core.specs.declared.splitter.Splitter.TheVariants as way
 
 -- what came in completes the output where what is used does
 complete_by : (said : Option ℕ) (state : ChunkerState) (x : List ℕ) → is_some said ≡ true → HoldsBy said state x
-    → is_past_on state.cutter.target ≡ (work_on (course state.cutter) state.cutter.chunks said).is_complete x
+    → is_past_on state.cutter.sink ≡ (work_on (course state.cutter) state.cutter.chunks said).is_complete x
 complete_by None state x some holds = cc
 complete_by (Some size) state x some holds = past_is (cut_is holds) ∙ elim holds.spare.enough [
   | inl none ↦ ap (said_work state.cutter size).is_complete
@@ -38,7 +38,7 @@ complete_by (Some size) state x some holds = past_is (cut_is holds) ∙ elim hol
 ]
 
 pub complete_is : (state : ChunkerState) (x : List ℕ) → is_some state.said ≡ true → Holds state x
-    → is_past_on state.cutter.target ≡ (work state).is_complete x
+    → is_past_on state.cutter.sink ≡ (work state).is_complete x
 complete_is state x some holds = complete_by state.said state x some holds
 
 -- where the input doesn't say its length, the output is never complete

@@ -2,14 +2,13 @@
 -- they agree on is said of each output by itself.
 use Rattle.std.specs.{
   Prelude.{◌≡◌, ◌≢◌, ◌⊎◌, ℕ, ◌-◌, ◌<◌, ◌≤◌, suc, nat_lt, true, List, [], ◌∷◌, ◌++◌, get_or, length, take},
-  Prelude.Option,
-  Prelude.if◌then◌else◌,
+  Prelude.{Option, if◌then◌else◌},
 }
 use Rattle.seg_core.specs.{Line.joined, declared.cut.Chunks.Chunks}
 use Rattle.ports_core.specs.{
   Agreed.{CanCome, Spot, file_bytes, output_at, spots_from},
   Part.{File, Part, IsBeginning, Begins},
-  Turn.AllClosed,
+  InTurn.AllClosed,
   Work.Work,
   declared.slot.State.TheVariants.Open,
 }

@@ -26,7 +26,7 @@ pub data AimState : Type 0 where
   -- the one at this place to standard output
   to_output : ℕ → AimState
 
-pub record TargetState : Type 0 where
+pub record SinkState : Type 0 where
   -- the place of the chunk that was begun
   pub place : ℕ
   pub aim : AimState
@@ -58,12 +58,14 @@ abbrev pub whole_on : Course → CutUp → Part
 whole_on (in_files filing elide) cut = part_of (manner_of filing) (map (share Closed) (files_by elide cut))
 whole_on (in_output chunk) cut = piece_at chunk cut
 
--- what is made of an input, and in both ways what is decided of it is written
+-- what is made of an input
 abbrev way_on : Course → Chunks → Option ℕ → Work
 way_on (in_files filing elide) chunks said =
     chunks_work (record { chunks = chunks; elide = elide; filing = filing }) said
 way_on (in_output chunk) chunks said = chunk_work chunk chunks said
 
+-- The same, said of any course: what is decided is written, and in the end the whole. (These fields are those that the
+-- works of both courses have.)
 abbrev pub work_on : Course → Chunks → Option ℕ → Work
 work_on on chunks said = record (way_on on chunks said) {
   settled = λ x. part_on on (decided chunks (first_on on) said x);
@@ -82,9 +84,9 @@ CanHave (to_files writer elide) cut = Writes (manner_of (filing_by writer)) writ
 CanHave (to_output chunk) cut = Unit {0}
 
 -- it can have been given this
-pub record Carries (target : TargetState) (cut : CutUp) : Type 0 where
-  pub placed : length cut.full ≡ target.place
-  pub has : CanHave target.aim cut
+pub record Carries (sink : SinkState) (cut : CutUp) : Type 0 where
+  pub placed : length cut.full ≡ sink.place
+  pub has : CanHave sink.aim cut
 
 -- the outputs that it goes on with can be written, and standard output isn't told sizes
 abbrev pub IsAimed : AimState → List Slot → Type 0
@@ -104,7 +106,7 @@ pub record CutterState : Type 0 where
   pub at : ℕ
   -- they end within a line, where lines matter
   pub is_within : Bool
-  pub target : TargetState
+  pub sink : SinkState
 
 pub record ChunkerState : Type 0 where
   -- how long the input is, where it said so
@@ -120,7 +122,7 @@ abbrev pub total : ChunkerState → ℕ
 total chunker = chunker.cutter.at + length chunker.waiting + chunker.spare
 
 abbrev pub course : CutterState → Course
-course cutter = course_of cutter.target.aim
+course cutter = course_of cutter.sink.aim
 
 -- there are such chunks
 abbrev pub can_cut : Course → ℕ → Bool
@@ -136,7 +138,7 @@ pub record HasCut (cutter : CutterState) (x : List ℕ) (cut : CutUp) : Type 0 w
   pub all : HasAll (course cutter) cutter.chunks.count
   pub at : cutter.at ≡ length x
   pub within : cutter.is_within ≡ is_within cutter.chunks.unit cutter.chunks.delim x
-  pub carries : Carries cutter.target cut
+  pub carries : Carries cutter.sink cut
 
 -- x can be what came in, where the size wasn't said
 pub record IsUnsaid (chunker : ChunkerState) (x : List ℕ) : Type 0 where
@@ -162,7 +164,7 @@ abbrev pub Holds : ChunkerState → List ℕ → Type 0
 Holds chunker x = HoldsBy chunker.said chunker x
 
 abbrev pub Ready : ChunkerState → List Slot → Type 0
-Ready chunker slots = IsAimed chunker.cutter.target.aim slots
+Ready chunker slots = IsAimed chunker.cutter.sink.aim slots
 
 abbrev pub Owns : ChunkerState → ℕ → List Slot → Type 0
-Owns chunker first slots = OwnsAim chunker.cutter.target.aim first slots
+Owns chunker first slots = OwnsAim chunker.cutter.sink.aim first slots

@@ -2,8 +2,7 @@
 -- `-n l/N`.
 use Rattle.std.specs.{
   Prelude.{ℕ, zero, suc, ◌+◌, ◌*◌, ◌/◌, ◌%◌, ◌==◌, ◌<◌, ◌≤◌, nat_lt, nat_le, min, Bool, true, false, List, []},
-  Prelude.◌∷◌,
-  Prelude.{◌++◌, length, take, drop, map, filter, Option, Some, None, get_or, ◌≡◌, if◌then◌else◌},
+  Prelude.{◌∷◌, ◌++◌, length, take, drop, map, filter, Option, Some, None, get_or, ◌≡◌, if◌then◌else◌},
   List.{flat_map, range_with_len},
 }
 use Rattle.seg_core.specs.{
@@ -113,7 +112,7 @@ BeginInChunks delim n input pieces = (place i : ℕ) → place < n → i < line_
     → IsInChunk n (length input) place (length (first_lines delim i input))
     → IsInPiece pieces place (length (first_lines delim i input))
 
--- what isn't decided yet: all that comes after
+-- what isn't decided yet: without a size all after `before_chunk`
 abbrev pub undecided : Chunks → ℕ → Option ℕ → List ℕ → List ℕ
 undecided chunks first None x = drop (length (before_chunk chunks (length x) first x)) x
 undecided chunks first (Some size) x = []

@@ -1,14 +1,14 @@
 //! Cutting an input into chunks.
 ghost use Rattle.std.specs.Prelude.{◌≡◌, ◌+◌, ◌<◌, ◌^◌, ◌≤◌, ◌||◌, length, min, nat_lt, true};
-ghost use Rattle.ports_core.specs.Turn.{fault_in};
+ghost use Rattle.ports_core.specs.InTurn.{fault_in};
 ghost use Rattle.split_core.specs.{
   Chunks.chunk_start as start_of,
   ChunkerState.IsAimed,
-  inner.Cutter.{CutsSo, EndsFull, EndsHeld, Settles, Steps, WritesTo, seen_cutter},
+  inner.Cutter.{CutsSo, EndsFull, EndsHeld, Settles, CutsStretch, WritesTo, seen_cutter},
 };
 
 use crate::chunk_cut::{chunk_start, ends_within, next_cut};
-use crate::chunk_target::Target;
+use crate::chunk_sink::ChunkSink;
 use crate::waiting::Waiting;
 use ports_core::{Fault, Outs};
 use seg_core::cut::Chunks;
@@ -21,7 +21,7 @@ pub(crate) struct ChunkCutter {
     pub(crate) at: u64,
     /// Whether these end within a line, where lines matter.
     pub(crate) is_within: bool,
-    pub(crate) target: Target,
+    pub(crate) sink: ChunkSink,
 }
 
 impl ChunkCutter {
@@ -30,21 +30,21 @@ impl ChunkCutter {
     ///
     /// # Errors
     ///
-    /// Those of `Target::put`.
+    /// Those of `ChunkSink::put`.
     pub(crate) fn write_to<O: Outs>(
         &mut self,
         end: u64,
         text: &[u8],
         outs: &mut O,
     ) -> Result<usize, Fault>
-        requires ready { IsAimed (seen_cutter self.old).target.aim (O.slots outs.old) }
+        requires ready { IsAimed (seen_cutter self.old).sink.aim (O.slots outs.old) }
         requires some { 0 < length text.now }
         requires fits { self.old.at + length text.now < 2 ^ 64 }
         ensures { WritesTo O.told (seen_cutter self.old) end text.now (O.slots outs.old) (O.slots outs.new)
             (seen_cutter self.new) result }
     {
         let n = next_cut(self.chunks, end.saturating_sub(self.at), text);
-        self.target.put(&text[..n], outs)?;
+        self.sink.put(&text[..n], outs)?;
         self.is_within = ends_within(self.chunks, &text[..n]);
         self.at += n as u64;
         Ok(n)
@@ -61,9 +61,9 @@ impl ChunkCutter {
     fn end_of(&self, size: u64) -> u64
         requires { 0 < self.now.chunks.count }
         ensures { result ≡ start_of self.now.chunks.count size
-            (min ((seen_cutter self.now).target.place + 1) self.now.chunks.count) }
+            (min ((seen_cutter self.now).sink.place + 1) self.now.chunks.count) }
     {
-        let next = self.target.place.saturating_add(1);
+        let next = self.sink.place.saturating_add(1);
         chunk_start(self.chunks.count, size, next.min(self.chunks.count))
     }
 
@@ -71,9 +71,9 @@ impl ChunkCutter {
     ///
     /// # Errors
     ///
-    /// Those of `Target::next`.
+    /// Those of `ChunkSink::next`.
     pub(crate) fn end_full<O: Outs>(&mut self, size: u64, outs: &mut O) -> Result<(), Fault>
-        requires ready { IsAimed (seen_cutter self.old).target.aim (O.slots outs.old) }
+        requires ready { IsAimed (seen_cutter self.old).sink.aim (O.slots outs.old) }
         requires some { 0 < self.old.chunks.count }
         ensures { EndsFull O.told (seen_cutter self.old) size (O.slots outs.old) (O.slots outs.new)
             (seen_cutter self.new) (fault_in result) }
@@ -86,16 +86,16 @@ impl ChunkCutter {
 
     /// The same, where no line is open before the end.
     fn end_all<O: Outs>(&mut self, size: u64, outs: &mut O) -> Result<(), Fault>
-        requires ready { IsAimed (seen_cutter self.old).target.aim (O.slots outs.old) }
+        requires ready { IsAimed (seen_cutter self.old).sink.aim (O.slots outs.old) }
         requires some { 0 < self.old.chunks.count }
         requires whole { self.old.is_within ≡ true → size ≤ self.old.at }
         ensures { EndsFull O.told (seen_cutter self.old) size (O.slots outs.old) (O.slots outs.new)
             (seen_cutter self.new) (fault_in result) }
     {
-        'places: while self.target.place < self.chunks.count
-            && chunk_start(self.chunks.count, size, self.target.place + 1) <= self.at
+        'places: while self.sink.place < self.chunks.count
+            && chunk_start(self.chunks.count, size, self.sink.place + 1) <= self.at
         {
-            self.target.next(outs)?;
+            self.sink.next(outs)?;
         }
         Ok(())
     }
@@ -107,11 +107,11 @@ impl ChunkCutter {
         text: &[u8],
         outs: &mut O,
     ) -> Result<usize, Fault>
-        requires ready { IsAimed (seen_cutter self.old).target.aim (O.slots outs.old) }
+        requires ready { IsAimed (seen_cutter self.old).sink.aim (O.slots outs.old) }
         requires some { 0 < self.old.chunks.count }
         requires text { 0 < length text.now }
         requires fits { self.old.at + length text.now < 2 ^ 64 }
-        ensures { Steps O.told (seen_cutter self.old) size text.now (O.slots outs.old) (O.slots outs.new)
+        ensures { CutsStretch O.told (seen_cutter self.old) size text.now (O.slots outs.old) (O.slots outs.new)
             (seen_cutter self.new) result }
     {
         let end = self.end_of(size);
@@ -127,14 +127,14 @@ impl ChunkCutter {
     ///
     /// # Errors
     ///
-    /// Those of `Target::put` and `Target::next`.
+    /// Those of `ChunkSink::put` and `ChunkSink::next`.
     pub(crate) fn cut<O: Outs>(
         &mut self,
         size: u64,
         text: &[u8],
         outs: &mut O,
     ) -> Result<usize, Fault>
-        requires ready { IsAimed (seen_cutter self.old).target.aim (O.slots outs.old) }
+        requires ready { IsAimed (seen_cutter self.old).sink.aim (O.slots outs.old) }
         requires some { 0 < self.old.chunks.count }
         requires fits { self.old.at + length text.now < 2 ^ 64 }
         ensures { CutsSo O.told (seen_cutter self.old) size text.now (O.slots outs.old) (O.slots outs.new)
@@ -144,7 +144,7 @@ impl ChunkCutter {
         let past = text.len() - own;
         let mut left = &text[..own];
         'stretches: while !left.is_empty() {
-            if self.target.is_past() {
+            if self.sink.is_past() {
                 return Ok(left.len() + past);
             }
             let n = self.step(size, left, outs)?;
@@ -157,14 +157,14 @@ impl ChunkCutter {
     ///
     /// # Errors
     ///
-    /// Those of `Target::put`.
+    /// Those of `ChunkSink::put`.
     pub(crate) fn settle<O: Outs>(
         &mut self,
         waiting: &mut Waiting,
         end: u64,
         outs: &mut O,
     ) -> Result<(), Fault>
-        requires ready { IsAimed (seen_cutter self.old).target.aim (O.slots outs.old) }
+        requires ready { IsAimed (seen_cutter self.old).sink.aim (O.slots outs.old) }
         requires fits { self.old.at + length waiting.old < 2 ^ 64 }
         ensures { Settles O.told (seen_cutter self.old) waiting.old end (O.slots outs.old) (O.slots outs.new)
             (seen_cutter self.new) waiting.new (fault_in result) }
@@ -185,13 +185,13 @@ impl ChunkCutter {
     ///
     /// # Errors
     ///
-    /// Those of `Target::put` and `Target::next`.
+    /// Those of `ChunkSink::put` and `ChunkSink::next`.
     pub(crate) fn finish<O: Outs>(
         &mut self,
         waiting: &mut Waiting,
         outs: &mut O,
     ) -> Result<(), Fault>
-        requires ready { IsAimed (seen_cutter self.old).target.aim (O.slots outs.old) }
+        requires ready { IsAimed (seen_cutter self.old).sink.aim (O.slots outs.old) }
         requires some { 0 < self.old.chunks.count }
         requires fits { self.old.at + length waiting.old < 2 ^ 64 }
         ensures { EndsHeld O.told (seen_cutter self.old) waiting.old (self.old.at + length waiting.old)
@@ -202,6 +202,6 @@ impl ChunkCutter {
         let cut = self.cut(size, waiting.bytes(), outs);
         waiting.clear();
         cut?;
-        self.target.end(outs)
+        self.sink.end(outs)
     }
 }

@@ -1,6 +1,6 @@
 //! Laws of chunks, with no code: each stands on the contract of a function whose body is empty.
 ghost use Rattle.std.specs.{
-  Prelude.{◌≡◌, ◌<◌, ◌≤◌, ◌+◌, ◌-◌, ◌++◌, ◌/◌, ◌%◌, ℕ, List, [], Option, Some, drop, false, get_or, length, take, true},
+  Prelude.{◌≡◌, ◌<◌, ◌≤◌, ◌+◌, ◌-◌, ◌++◌, ℕ, List, [], Option, Some, drop, false, get_or, length, take, true},
   List.{filter, flat_map, range_with_len},
 };
 ghost use Rattle.ports_core.specs.{
@@ -10,7 +10,7 @@ ghost use Rattle.ports_core.specs.{
   declared.verdict.Verdict.TheVariants.Changed,
 };
 ghost use Rattle.seg_core.specs.{
-  Line.{first_lines, joined, line_count, lines_of},
+  Line.joined,
   declared.{cut.{Chunks.Chunks, Cut.TheVariants.Round}, unit.Unit.TheVariants.{Bytes, Lines}},
 };
 ghost use Rattle.split_core.specs.{

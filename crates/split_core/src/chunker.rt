@@ -4,7 +4,7 @@ ghost use Rattle.split_core.specs.{
   ChunkerState.{Carries, HasAll, Holds, Ready, can_cut, course, course_of, total, work, work_on},
   Parts.uncut,
   Alike.as_if,
-  inner.{Seen.seen_target, Chunker.{EndsAs, PassesAs, TakesFront}},
+  inner.{Seen.seen_sink, Chunker.{EndsAs, PassesAs, TakesFront}},
 };
 ghost use Rattle.ports_core.specs.{Engine.{Loads, MayGet}, Source.is_readable};
 ghost use Rattle.split_core.specs.Ways as ways;
@@ -12,7 +12,7 @@ ghost use Rattle.split_core.specs.declared.splitter.Splitter.TheVariants as way;
 
 use crate::chunk_cut::chunk_start;
 use crate::chunk_cutter::ChunkCutter;
-use crate::chunk_target::{Aim, Target};
+use crate::chunk_sink::{Aim, ChunkSink};
 use crate::waiting::Waiting;
 use ports_core::{Fault, Inputs, Outs, Verdict, pass_over};
 use seg_core::cut::Chunks;
@@ -53,21 +53,21 @@ impl Model for Chunker {
 
 impl Chunker {
     /// Chunks of an input of which no byte came in yet, which is this long if it said that.
-    pub(crate) fn open(alloc: Global, chunks: Chunks, said: Option<u64>, target: Target) -> Chunker
-        requires can { can_cut (course_of (seen_target target).aim) chunks.count ≡ true }
-        requires all { HasAll (course_of (seen_target target).aim) chunks.count }
+    pub(crate) fn open(alloc: Global, chunks: Chunks, said: Option<u64>, sink: ChunkSink) -> Chunker
+        requires can { can_cut (course_of (seen_sink sink).aim) chunks.count ≡ true }
+        requires all { HasAll (course_of (seen_sink sink).aim) chunks.count }
         requires long { IfSome said (λ size. 0 < size) }
-        requires fresh { Carries (seen_target target) (uncut []) }
+        requires fresh { Carries (seen_sink sink) (uncut []) }
         ensures holds { Holds result [] }
-        ensures does { work result ≡ work_on (course_of (seen_target target).aim) chunks said }
+        ensures does { work result ≡ work_on (course_of (seen_sink sink).aim) chunks said }
         ensures none { total result ≡ 0 }
-        ensures aim { result.cutter.target.aim ≡ (seen_target target).aim }
+        ensures aim { result.cutter.sink.aim ≡ (seen_sink sink).aim }
     {
         let cutter = ChunkCutter {
             chunks,
             at: 0,
             is_within: false,
-            target,
+            sink,
         };
         Chunker {
             said,
@@ -112,7 +112,7 @@ impl Chunker {
         }
         self.cutter.at = front;
         self.cutter.is_within = is_within;
-        self.cutter.target.place = place;
+        self.cutter.sink.place = place;
         front
     }
 
@@ -124,7 +124,7 @@ impl Chunker {
         ensures { IfSome result (TakesFront self.now) }
     {
         let size = self.said?;
-        let Aim::Output { chunk } = &self.cutter.target.aim else {
+        let Aim::Output { chunk } = &self.cutter.sink.aim else {
             return None;
         };
         let count = self.cutter.chunks.count;
@@ -171,7 +171,7 @@ impl Chunker {
     pub(crate) fn is_complete(&self) -> bool
         ensures { (x : List ℕ) → Holds self.now x → result ≡ (work self.now).is_complete x }
     {
-        self.said.is_some() && self.cutter.target.is_past()
+        self.said.is_some() && self.cutter.sink.is_past()
     }
 
     /// How many bytes the next piece may have: where one chunk is written, as many as are missing to its end; one at least.
@@ -179,7 +179,7 @@ impl Chunker {
         ensures some { 0 < result }
         ensures few { MayGet (as_if ways.terms) (way.Chunks self.now) result }
     {
-        match (self.said, &self.cutter.target.aim) {
+        match (self.said, &self.cutter.sink.aim) {
             (Some(size), Aim::Output { chunk }) => {
                 let end = chunk_start(self.cutter.chunks.count, size, *chunk + 1);
                 end.saturating_sub(self.cutter.at).max(1)
@@ -196,7 +196,7 @@ impl Chunker {
         ensures { PassesAs O.told self.old piece.now (O.slots outs.old) (O.slots outs.new) self.new result }
     {
         let past = self.cutter.cut(size, piece, outs)?;
-        if past > 0 && self.cutter.target.is_each() {
+        if past > 0 && self.cutter.sink.is_each() {
             return Err(Fault::Verdict(Verdict::Changed));
         }
         self.spare += past as u64;
@@ -212,7 +212,7 @@ impl Chunker {
     {
         self.waiting.put(piece)?;
         let size = self.cutter.at + self.waiting.len();
-        let first = self.cutter.target.first();
+        let first = self.cutter.sink.first();
         let end = chunk_start(self.cutter.chunks.count, size, first);
         self.cutter.settle(&mut self.waiting, end, outs)
     }
@@ -223,8 +223,8 @@ impl Chunker {
         requires ready { Ready self.old (O.slots outs.old) }
         ensures { EndsAs O.told self.old (O.slots outs.old) (O.slots outs.new) self.new result }
     {
-        self.cutter.target.end(outs)?;
-        if self.cutter.at < size && !self.cutter.target.is_past() {
+        self.cutter.sink.end(outs)?;
+        if self.cutter.at < size && !self.cutter.sink.is_past() {
             return Err(Fault::Verdict(Verdict::Changed));
         }
         Ok(())

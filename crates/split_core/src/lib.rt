@@ -4,7 +4,7 @@
 mod chunk_cut;
 mod chunk_cutter;
 mod chunk_laws;
-mod chunk_target;
+mod chunk_sink;
 mod chunker;
 mod complete_lines;
 mod deal;

@@ -2,12 +2,12 @@
 //! take memory for names, and for twice the most bytes that waited: fewer than a part has, and only under a limit of bytes for
 //! whole lines.
 ghost use Rattle.std.specs.Prelude.{◌≡◌, ◌+◌, ◌-◌, ◌++◌, ◌<◌, [], length, IfOk, IfErr, OnOk};
-ghost use Rattle.ports_core.specs.{FileWriter.new_writer, Turn.fault_in, declared.file_writer.Keeps.TheVariants.Open};
+ghost use Rattle.ports_core.specs.{FileWriter.new_writer, InTurn.fault_in, declared.file_writer.Keeps.TheVariants.Open};
 ghost use Rattle.seg_core.specs.Cut.{most};
 ghost use Rattle.split_core.specs.{
   PartsState.{IsReady, Stands, parts_work, work},
   Split.{TellsNoSizes, is_verbose},
-  inner.Takes.{Extends, Finishes, Steps, Takes, Turns},
+  inner.Takes.{Extends, Finishes, TakesStretch, Takes, BeginsNext},
 };
 
 use crate::Limit;
@@ -85,7 +85,8 @@ impl Parts {
     fn turn<O: Outs>(&mut self, bytes: &[u8], outs: &mut O) -> Result<(), Fault>
         requires ready { IsReady self.old (O.slots outs.old) }
         requires room { length self.old.waiting + length bytes.now < most self.old.limit }
-        ensures { Turns O.told self.old bytes.now (O.slots outs.old) (O.slots outs.new) self.new (fault_in result) }
+        ensures { BeginsNext O.told self.old bytes.now (O.slots outs.old) (O.slots outs.new) self.new
+            (fault_in result) }
     {
         let size = (self.waiting.len() + bytes.len()) as u64;
         self.writer.next(Opening::Late, outs)?;
@@ -111,7 +112,7 @@ impl Parts {
     fn step<O: Outs>(&mut self, piece: &[u8], outs: &mut O) -> Result<usize, Fault>
         requires some { 0 < length piece.now }
         requires ready { IsReady self.old (O.slots outs.old) }
-        ensures { Steps O.told self.old piece.now (O.slots outs.old) (O.slots outs.new) self.new result }
+        ensures { TakesStretch O.told self.old piece.now (O.slots outs.old) (O.slots outs.new) self.new result }
     {
         match next_step(self.limit, self.left, self.has_line, piece) {
             Step::Goes {

@@ -17,7 +17,7 @@ ghost use Rattle.split_core.specs.{
 };
 ghost use Rattle.seg_core.specs.Cut.{IsWay};
 
-use crate::chunk_target::Target;
+use crate::chunk_sink::ChunkSink;
 use crate::chunker::Chunker;
 use crate::parts::Parts;
 use crate::round_splitter::RoundSplitter;
@@ -94,12 +94,12 @@ impl Splitter {
                 Ok(Guarded::new(Splitter::Round(round)))
             }
             Way::Chunks(chunks) => {
-                let target = Target::files(alloc, naming, elide, tells);
-                let chunker = Chunker::open(alloc, chunks, said, target);
+                let sink = ChunkSink::files(alloc, naming, elide, tells);
+                let chunker = Chunker::open(alloc, chunks, said, sink);
                 Ok(Guarded::new(Splitter::Chunks(chunker)))
             }
             Way::Chunk(place, chunks) => {
-                let chunker = Chunker::open(alloc, chunks, said, Target::output(place));
+                let chunker = Chunker::open(alloc, chunks, said, ChunkSink::output(place));
                 Ok(Guarded::new(Splitter::Chunks(chunker)))
             }
             Way::Turn(place, count, delim) => {

@@ -1,8 +1,8 @@
 -- What all continuations agree on, of a copied input.
 use Rattle.std.proofs.{
   lemmas.{Grind.common_steps, Bool.{cond_both, lt-ltb}},
-  Common.{◌≡◌, ℕ, ◌+◌, ◌<◌, ◌≤◌, zero, suc, List, [], ◌∷◌, ◌++◌, length, map, get_or, Bool, inl, inr, refl, sym, ◌∙◌},
-  Common.{ap, arith},
+  Common.{◌≡◌, ℕ, ◌+◌, ◌<◌, ◌≤◌, zero, suc, List, [], ◌∷◌, ◌++◌, length, map, get_or, Bool, inl, inr, refl, sym},
+  Common.{◌∙◌, ap, arith},
 }
 use Rattle.ports_core.{
   specs.Agreed.{IsAgreed, IsUndecided, Spot, spot, output_at, GoesTo, ArePlaced},

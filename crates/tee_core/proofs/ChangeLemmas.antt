@@ -2,12 +2,11 @@
 use Rattle.std.proofs.{
   lemmas.{Grind.common_steps, Bool.{cases_eq, cases_lt, Decides.nat_tests}, List.take-append-le},
   Common.{◌≡◌, ℕ, ◌+◌, ◌<◌, ◌≤◌, zero, suc, List, [], ◌∷◌, length, Bool, true, false, not, ◌&&◌, if◌then◌else◌},
-  Common.◌⊎◌,
-  Common.{inl, inr, refl, sym, ◌∙◌, ap, arith, ◌++◌, take, length-append},
+  Common.{◌⊎◌, inl, inr, refl, sym, ◌∙◌, ap, arith, ◌++◌, take, length-append},
   Math.Seq.take-append-add,
 }
 use Rattle.tee_core.specs.{
-  inner.Turns.Turns,
+  inner.ChangesSome.ChangesSome,
   Outputs.{ChangesEach, newly_broken, Closes, Gets, gets_all, breaks_off, gets_none, is_closed, fails_to_close},
   Outputs.{was_broken, IsFile, IsOutput, IsUsable},
   TeeState.TeeState,
@@ -26,17 +25,22 @@ open_within [] place opened = absurd (cc)
 open_within (slot ∷ slots) zero opened = omega arith
 open_within (slot ∷ slots) (suc place) opened = omega (arith, open_within slots place opened)
 
--- one output was changed
-
 -- how many broke
 
 -- what is broken stays so
 abbrev pub StayBroken : List Slot → List Slot → Type 0
 StayBroken old new = (place : ℕ) → (slot_at old place).is_broken ≡ true → (slot_at new place).is_broken ≡ true
 
+-- one change alone leaves it so
+abbrev pub KeepsBroken : (Slot → Slot → Type 0) → Type 0
+KeepsBroken Change = (before after : Slot) → Change before after → before.is_broken ≡ true → after.is_broken ≡ true
+
+-- whether a place is one of these can be told
+abbrev pub IsDecided : (ℕ → Type 0) → Type 0
+IsDecided IsOne = (place : ℕ) → IsOne place ⊎ (IsOne place → ⊥)
+
 pub stay_broken : {Change : Slot → Slot → Type 0} {IsOne : ℕ → Type 0} {old new : List Slot}
-    → ((before after : Slot) → Change before after → before.is_broken ≡ true → after.is_broken ≡ true)
-    → ((place : ℕ) → IsOne place ⊎ (IsOne place → ⊥)) → ChangesEach Change IsOne old new → StayBroken old new
+    → KeepsBroken Change → IsDecided IsOne → ChangesEach Change IsOne old new → StayBroken old new
 stay_broken {Change} {IsOne} {old} {new} stays decides changes = λ place broken. by place (decides place) broken where
   by : (place : ℕ) → IsOne place ⊎ (IsOne place → ⊥) → (slot_at old place).is_broken ≡ true
       → (slot_at new place).is_broken ≡ true
@@ -84,27 +88,26 @@ newly_in_two (o ∷ olds) (m ∷ mids) (n ∷ news) count_mid count_new first se
 newly_in_two old mid new count_mid count_new first second = absurd (omega arith)
 
 pub turned_none : {Change : Slot → Slot → Type 0} {IsOne : ℕ → Type 0} {slots : List Slot}
-    → ((place : ℕ) → IsOne place → ⊥) → Turns Change IsOne slots slots 0
+    → ((place : ℕ) → IsOne place → ⊥) → ChangesSome Change IsOne slots slots 0
 turned_none none = grind (arith, common_steps, newly_none)
 
 pub turned_same : {Change : Slot → Slot → Type 0} (place : ℕ) {slots : List Slot}
-    → Change (slot_at slots place) (slot_at slots place) → Turns Change (λ other. other ≡ place) slots slots 0
+    → Change (slot_at slots place) (slot_at slots place) → ChangesSome Change (λ other. other ≡ place) slots slots 0
 turned_same place changes = grind (arith, common_steps, newly_none)
 
 pub turned_one : {Change : Slot → Slot → Type 0} (place : ℕ) (change : Slot → Slot) {flag : Bool} {old new : List Slot}
     → place < length old → (slot_at old place).is_broken ≡ false → (change (slot_at old place)).is_broken ≡ flag
     → Change (slot_at old place) (change (slot_at old place)) → new ≡ changed_at place change old
-    → Turns Change (λ other. other ≡ place) old new (if flag then 1 else 0)
+    → ChangesSome Change (λ other. other ≡ place) old new (if flag then 1 else 0)
 turned_one place change within sound breaks changes is =
     grind (arith, common_steps, length-changed_at, slot_at-changed, slot_at-elsewhere, newly_one)
 
 pub turned_both : {Change : Slot → Slot → Type 0} {IsOne IsOther IsEither : ℕ → Type 0} {old mid new : List Slot}
-    (broke more : ℕ) → ((before after : Slot) → Change before after → before.is_broken ≡ true → after.is_broken ≡ true)
-    → ((place : ℕ) → IsOne place ⊎ (IsOne place → ⊥)) → ((place : ℕ) → IsOther place ⊎ (IsOther place → ⊥))
+    (broke more : ℕ) → KeepsBroken Change → IsDecided IsOne → IsDecided IsOther
     → ((place : ℕ) → IsOne place → IsOther place → ⊥) → ((place : ℕ) → IsOne place ⊎ IsOther place → IsEither place)
     → ((place : ℕ) → IsEither place → IsOne place ⊎ IsOther place)
-    → Turns Change IsOne old mid broke → Turns Change IsOther mid new more
-    → Turns Change IsEither old new (broke + more)
+    → ChangesSome Change IsOne old mid broke → ChangesSome Change IsOther mid new more
+    → ChangesSome Change IsEither old new (broke + more)
 turned_both {Change} {IsOne} {IsOther} {old} {mid} {new} broke more stays first_is second_is apart to from first second = record {
   changes = record {
     count = cc;
@@ -122,15 +125,15 @@ turned_both {Change} {IsOne} {IsOther} {old} {mid} {new} broke more stays first_
 -- the loops go over the files from the first on
 
 pub record InTurn (Change : Slot → Slot → Type 0) (first n : ℕ) (old now : List Slot) (broke : ℕ) : Type 0 where
-  pub turned : Turns Change (λ place. (first ≤ place) × (place < first + n)) old now broke
+  pub turned : ChangesSome Change (λ place. (first ≤ place) × (place < first + n)) old now broke
   pub few : broke ≤ n
 
 pub none_in_turn : {Change : Slot → Slot → Type 0} {first : ℕ} {slots : List Slot} → InTurn Change first 0 slots slots 0
 none_in_turn = record { turned = turned_none (λ place is. omega arith); few = omega arith }
 
 pub next_in_turn : {Change : Slot → Slot → Type 0} (first n broke more : ℕ) (old now new : List Slot)
-    → ((before after : Slot) → Change before after → before.is_broken ≡ true → after.is_broken ≡ true)
-    → InTurn Change first n old now broke → Turns Change (λ place. place ≡ first + n) now new more → more ≤ 1
+    → KeepsBroken Change → InTurn Change first n old now broke
+    → ChangesSome Change (λ place. place ≡ first + n) now new more → more ≤ 1
     → InTurn Change first (n + 1) old new (broke + more)
 next_in_turn first n broke more old now new stays so_far turned one = record {
   turned = turned_both broke more stays (is_between first (first + n)) (λ place. cases_eq place (first + n))
@@ -202,44 +205,44 @@ all_still_usable told gets usable place is = still_usable told (gets.each place 
 -- one output's turn
 
 pub left_out : (told : Bool) {piece : List ℕ} {place : ℕ} {slots : List Slot} → (slot_at slots place).is_broken ≡ true
-    → Turns (Gets told piece) (λ other. other ≡ place) slots slots 0
+    → ChangesSome (Gets told piece) (λ other. other ≡ place) slots slots 0
 left_out told {place} broken = turned_same place (gets_none broken)
 
-pub written_whole : (told : Bool) {piece : List ℕ} {place : ℕ} {old new : List Slot} → IsUsable (slot_at old place)
-    → (slot_at old place).is_broken ≡ false → new ≡ with_written place (told_of told piece) old
-    → Turns (Gets told piece) (λ other. other ≡ place) old new 0
-written_whole told {piece} {place} {old} usable sound is =
-    turned_one place (adds (told_of told piece)) (open_within old place (usable sound)) sound sound (gets_all sound) is
-
-pub written_short : (told : Bool) {piece : List ℕ} {place n : ℕ} {old new : List Slot} → IsUsable (slot_at old place)
-    → (slot_at old place).is_broken ≡ false → BrokeAfter told old new place piece n
-    → Turns (Gets told piece) (λ other. other ≡ place) old new 1
-written_short told {piece} {place} {n} {old} usable sound broke =
-    let (why, slots) = broke.slots in
-    let takes = adds (told_of told (take n piece)) in
-    turned_one place (λ slot. breaks why (takes slot)) (open_within old place (usable sound)) sound refl
-    (breaks_off sound n why broke.within) (slots ∙ changed_at-again place takes (breaks why) old)
-
 pub not_closed : {place : ℕ} {slots : List Slot} → (slot_at slots place).is_broken ≡ true
-    → Turns Closes (λ other. other ≡ place) slots slots 0
+    → ChangesSome Closes (λ other. other ≡ place) slots slots 0
 not_closed {place} broken = turned_same place (was_broken broken)
 
-pub closed_whole : {place : ℕ} {old new : List Slot} → IsUsable (slot_at old place)
-    → (slot_at old place).is_broken ≡ false → new ≡ changed_at place closes old
-    → Turns Closes (λ other. other ≡ place) old new 0
-closed_whole {place} {old} usable sound is = turned_one place closes (open_within old place (usable sound)) sound sound (is_closed sound) is
+module _ {place : ℕ} {old : List Slot} (usable : IsUsable (slot_at old place))
+    (sound : (slot_at old place).is_broken ≡ false) where
+  pub written_whole : (told : Bool) {piece : List ℕ} {new : List Slot}
+      → new ≡ with_written place (told_of told piece) old
+      → ChangesSome (Gets told piece) (λ other. other ≡ place) old new 0
+  written_whole told {piece} is =
+      turned_one place (adds (told_of told piece)) (open_within old place (usable sound)) sound sound (gets_all sound) is
 
-pub closed_short : {place : ℕ} {old new : List Slot} → IsUsable (slot_at old place)
-    → (slot_at old place).is_broken ≡ false → SlotBreaks place (changed_at place closes old) new
-    → Turns Closes (λ other. other ≡ place) old new 1
-closed_short {place} {old} usable sound (why, is) =
-    turned_one place (λ slot. breaks why (closes slot)) (open_within old place (usable sound)) sound refl
-    (fails_to_close sound why) (is ∙ changed_at-again place closes (breaks why) old)
+  pub written_short : (told : Bool) {piece : List ℕ} {n : ℕ} {new : List Slot} → BrokeAfter told old new place piece n
+      → ChangesSome (Gets told piece) (λ other. other ≡ place) old new 1
+  written_short told {piece} {n} broke =
+      let (why, slots) = broke.slots in
+      let takes = adds (told_of told (take n piece)) in
+      turned_one place (λ slot. breaks why (takes slot)) (open_within old place (usable sound)) sound refl
+      (breaks_off sound n why broke.within) (slots ∙ changed_at-again place takes (breaks why) old)
+
+  pub closed_whole : {new : List Slot} → new ≡ changed_at place closes old
+      → ChangesSome Closes (λ other. other ≡ place) old new 0
+  closed_whole is = turned_one place closes (open_within old place (usable sound)) sound sound (is_closed sound) is
+
+  pub closed_short : {new : List Slot} → SlotBreaks place (changed_at place closes old) new
+      → ChangesSome Closes (λ other. other ≡ place) old new 1
+  closed_short (why, is) =
+      turned_one place (λ slot. breaks why (closes slot)) (open_within old place (usable sound)) sound refl
+      (fails_to_close sound why) (is ∙ changed_at-again place closes (breaks why) old)
 
 -- standard output, and then the files
 pub fed : (told : Bool) {piece : List ℕ} (tee : TeeState) (broke more : ℕ) {old mid new : List Slot}
-    → (0 < tee.count → 2 ≤ tee.first) → Turns (Gets told piece) (λ place. place ≡ 0) old mid broke
-    → Turns (Gets told piece) (IsFile tee) mid new more → Turns (Gets told piece) (IsOutput tee) old new (broke + more)
+    → (0 < tee.count → 2 ≤ tee.first) → ChangesSome (Gets told piece) (λ place. place ≡ 0) old mid broke
+    → ChangesSome (Gets told piece) (IsFile tee) mid new more
+    → ChangesSome (Gets told piece) (IsOutput tee) old new (broke + more)
 fed told tee broke more streams first second =
     turned_both broke more (still_broken told) (λ place. cases_eq place 0) (is_between tee.first (tee.first + tee.count))
     (λ place is file. omega (arith, streams (omega (arith, file.0, file.1)))) (λ place is. is) (λ place is. is) first second

@@ -5,8 +5,8 @@ use Rattle.std.{
     Bool.{cond_both, Decides.nat_tests},
     List.{append-nil, length-map, Folds.concat-append},
   },
-  proofs.Common.{◌≡◌, ℕ, ◌+◌, ◌<◌, zero, suc, List, [], ◌∷◌, ◌++◌, length, map, take, codes, get_or, set, Bor, Bool},
-  proofs.Common.{true, false, if◌then◌else◌, refl, sym, ◌∙◌, ap, arith, ◌≤◌, Option, Some, None, inl, inr},
+  proofs.Common.{◌≡◌, ℕ, ◌+◌, ◌<◌, zero, suc, List, [], ◌∷◌, ◌++◌, length, map, take, drop, codes, get_or, set, Bor},
+  proofs.Common.{Bool, true, false, if◌then◌else◌, refl, sym, ◌∙◌, ap, arith, ◌≤◌, Option, Some, None, inl, inr},
   proofs.Common.{length-append, append-nil},
   proofs.Math.ListN.get_or-map,
   specs.List.concat,
@@ -26,8 +26,8 @@ use Rattle.tee_core.specs.{
   Run.{standing_before, standing_of, standings_before, tee_called, tells_in, stands_as},
   inner.Steps.{HasStreams, SaysTo, said_since, standings_of, tells, Copies, FileHas, has_all, has_none, has_begun},
   inner.Steps.{IsTeeOf, HasCopied, output_slot},
-  Outputs.{ChangesEach, Gets, gets_all, breaks_off, gets_none, IsFile, IsOutput, IsReady, IsUsable, Closes, is_closed},
-  Outputs.{fails_to_close, was_broken},
+  Outputs.{ChangesEach, Gets, gets_all, breaks_off, gets_none, IsFile, IsOutput, IsReady, IsUsable, Closes},
+  Outputs.{is_closed, fails_to_close, was_broken},
   TeeState.TeeState,
   declared.standing.Standing.{Standing, TheVariants.{Sound, Broken, Gone}},
 }
@@ -58,47 +58,39 @@ none_said on_broken fault (name ∷ names) (was ∷ known) = rw (tells_same on_b
 
 -- outputs up to a place that were looked at, and after it those that weren't
 abbrev SeenTo : ℕ → List Standing → List Standing → List Standing → Type 0
-SeenTo zero known stand nows = nows ≡ known
-SeenTo (suc n) (was ∷ known) (one ∷ stand) (now ∷ nows) = (now ≡ one) × SeenTo n known stand nows
-SeenTo (suc n) known stand nows = ⊥
+SeenTo n known stand nows = nows ≡ take n stand ++ drop n known
 
-seen_next : (n : ℕ) (known : List Standing) (stand : List Standing) (nows : List Standing) {now : Standing}
-    → n < length known → length stand ≡ length known → SeenTo n known stand nows
-    → now ≡ get_or stand n Sound → SeenTo (suc n) known stand (set nows n now)
-seen_next zero (was ∷ known) (one ∷ stand) nows within many so_far sees = rw so_far (sees, refl)
-seen_next (suc n) (was ∷ known) (one ∷ stand) (now ∷ nows) within many so_far sees =
-    (so_far.0, seen_next n known stand nows (omega arith) (omega arith) so_far.1 sees)
-seen_next (suc n) (was ∷ known) (one ∷ stand) [] within many so_far sees = absurd so_far
-seen_next n known stand nows within many so_far sees = absurd (omega arith)
+set_next : (n : ℕ) (known stand : List Standing) → n < length known → length stand ≡ length known
+    → set (take n stand ++ drop n known) n (get_or stand n Sound) ≡ take (suc n) stand ++ drop (suc n) known
+set_next zero (was ∷ known) (one ∷ stand) within many = refl
+set_next (suc n) (was ∷ known) (one ∷ stand) within many =
+    ap (λ rest. one ∷ rest) (set_next n known stand (omega arith) (omega arith))
+set_next n known stand within many = absurd (omega arith)
 
-get_next : (n : ℕ) (known : List Standing) (stand : List Standing) (nows : List Standing) (other : Standing)
-    → n < length known → length stand ≡ length known → SeenTo n known stand nows
-    → get_or nows n other ≡ get_or known n Sound
-get_next zero (was ∷ known) (one ∷ stand) nows other within many so_far = rw so_far refl
-get_next (suc n) (was ∷ known) (one ∷ stand) (now ∷ nows) other within many so_far =
-    get_next n known stand nows other (omega arith) (omega arith) so_far.1
-get_next (suc n) (was ∷ known) (one ∷ stand) [] other within many so_far = absurd so_far
-get_next n known stand nows other within many so_far = absurd (omega arith)
+seen_next : (n : ℕ) (known stand : List Standing) {nows : List Standing} {now : Standing} → n < length known
+    → length stand ≡ length known → SeenTo n known stand nows → now ≡ get_or stand n Sound
+    → SeenTo (n + 1) known stand (set nows n now)
+seen_next n known stand within many so_far sees =
+    rw (so_far, sees, (let next : n + 1 ≡ suc n = omega arith in next)) (set_next n known stand within many)
 
-pub seen_all : (known : List Standing) (stand : List Standing) (nows : List Standing) → length stand ≡ length known
+get_next : (n : ℕ) (known stand : List Standing) {nows : List Standing} (other : Standing) → n < length known
+    → length stand ≡ length known → SeenTo n known stand nows → get_or nows n other ≡ get_or known n Sound
+get_next n known stand other within many so_far = grind (arith, common_steps, so_far)
+
+pub seen_all : (known stand : List Standing) {nows : List Standing} → length stand ≡ length known
     → SeenTo (length known) known stand nows → nows ≡ stand
-seen_all [] [] nows many so_far = so_far
-seen_all (was ∷ known) (one ∷ stand) (now ∷ nows) many so_far = cc (seen_all known stand nows (omega arith) so_far.1)
-seen_all (was ∷ known) (one ∷ stand) [] many so_far = absurd so_far
-seen_all known stand nows many so_far = absurd (omega arith)
+seen_all known stand many so_far = grind (arith, common_steps, so_far)
 
-said_next : (on_broken : OnBroken) (fault : Fault) (names : List (List ℕ)) (known stand : List Standing)
-    (nows : List Standing) (n : ℕ) (now : Standing) → n < length names → length known ≡ length names
-    → length stand ≡ length names → SeenTo n known stand nows
-    → said_since on_broken fault names known (set nows n now)
-    ≡ said_since on_broken fault names known nows
+said_next : (on_broken : OnBroken) (fault : Fault) (names : List (List ℕ)) (known stand : List Standing) (n : ℕ)
+    (now : Standing) → n < length names → length known ≡ length names → length stand ≡ length names
+    → said_since on_broken fault names known (set (take n stand ++ drop n known) n now)
+    ≡ said_since on_broken fault names known (take n stand ++ drop n known)
     ++ said_one on_broken fault (get_or names n []) (get_or known n Sound) now
-said_next on_broken fault (name ∷ names) (was ∷ known) (one ∷ stand) nows zero now within known_many many so_far =
+said_next on_broken fault (name ∷ names) (was ∷ known) (one ∷ stand) zero now within known_many many =
     grind (arith, common_steps, tells_same, was, none_said)
-said_next on_broken fault (name ∷ names) (was ∷ known) (one ∷ stand) (first ∷ nows) (suc n) now within known_many many so_far =
-    grind (arith, common_steps, said_next on_broken fault names known stand nows n now (omega arith) (omega arith))
-said_next on_broken fault (name ∷ names) (was ∷ known) (one ∷ stand) [] (suc n) now within known_many many so_far = absurd so_far
-said_next on_broken fault names known stand nows n now within known_many many so_far = absurd (omega arith)
+said_next on_broken fault (name ∷ names) (was ∷ known) (one ∷ stand) (suc n) now within known_many many =
+    grind (arith, common_steps, said_next on_broken fault names known stand n now (omega arith) (omega arith))
+said_next on_broken fault names known stand n now within known_many many = absurd (omega arith)
 
 -- where outputs stand
 
@@ -149,59 +141,52 @@ tells_none told calling on_broken fault names known has = record {
   seen = refl;
 }
 
-pub error_open : (told : Bool) {calling : Calling} {on_broken : OnBroken} {fault : Fault} {names : List (List ℕ)}
-    {before known : List Standing} {n count : ℕ} {old now : List Slot} → HasStreams old count
-    → Telling told calling on_broken fault names before n old now known → is_open (slot_at now 1).state ≡ true
-error_open told {calling} {on_broken} {fault} {names} {before} {known} {now = now} has so_far =
-    let messages = said_since on_broken fault names before known in
-    let said : SaysTo told calling messages (has.output ∷ has.error ∷ has.files) now = rw has.are at so_far.said in
-    cc (all_said_state told (tee_called calling) messages has.error said.0 said.1)
+module _ {told : Bool} {calling : Calling} {on_broken : OnBroken} {fault : Fault} {names : List (List ℕ)}
+    {before known : List Standing} {n count : ℕ} {old now : List Slot} (has : HasStreams old count)
+    (so_far : Telling told calling on_broken fault names before n old now known) where
+  pub error_open : is_open (slot_at now 1).state ≡ true
+  error_open =
+      let messages = said_since on_broken fault names before known in
+      let said : SaysTo told calling messages (has.output ∷ has.error ∷ has.files) now = rw has.are at so_far.said in
+      cc (all_said_state told (tee_called calling) messages has.error said.0 said.1)
 
-pub tells_next : (told : Bool) {calling : Calling} {on_broken : OnBroken} {fault : Fault} {names : List (List ℕ)}
-    {before known : List Standing} (other : Standing) {n count : ℕ} {old now new : List Slot} {name : List ℕ}
-    {standing : Standing} → HasStreams old count → length names ≡ count + 1 → length before ≡ count + 1
-    → n < length before
-    → Telling told calling on_broken fault names before n old now known → name ≡ get_or names n []
-    → standing ≡ stands_as (slot_at now (output_slot n))
-    → (tells on_broken (get_or known n other) standing ≡ true
-    → (why : Reason) × SaysOn told (tee_called calling) why (message_of fault name) now new)
-    → (tells on_broken (get_or known n other) standing ≡ false → new ≡ now)
-    → Telling told calling on_broken fault names before (n + 1) old new (set known n standing)
-tells_next told {calling} {on_broken} {fault} {names} {before} {known} other {n} {count} {old} {now} {new} {name} {standing} has names_many many within so_far named sees says quiet =
-    rw (← (let e : suc n ≡ n + 1 = omega arith in e)) (record {
-      said = rw step (cond_both (tells on_broken (get_or known n other) standing) (message_of fault name ∷ []) [] (λ more. SaysTo told calling (messages ++ more) old new)
-          (λ is. let (why, said) = says is in says_too told calling messages (message_of fault name) now new has so_far.said said)
-          (λ is. rw (append-nil messages, quiet is) so_far.said));
-      seen = seen_next n before (standings_of old) known within (standings_are ∙ sym many) so_far.seen (sees ∙ here);
-    }) where
-      messages : List Message
-      messages = said_since on_broken fault names before known
+  pub tells_next : (other : Standing) {new : List Slot} {name : List ℕ} {standing : Standing}
+      → length names ≡ count + 1 → length before ≡ count + 1 → n < length before → name ≡ get_or names n []
+      → standing ≡ stands_as (slot_at now (output_slot n))
+      → (tells on_broken (get_or known n other) standing ≡ true
+      → (why : Reason) × SaysOn told (tee_called calling) why (message_of fault name) now new)
+      → (tells on_broken (get_or known n other) standing ≡ false → new ≡ now)
+      → Telling told calling on_broken fault names before (n + 1) old new (set known n standing)
+  tells_next other {new} {name} {standing} names_many many within named sees says quiet =
+      record {
+        said = rw step (cond_both (tells on_broken (get_or known n other) standing) (message_of fault name ∷ []) [] (λ more. SaysTo told calling (messages ++ more) old new)
+            (λ is. let (why, said) = says is in says_too told calling messages (message_of fault name) now new has so_far.said said)
+            (λ is. rw (append-nil messages, quiet is) so_far.said));
+        seen = seen_next n before (standings_of old) within (standings_are ∙ sym many) so_far.seen (sees ∙ here);
+      } where
+        messages : List Message
+        messages = said_since on_broken fault names before known
 
-      standings_are : length (standings_of old) ≡ count + 1
-      standings_are = count_standings has
+        standings_are : length (standings_of old) ≡ count + 1
+        standings_are = count_standings has
 
-      here : stands_as (slot_at now (output_slot n)) ≡ get_or (standings_of old) n Sound
-      here =
-          stands_still told calling messages has.output has.error has.files now n (rw has.are at so_far.said)
-          ∙ ap (λ those. get_or (standings_of those) n Sound) (sym has.are)
+        here : stands_as (slot_at now (output_slot n)) ≡ get_or (standings_of old) n Sound
+        here =
+            stands_still told calling messages has.output has.error has.files now n (rw has.are at so_far.said)
+            ∙ ap (λ those. get_or (standings_of those) n Sound) (sym has.are)
 
-      was : get_or known n other ≡ get_or before n Sound
-      was = get_next n before (standings_of old) known other within (standings_are ∙ sym many) so_far.seen
+        was : get_or known n other ≡ get_or before n Sound
+        was = get_next n before (standings_of old) other within (standings_are ∙ sym many) so_far.seen
 
-      step : said_since on_broken fault names before (set known n standing)
-          ≡ messages ++ (if tells on_broken (get_or known n other) standing then message_of fault name ∷ [] else [])
-      step =
-          let next = said_next on_broken fault names before (standings_of old) known n standing
-          (omega arith) (many ∙ sym names_many) (standings_are ∙ sym names_many)
-          so_far.seen in
-          cc (next, named, was)
+        step : said_since on_broken fault names before (set known n standing)
+            ≡ messages ++ (if tells on_broken (get_or known n other) standing then message_of fault name ∷ [] else [])
+        step =
+            let next = said_next on_broken fault names before (standings_of old) n standing
+            (omega arith) (many ∙ sym names_many) (standings_are ∙ sym names_many) in
+            cc (next, named, was, so_far.seen)
 
-pub told_all : (told : Bool) {calling : Calling} {on_broken : OnBroken} {fault : Fault} {names : List (List ℕ)}
-    {before known : List Standing} {n count : ℕ} {old now : List Slot} → HasStreams old count
-    → length before ≡ count + 1 → n ≡ length before → Telling told calling on_broken fault names before n old now known
-    → known ≡ standings_of old
-told_all told {before} {known} {old = old} has many all so_far =
-    seen_all before (standings_of old) known (count_standings has ∙ sym many) (rw all at so_far.seen)
+  pub told_all : length before ≡ count + 1 → n ≡ length before → known ≡ standings_of old
+  told_all many all = seen_all before (standings_of old) (count_standings has ∙ sym many) (rw all at so_far.seen)
 
 pub count_names : (names : List (Bor (List ℕ)))
     → length (output_names (map (λ name. name.now) names)) ≡ length names + 1
@@ -285,28 +270,15 @@ all_older on_broken zero names past marked = refl
 all_older on_broken (suc end) names past marked =
     grind (arith, common_steps, marked, said_older, all_older on_broken end names (omega arith) marked)
 
--- how the outputs stood before a call
-
-pub stood_sooner : {call : ℕ} (other : ℕ) {befores afters : List (Option Break)} {nows : List Standing} → other ≤ call
-    → AllMark call befores afters nows → standings_before other afters ≡ standings_before other befores
-stood_sooner other within none_marked = refl
-stood_sooner other within (all_marked before after now _ _ _ one rest) =
-    cc (one.sooner other within, stood_sooner other within rest)
-
-pub stood_then : {call : ℕ} {befores afters : List (Option Break)} {nows : List Standing}
-    → AllMark call befores afters nows → standings_before call afters ≡ map standing_of befores
-stood_then none_marked = refl
-stood_then (all_marked before after now _ _ _ one rest) = cc (one.then_is, stood_then rest)
-
-pub stand_now : {call : ℕ} {befores afters : List (Option Break)} {nows : List Standing}
-    → AllMark call befores afters nows → standings_before (suc call) afters ≡ nows
-stand_now none_marked = refl
-stand_now (all_marked before after now _ _ _ one rest) = cc (one.now_is, stand_now rest)
-
-pub stand_so : {call : ℕ} {befores afters : List (Option Break)} {nows : List Standing}
-    → AllMark call befores afters nows → nows ≡ map standing_of afters
-stand_so none_marked = refl
-stand_so (all_marked before after now _ _ _ one rest) = cc (one.stands, stand_so rest)
+-- how the outputs stood before the calls so far and before this one, and how they stand now
+pub stood : {call : ℕ} {befores afters : List (Option Break)} {nows : List Standing} → AllMark call befores afters nows
+    → ((other : ℕ) → other ≤ call → standings_before other afters ≡ standings_before other befores)
+    × (standings_before call afters ≡ map standing_of befores) × (standings_before (suc call) afters ≡ nows)
+    × (nows ≡ map standing_of afters)
+stood none_marked = (λ other within. refl, refl, refl, refl)
+stood (all_marked before after now _ _ _ one rest) =
+    let (sooner, known, lately, so) = stood rest in
+    (λ other within. cc (one.sooner other within, sooner other within), cc (one.then_is, known), cc (one.now_is, lately), cc (one.stands, so))
 
 -- one output
 
@@ -336,46 +308,45 @@ call_before before after piece is = grind (arith, common_steps)
 abbrev pub Marked : (Option Break → Slot → Type 0) → ℕ → Option Break → Slot → Type 0
 Marked Is call first new = (after : Option Break) × Is after new × Marks call first after (stands_as new)
 
-output_more : (told : Bool) {pieces : List (List ℕ)} {piece : List ℕ} {first : Option Break} {old new : Slot}
-    → OutputLeft told pieces first old → Gets told piece old new
-    → Marked (OutputLeft told (pieces ++ piece ∷ [])) (suc (length pieces)) first new
-output_more told {pieces} {piece} output_whole (gets_all _) =
-    (None, rw (whole_now told pieces piece standard_output) output_whole, marked_none)
-output_more told {pieces} {piece} output_whole (breaks_off _ n why within) = (
-  Some (break_now (suc (length pieces)) why),
-  rw (begun_now told why pieces piece n standard_output) (output_cut pieces piece [] n refl within),
-  marked_now why,
-)
-output_more told output_whole (gets_none broken) = absurd (cc)
-output_more told (output_cut _ _ _ n is _) (gets_all again) = absurd (cc)
-output_more told (output_cut _ _ _ n is _) (breaks_off again m _ _) = absurd (cc)
-output_more told {piece} (output_cut {why} before that after n is within) (gets_none _) = (
-  Some (break_now (suc (length before)) why),
-  output_cut before that (after ++ piece ∷ []) n (still_there before after that piece is) within,
-  marked_before _ (call_before before after that is),
-)
+module _ {told : Bool} {pieces : List (List ℕ)} {piece : List ℕ} where
+  output_more : {first : Option Break} {old new : Slot}
+      → OutputLeft told pieces first old → Gets told piece old new
+      → Marked (OutputLeft told (pieces ++ piece ∷ [])) (suc (length pieces)) first new
+  output_more output_whole (gets_all _) =
+      (None, rw (whole_now told pieces piece standard_output) output_whole, marked_none)
+  output_more output_whole (breaks_off _ n why within) = (
+    Some (break_now (suc (length pieces)) why),
+    rw (begun_now told why pieces piece n standard_output) (output_cut pieces piece [] n refl within),
+    marked_now why,
+  )
+  output_more (output_cut {why} before that after n is within) (gets_none _) = (
+    Some (break_now (suc (length before)) why),
+    output_cut before that (after ++ piece ∷ []) n (still_there before after that piece is) within,
+    marked_before _ (call_before before after that is),
+  )
+  output_more output_whole (gets_none broken) = absurd (cc)
+  output_more so_far (gets_all again) = absurd (cc)
+  output_more so_far (breaks_off again m _ _) = absurd (cc)
 
-file_more : (told : Bool) {mode : Mode} {pieces : List (List ℕ)} {piece : List ℕ} {name : List ℕ} {first : Option Break}
-    {old new : Slot} → FileHas told mode pieces name first old → Gets told piece old new
-    → Marked (FileHas told mode (pieces ++ piece ∷ []) name) (suc (length pieces)) first new
-file_more told {mode} {pieces} {piece} {name} has_all (gets_all _) =
-    (None, rw (whole_now told pieces piece (opened name mode)) has_all, marked_none)
-file_more told {mode} {pieces} {piece} {name} has_all (breaks_off _ n why within) = (
-  Some (break_now (suc (length pieces)) why),
-  rw (begun_now told why pieces piece n (opened name mode)) (has_begun pieces piece [] n refl within),
-  marked_now why,
-)
-file_more told has_all (gets_none broken) = absurd (cc)
-file_more told (has_none _ _) (gets_all again) = absurd (cc)
-file_more told (has_none _ _) (breaks_off again m _ _) = absurd (cc)
-file_more told (has_none {why} kept named) (gets_none broken) = (Some (break_now 0 why), has_none kept named, marked_before _ (omega arith))
-file_more told (has_begun _ _ _ n is _) (gets_all again) = absurd (cc)
-file_more told (has_begun _ _ _ n is _) (breaks_off again m _ _) = absurd (cc)
-file_more told {piece} (has_begun {why} before that after n is within) (gets_none _) = (
-  Some (break_now (suc (length before)) why),
-  has_begun before that (after ++ piece ∷ []) n (still_there before after that piece is) within,
-  marked_before _ (call_before before after that is),
-)
+  file_more : {mode : Mode} {name : List ℕ} {first : Option Break} {old new : Slot}
+      → FileHas told mode pieces name first old → Gets told piece old new
+      → Marked (FileHas told mode (pieces ++ piece ∷ []) name) (suc (length pieces)) first new
+  file_more {mode} {name} has_all (gets_all _) =
+      (None, rw (whole_now told pieces piece (opened name mode)) has_all, marked_none)
+  file_more {mode} {name} has_all (breaks_off _ n why within) = (
+    Some (break_now (suc (length pieces)) why),
+    rw (begun_now told why pieces piece n (opened name mode)) (has_begun pieces piece [] n refl within),
+    marked_now why,
+  )
+  file_more (has_none {why} kept named) (gets_none broken) = (Some (break_now 0 why), has_none kept named, marked_before _ (omega arith))
+  file_more (has_begun {why} before that after n is within) (gets_none _) = (
+    Some (break_now (suc (length before)) why),
+    has_begun before that (after ++ piece ∷ []) n (still_there before after that piece is) within,
+    marked_before _ (call_before before after that is),
+  )
+  file_more has_all (gets_none broken) = absurd (cc)
+  file_more so_far (gets_all again) = absurd (cc)
+  file_more so_far (breaks_off again m _ _) = absurd (cc)
 
 -- each of the files is changed by the call
 pub files_go : {Is Then : List ℕ → Option Break → Slot → Type 0} {Change : Slot → Slot → Type 0} {call : ℕ}
@@ -386,12 +357,11 @@ pub files_go : {Is Then : List ℕ → Option Break → Slot → Type 0} {Change
     → ((n : ℕ) → n < length olds → Change (slot_at olds n) (slot_at news n)) → EachFile Is names broke olds
     → (after : List (Option Break)) × EachFile Then names after news × AllMark call broke after (map stands_as news)
 files_go go [] many changes no_file = ([], no_file, none_marked)
-files_go go (new ∷ news) many changes no_file = absurd (omega arith)
-files_go go [] many changes (one_file name _ _ _ old _ one rest) = absurd (omega arith)
 files_go go (new ∷ news) many changes (one_file name _ first _ old _ one rest) =
     let here = go name first old new one (changes 0 (omega arith)) in
     let there = files_go go news (omega arith) (λ n within. changes (suc n) (omega arith)) rest in
     (here.0 ∷ there.0, one_file _ _ _ _ _ _ here.1 there.1, all_marked _ _ _ _ _ _ here.2 there.2)
+files_go go news many changes files = absurd (omega arith)
 
 -- the outputs of a run
 
@@ -405,23 +375,24 @@ length-broke : {Is : List ℕ → Option Break → Slot → Type 0} {names : Lis
 length-broke no_file = refl
 length-broke (one_file name names first broke file files one rest) = ap suc (length-broke rest)
 
-output_usable : (told : Bool) {pieces : List (List ℕ)} {first : Option Break} {output : Slot}
-    → OutputLeft told pieces first output → IsUsable output
-output_usable told output_whole = λ sound. refl
-output_usable told (output_cut _ _ _ n is _) = λ sound. refl
+module _ {told : Bool} {pieces : List (List ℕ)} where
+  output_usable : {first : Option Break} {output : Slot}
+      → OutputLeft told pieces first output → IsUsable output
+  output_usable output_whole = λ sound. refl
+  output_usable (output_cut _ _ _ n is _) = λ sound. refl
 
-file_usable : (told : Bool) {mode : Mode} {pieces : List (List ℕ)} {name : List ℕ} {first : Option Break} {file : Slot}
-    → FileHas told mode pieces name first file → IsUsable file
-file_usable told has_all = λ sound. refl
-file_usable told (has_none _ _) = λ sound. absurd (cc)
-file_usable told (has_begun _ _ _ n is _) = λ sound. refl
+  file_usable : {mode : Mode} {name : List ℕ} {first : Option Break} {file : Slot}
+      → FileHas told mode pieces name first file → IsUsable file
+  file_usable has_all = λ sound. refl
+  file_usable (has_none _ _) = λ sound. absurd (cc)
+  file_usable (has_begun _ _ _ n is _) = λ sound. refl
 
-files_usable : (told : Bool) {mode : Mode} {pieces : List (List ℕ)} {names : List (List ℕ)}
-    {broke : List (Option Break)} {files : List Slot} (n : ℕ) → n < length files
-    → EachFile (FileHas told mode pieces) names broke files → IsUsable (slot_at files n)
-files_usable told n within no_file = absurd (omega arith)
-files_usable told zero within (one_file name _ _ _ file _ one _) = file_usable told one
-files_usable told (suc n) within (one_file name _ _ _ file _ one rest) = files_usable told n (omega arith) rest
+  files_usable : {mode : Mode} {names : List (List ℕ)}
+      {broke : List (Option Break)} {files : List Slot} (n : ℕ) → n < length files
+      → EachFile (FileHas told mode pieces) names broke files → IsUsable (slot_at files n)
+  files_usable n within no_file = absurd (omega arith)
+  files_usable zero within (one_file name _ _ _ file _ one _) = file_usable one
+  files_usable (suc n) within (one_file name _ _ _ file _ one rest) = files_usable n (omega arith) rest
 
 -- a file's place, counted from the first file
 pub file_place : {names : List (List ℕ)} {tee : TeeState} (place : ℕ) → IsTeeOf names tee → IsFile tee place
@@ -439,20 +410,39 @@ pub error_no_output : {names : List (List ℕ)} {tee : TeeState} → IsTeeOf nam
 error_no_output is (inl here) = omega arith
 error_no_output is (inr file) = let there = file_place 1 is file in omega arith
 
-module _ (told : Bool) (calling : Calling) (mode : Mode) (on_broken : OnBroken) (names : List (List ℕ)) where
-  pub copies_ready : {pieces : List (List ℕ)} {messages : List Message} {slots : List Slot} {known : List Standing}
-      {tee : TeeState} → IsTeeOf names tee → Copies told calling mode on_broken names pieces messages slots known
-      → IsReady tee slots
-  copies_ready {tee} is copies place output = rw copies.are (by output) where
+-- an output that isn't closed
+module _ {told : Bool} {pieces : List (List ℕ)} where
+  output_kept : {first : Option Break} {output : Slot}
+      → OutputLeft told pieces first output → Marks (suc (length pieces)) first first (stands_as output)
+  output_kept output_whole = marked_none
+  output_kept (output_cut before that after n is _) = marked_before _ (call_before before after that is)
+
+  -- a file that is
+  file_ends : {mode : Mode} {name : List ℕ} {first : Option Break} {old new : Slot}
+      → FileHas told mode pieces name first old → Closes old new
+      → Marked (FileLeft told mode pieces name) (suc (length pieces)) first new
+  file_ends has_all (is_closed _) = (None, file_whole, marked_none)
+  file_ends has_all (fails_to_close _ why) =
+      (Some (break_now (suc (length pieces)) why), file_unclosed, marked_now why)
+  file_ends (has_none {why} kept named) (was_broken broken) = (Some (break_now 0 why), file_unopened kept named, marked_before _ (omega arith))
+  file_ends (has_begun {why} before that after n is within) (was_broken broken) =
+      (Some (break_now (suc (length before)) why), file_cut before that after n is within, marked_before _ (call_before before after that is))
+  file_ends has_all (was_broken broken) = absurd (cc)
+  file_ends has (is_closed sound) = absurd (cc)
+  file_ends has (fails_to_close sound _) = absurd (cc)
+
+module _ {told : Bool} {calling : Calling} {mode : Mode} {on_broken : OnBroken} {names pieces : List (List ℕ)}
+    {messages : List Message} {old : List Slot} {known : List Standing}
+    (copies : Copies told calling mode on_broken names pieces messages old known) where
+  pub copies_ready : {tee : TeeState} → IsTeeOf names tee → IsReady tee old
+  copies_ready {tee} is place output = rw copies.are (by output) where
     by : IsOutput tee place → IsUsable (slot_at (copies.output ∷ copies.error ∷ copies.files) place)
-    by (inl here) = rw here (output_usable told copies.output_has)
-    by (inr file) = grind (arith, common_steps, file_place, files_usable, length-files)
+    by (inl here) = rw here (output_usable copies.output_has)
+    by (inr file) = grind (arith, common_steps, copies, file_place, files_usable, length-files)
 
   -- the outputs after a call, before anything is said of it, where they stand so now
   pub record After (OutputIs : Option Break → Slot → Type 0) (FileIs : List ℕ → Option Break → Slot → Type 0)
-      (call : ℕ) {pieces : List (List ℕ)} {messages : List Message} {old : List Slot} {known : List Standing}
-      (copies : Copies told calling mode on_broken names pieces messages old known) (mid : List Slot)
-      (nows : List Standing) : Type 0 where
+      (call : ℕ) (mid : List Slot) (nows : List Standing) : Type 0 where
     pub output : Slot
     pub files : List Slot
     pub first : Option Break
@@ -463,19 +453,15 @@ module _ (told : Bool) (calling : Calling) (mode : Mode) (on_broken : OnBroken) 
     pub marked : AllMark call (copies.first ∷ copies.broke) (first ∷ broke) nows
 
   pub called : {OutputIs : Option Break → Slot → Type 0} {FileIs : List ℕ → Option Break → Slot → Type 0}
-      {Change : Slot → Slot → Type 0} {pieces : List (List ℕ)} {messages : List Message} {old mid : List Slot}
-      {known nows : List Standing} {tee : TeeState}
-      → IsTeeOf names tee → (copies : Copies told calling mode on_broken names pieces messages old known) → (call : ℕ)
-      → length mid ≡ length old → slot_at mid 1 ≡ slot_at old 1
+      {Change : Slot → Slot → Type 0} {mid : List Slot} {nows : List Standing} {tee : TeeState}
+      → IsTeeOf names tee → (call : ℕ) → length mid ≡ length old → slot_at mid 1 ≡ slot_at old 1
       → ((output : Slot) → slot_at mid 0 ≡ output → Marked OutputIs call copies.first output)
       → ((place : ℕ) → IsFile tee place → Change (slot_at old place) (slot_at mid place))
       → ((name : List ℕ) (first : Option Break) (old new : Slot)
       → FileHas told mode pieces name first old → Change old new → Marked (FileIs name) call first new)
-      → nows ≡ standings_of mid → After OutputIs FileIs call copies mid nows
-  called {OutputIs} {FileIs} {Change} {mid = mid} is copies call count error one changes go sees = rw sees (by mid refl) where
-    by : (those : List Slot) → mid ≡ those → After OutputIs FileIs call copies mid (standings_of those)
-    by [] short = absurd (cc)
-    by (output ∷ []) short = absurd (cc)
+      → nows ≡ standings_of mid → After OutputIs FileIs call mid nows
+  called {OutputIs} {FileIs} {mid = mid} is call count error one changes go sees = rw sees (by mid refl) where
+    by : (those : List Slot) → mid ≡ those → After OutputIs FileIs call mid (standings_of those)
     by (output ∷ other ∷ files) are =
         let same : other ≡ copies.error = cc in
         let here = one output (cc) in let many = length-files copies.files_have in
@@ -492,70 +478,47 @@ module _ (told : Bool) (calling : Calling) (mode : Mode) (on_broken : OnBroken) 
           files_are = rest.1;
           marked = all_marked copies.first here.0 (stands_as output) copies.broke rest.0 (map stands_as files) here.2 rest.2;
         }
+    by those short = absurd (cc)
 
   -- what is on standard error once it was told
   pub said_after : {OutputIs : Option Break → Slot → Type 0} {FileIs : List ℕ → Option Break → Slot → Type 0}
-      {pieces : List (List ℕ)} {messages : List Message} {old mid new : List Slot} {known nows : List Standing}
-      (copies : Copies told calling mode on_broken names pieces messages old known)
-      → (next : After OutputIs FileIs (suc (length pieces)) copies mid nows)
+      {mid new : List Slot} {nows : List Standing} (next : After OutputIs FileIs (suc (length pieces)) mid nows)
       → (says : SaysTo told calling
       (said_since on_broken (fault_in (suc (length pieces))) (output_names names) known nows) mid new)
       → SaysAll told (tee_called calling)
       ((said_before on_broken (suc (length pieces)) (output_names names) (next.first ∷ next.broke) ++ messages)
       ++ said_in on_broken (suc (length pieces)) (output_names names) (next.first ∷ next.broke)) standard_error
       says.0
-  said_after {pieces} {messages} copies next says =
+  said_after next says =
       rw (said_marked on_broken (output_names names) next.marked, all_older on_broken (suc (length pieces)) (output_names names) (omega arith) next.marked, ← copies.known_are)
       (says_after told (tee_called calling) (said_before on_broken (suc (length pieces)) (output_names names) (copies.first ∷ copies.broke) ++ messages) _ standard_error copies.error says.0 copies.said
       (rw (ap (λ those. slot_at those 1) next.are) at says.1))
 
   -- a piece was fed
-
-  pub fed_next : {pieces : List (List ℕ)} {piece : List ℕ} {messages : List Message} {old mid : List Slot}
-      {known nows : List Standing} {tee : TeeState} → IsTeeOf names tee
-      → (copies : Copies told calling mode on_broken names pieces messages old known)
+  pub fed_next : {piece : List ℕ} {mid : List Slot} {nows : List Standing} {tee : TeeState} → IsTeeOf names tee
       → ChangesEach (Gets told piece) (IsOutput tee) old mid → nows ≡ standings_of mid
       → After (OutputLeft told (pieces ++ piece ∷ [])) (FileHas told mode (pieces ++ piece ∷ []))
-      (suc (length pieces)) copies mid nows
-  fed_next {pieces} is copies gets sees =
-      called is copies (suc (length pieces)) gets.count (gets.others 1 (error_no_output is))
-      (λ output here. output_more told copies.output_has (rw here at (rw (ap (λ those. slot_at those 0) copies.are) at (gets.each 0 (inl refl)))))
-      (λ place file. gets.each place (inr file)) (λ name first old new has got. file_more told has got) sees
+      (suc (length pieces)) mid nows
+  fed_next is gets sees =
+      called is (suc (length pieces)) gets.count (gets.others 1 (error_no_output is))
+      (λ output here. output_more copies.output_has (rw here at (rw (ap (λ those. slot_at those 0) copies.are) at (gets.each 0 (inl refl)))))
+      (λ place file. gets.each place (inr file)) (λ name first old new has got. file_more has got) sees
 
-  -- the message for it was said
-  pub piece_said : {pieces : List (List ℕ)} (piece : List ℕ) {old mid new : List Slot} {known nows : List Standing}
-      → is_done on_broken known ≡ false → (copies : Copies told calling mode on_broken names pieces [] old known)
-      → After (OutputLeft told (pieces ++ piece ∷ [])) (FileHas told mode (pieces ++ piece ∷ []))
-      (suc (length pieces)) copies mid nows
-      → SaysTo told calling
-      (said_since on_broken (fault_in (suc (length pieces))) (output_names names) known nows) mid new
-      → Copies told calling mode on_broken names (pieces ++ piece ∷ []) [] new nows
-  piece_said {pieces} piece {mid = mid} {new} {known} some copies next says = record {
-    output = next.output;
-    error = says.0;
-    files = next.files;
-    first = next.first;
-    broke = next.broke;
-    are = rw (says.2, next.are) refl;
-    output_has = next.output_is;
-    files_have = next.files_are;
-    said = rw (ap (λ texts. texts ++ said_in on_broken (suc (length pieces)) (output_names names) (next.first ∷ next.broke)) (append-nil _)
-        ∙ sym (append-nil _) ∙ ap (λ call. said_before on_broken (suc call) (output_names names) (next.first ∷ next.broke) ++ []) one_more_call) at
-        (said_after copies next says);
-    known_are = stand_so next.marked;
-    goes_on = ap (λ call. is_done on_broken (standings_before call (next.first ∷ next.broke))) (sym one_more_call) ∙ ap (is_done on_broken) (stood_then next.marked ∙ sym copies.known_are) ∙ some;
-    are_known = ap (λ call. standings_before (suc call) (next.first ∷ next.broke)) (sym one_more_call) ∙ stand_now next.marked;
-  } where
-    one_more_call : suc (length pieces) ≡ length (pieces ++ piece ∷ [])
-    one_more_call = omega (arith, length-append pieces (piece ∷ []))
+  -- the files were closed
+  pub closed_next : {mid : List Slot} {nows : List Standing} {tee : TeeState} → IsTeeOf names tee
+      → ChangesEach Closes (IsFile tee) old mid → nows ≡ standings_of mid
+      → After (OutputLeft told pieces) (FileLeft told mode pieces) (suc (length pieces)) mid nows
+  closed_next is closes sees =
+      called is (suc (length pieces)) closes.count (closes.others 1 (λ file. error_no_output is (inr file)))
+      (λ output here. let same = sym here ∙ closes.others 0 (λ file. omega (arith, (file_place 0 is file).1))
+      ∙ ap (λ those. slot_at those 0) copies.are in
+      let left : OutputLeft told pieces copies.first output = rw same copies.output_has in (copies.first, left, output_kept left))
+      closes.each (λ name first old new has ends. file_ends has ends) sees
 
   -- both streams are there, whatever became of the other outputs
-  pub streams_after : {pieces : List (List ℕ)} {messages : List Message} {old mid : List Slot} {known : List Standing}
-      {output : Slot} {files : List Slot}
-      → (copies : Copies told calling mode on_broken names pieces messages old known)
-      → mid ≡ output ∷ copies.error ∷ files → length files ≡ length names
-      → HasStreams mid (length names)
-  streams_after {output = output} {files = files} copies are many = record {
+  pub streams_after : {mid : List Slot} {output : Slot} {files : List Slot} → mid ≡ output ∷ copies.error ∷ files
+      → length files ≡ length names → HasStreams mid (length names)
+  streams_after {output = output} {files = files} are many = record {
     output = output;
     error = copies.error;
     files = files;
@@ -564,102 +527,88 @@ module _ (told : Bool) (calling : Calling) (mode : Mode) (on_broken : OnBroken) 
     files_are = many;
   }
 
-  pub copies_streams : {pieces : List (List ℕ)} {messages : List Message} {slots : List Slot} {known : List Standing}
-      → Copies told calling mode on_broken names pieces messages slots known → HasStreams slots (length names)
-  copies_streams copies = streams_after copies copies.are (length-files copies.files_have)
+  pub copies_streams : HasStreams old (length names)
+  copies_streams = streams_after copies.are (length-files copies.files_have)
 
   -- so it is after a call that left standard error
-  pub mid_streams : {pieces : List (List ℕ)} {messages : List Message} {old mid : List Slot} {known : List Standing}
-      → Copies told calling mode on_broken names pieces messages old known → length mid ≡ length old
-      → slot_at mid 1 ≡ slot_at old 1 → HasStreams mid (length names)
-  mid_streams {mid = []} copies count error = absurd (cc)
-  mid_streams {mid = output ∷ []} copies count error = absurd (cc)
-  mid_streams {mid = output ∷ other ∷ files} copies count error =
-      streams_after copies (ap (λ slot. output ∷ slot ∷ files) (error ∙ ap (λ those. slot_at those 1) copies.are))
+  pub mid_streams : {mid : List Slot} → length mid ≡ length old → slot_at mid 1 ≡ slot_at old 1
+      → HasStreams mid (length names)
+  mid_streams {mid = output ∷ other ∷ files} count error =
+      streams_after (ap (λ slot. output ∷ slot ∷ files) (error ∙ ap (λ those. slot_at those 1) copies.are))
       (omega (arith, ap length copies.are, length-files copies.files_have))
+  mid_streams count error = absurd (cc)
 
-  pub known_many : {pieces : List (List ℕ)} {messages : List Message} {slots : List Slot} {known : List Standing}
-      → Copies told calling mode on_broken names pieces messages slots known → length known ≡ length names + 1
-  known_many copies = let count = ap length copies.known_are ∙ length-map (copies.first ∷ copies.broke) standing_of in
+  pub known_many : length known ≡ length names + 1
+  known_many = let count = ap length copies.known_are ∙ length-map (copies.first ∷ copies.broke) standing_of in
       omega (arith, length-broke copies.files_have)
 
--- an output that isn't closed
-output_kept : (told : Bool) {pieces : List (List ℕ)} {first : Option Break} {output : Slot}
-    → OutputLeft told pieces first output → Marks (suc (length pieces)) first first (stands_as output)
-output_kept told output_whole = marked_none
-output_kept told (output_cut before that after n is _) = marked_before _ (call_before before after that is)
+-- the message for a piece was said
+pub piece_said : {told : Bool} {calling : Calling} {mode : Mode} {on_broken : OnBroken} {names pieces : List (List ℕ)}
+    (piece : List ℕ) {old mid new : List Slot} {known nows : List Standing} → is_done on_broken known ≡ false
+    → (copies : Copies told calling mode on_broken names pieces [] old known)
+    → After copies (OutputLeft told (pieces ++ piece ∷ [])) (FileHas told mode (pieces ++ piece ∷ []))
+    (suc (length pieces)) mid nows
+    → SaysTo told calling
+    (said_since on_broken (fault_in (suc (length pieces))) (output_names names) known nows) mid new
+    → Copies told calling mode on_broken names (pieces ++ piece ∷ []) [] new nows
+piece_said {on_broken = on_broken} {names} {pieces} piece some copies next says = record {
+  output = next.output;
+  error = says.0;
+  files = next.files;
+  first = next.first;
+  broke = next.broke;
+  are = rw (says.2, next.are) refl;
+  output_has = next.output_is;
+  files_have = next.files_are;
+  said = rw (ap (λ texts. texts ++ said_in on_broken (suc (length pieces)) (output_names names) (next.first ∷ next.broke)) (append-nil _)
+      ∙ sym (append-nil _) ∙ ap (λ call. said_before on_broken (suc call) (output_names names) (next.first ∷ next.broke) ++ []) one_more_call) at
+      (said_after copies next says);
+  known_are = (stood next.marked).3;
+  goes_on = ap (λ call. is_done on_broken (standings_before call (next.first ∷ next.broke))) (sym one_more_call) ∙ ap (is_done on_broken) ((stood next.marked).1 ∙ sym copies.known_are) ∙ some;
+  are_known = ap (λ call. standings_before (suc call) (next.first ∷ next.broke)) (sym one_more_call) ∙ (stood next.marked).2;
+} where
+  one_more_call : suc (length pieces) ≡ length (pieces ++ piece ∷ [])
+  one_more_call = omega (arith, length-append pieces (piece ∷ []))
 
--- a file that is
-file_ends : (told : Bool) {mode : Mode} {pieces : List (List ℕ)} {name : List ℕ} {first : Option Break} {old new : Slot}
-    → FileHas told mode pieces name first old → Closes old new
-    → Marked (FileLeft told mode pieces name) (suc (length pieces)) first new
-file_ends told has_all (is_closed _) = (None, file_whole, marked_none)
-file_ends told {pieces = pieces} has_all (fails_to_close _ why) =
-    (Some (break_now (suc (length pieces)) why), file_unclosed, marked_now why)
-file_ends told has_all (was_broken broken) = absurd (cc)
-file_ends told (has_none _ _) (is_closed sound) = absurd (cc)
-file_ends told (has_none _ _) (fails_to_close sound _) = absurd (cc)
-file_ends told (has_none {why} kept named) (was_broken broken) = (Some (break_now 0 why), file_unopened kept named, marked_before _ (omega arith))
-file_ends told (has_begun _ _ _ n is _) (is_closed sound) = absurd (cc)
-file_ends told (has_begun _ _ _ n is _) (fails_to_close sound _) = absurd (cc)
-file_ends told (has_begun {why} before that after n is within) (was_broken broken) =
-    (Some (break_now (suc (length before)) why), file_cut before that after n is within, marked_before _ (call_before before after that is))
+-- a message more on standard error, while the files are open
+pub copies_said : {told : Bool} {calling : Calling} {mode : Mode} {on_broken : OnBroken} {names pieces : List (List ℕ)}
+    {messages : List Message} {old new : List Slot} {known : List Standing}
+    → Copies told calling mode on_broken names pieces [] old known → SaysTo told calling messages old new
+    → Copies told calling mode on_broken names pieces messages new known
+copies_said {told} {calling} {on_broken = on_broken} {names} {pieces} {messages} copies says = record {
+  output = copies.output;
+  error = says.0;
+  files = copies.files;
+  first = copies.first;
+  broke = copies.broke;
+  are = rw (says.2, copies.are) refl;
+  output_has = copies.output_has;
+  files_have = copies.files_have;
+  said = rw (append-nil _) at
+      (says_after told (tee_called calling) (said_before on_broken (suc (length pieces)) (output_names names) (copies.first ∷ copies.broke) ++ []) messages standard_error copies.error says.0 copies.said (rw (ap (λ those. slot_at those 1) copies.are) at says.1));
+  known_are = copies.known_are;
+  goes_on = copies.goes_on;
+  are_known = copies.are_known;
+}
 
-module _ (told : Bool) (calling : Calling) (mode : Mode) (on_broken : OnBroken) (names : List (List ℕ)) where
-  -- a message more on standard error, while the files are open
-  pub copies_said : {pieces : List (List ℕ)} {messages : List Message} {old new : List Slot} {known : List Standing}
-      → Copies told calling mode on_broken names pieces [] old known → SaysTo told calling messages old new
-      → Copies told calling mode on_broken names pieces messages new known
-  copies_said {pieces} {messages} copies says = record {
-    output = copies.output;
-    error = says.0;
-    files = copies.files;
-    first = copies.first;
-    broke = copies.broke;
-    are = rw (says.2, copies.are) refl;
-    output_has = copies.output_has;
-    files_have = copies.files_have;
-    said = rw (append-nil _) at
-        (says_after told (tee_called calling) (said_before on_broken (suc (length pieces)) (output_names names) (copies.first ∷ copies.broke) ++ []) messages standard_error copies.error says.0 copies.said (rw (ap (λ those. slot_at those 1) copies.are) at says.1));
-    known_are = copies.known_are;
-    goes_on = copies.goes_on;
-    are_known = copies.are_known;
-  }
-
-  -- the files were closed
-
-  pub closed_next : {pieces : List (List ℕ)} {messages : List Message} {old mid : List Slot}
-      {known nows : List Standing} {tee : TeeState} → IsTeeOf names tee
-      → (copies : Copies told calling mode on_broken names pieces messages old known)
-      → ChangesEach Closes (IsFile tee) old mid → nows ≡ standings_of mid
-      → After told calling mode on_broken names (OutputLeft told pieces) (FileLeft told mode pieces)
-      (suc (length pieces)) copies mid nows
-  closed_next {pieces} is copies closes sees =
-      called told calling mode on_broken names is copies (suc (length pieces)) closes.count (closes.others 1 (λ file. error_no_output is (inr file)))
-      (λ output here. let same = sym here ∙ closes.others 0 (λ file. omega (arith, (file_place 0 is file).1))
-      ∙ ap (λ those. slot_at those 0) copies.are in
-      let left : OutputLeft told pieces copies.first output = rw same copies.output_has in (copies.first, left, output_kept told left))
-      closes.each (λ name first old new has ends. file_ends told has ends) sees
-
-  pub closing_said : {pieces : List (List ℕ)} {fault : Option Fault} {old mid new : List Slot}
-      {known nows : List Standing}
-      (copies : Copies told calling mode on_broken names pieces (said_of_input fault) old known)
-      → After told calling mode on_broken names (OutputLeft told pieces) (FileLeft told mode pieces)
-      (suc (length pieces)) copies mid nows
-      → SaysTo told calling
-      (said_since on_broken (fault_in (suc (length pieces))) (output_names names) known nows) mid new
-      → HasCopied told calling mode on_broken names pieces fault known new nows
-  closing_said {pieces} copies next says = record {
-    output = next.output;
-    error = says.0;
-    files = next.files;
-    first = next.first;
-    broke = next.broke;
-    are = rw (says.2, next.are) refl;
-    output_left = next.output_is;
-    files_left = next.files_are;
-    said = said_after told calling mode on_broken names copies next says;
-    known_are = stand_so next.marked;
-    goes_on = cc (stood_sooner (length pieces) (omega arith) next.marked);
-    before_are = cc (stood_sooner (suc (length pieces)) (omega arith) next.marked);
-  }
+pub closing_said : {told : Bool} {calling : Calling} {mode : Mode} {on_broken : OnBroken} {names pieces : List (List ℕ)}
+    {fault : Option Fault} {old mid new : List Slot} {known nows : List Standing}
+    (copies : Copies told calling mode on_broken names pieces (said_of_input fault) old known)
+    → After copies (OutputLeft told pieces) (FileLeft told mode pieces) (suc (length pieces)) mid nows
+    → SaysTo told calling
+    (said_since on_broken (fault_in (suc (length pieces))) (output_names names) known nows) mid new
+    → HasCopied told calling mode on_broken names pieces fault known new nows
+closing_said {pieces = pieces} copies next says = record {
+  output = next.output;
+  error = says.0;
+  files = next.files;
+  first = next.first;
+  broke = next.broke;
+  are = rw (says.2, next.are) refl;
+  output_left = next.output_is;
+  files_left = next.files_are;
+  said = said_after copies next says;
+  known_are = (stood next.marked).3;
+  goes_on = cc ((stood next.marked).0 (length pieces) (omega arith));
+  before_are = cc ((stood next.marked).0 (suc (length pieces)) (omega arith));
+}

@@ -1,9 +1,9 @@
 -- Lemmas on what a run reads of its input, and on how it ends.
 use Rattle.std.{
   proofs.lemmas.{Grind.common_steps, Bool.{cases_Bool, false≢true}},
-  proofs.Common.{◌≡◌, ℕ, ◌+◌, ◌<◌, ◌≤◌, ◌^◌, List, [], ◌∷◌, ◌++◌, length, take, Bool, true, false, Option, Some, None},
-  proofs.Common.{IsTrue, ◌⊎◌, refl, sym, ◌∙◌, ap, subst, arith, length-append, append-nil, inl, inr, All, zero, suc},
-  proofs.Common.{map, not, ◌&&◌, ◌||◌, if◌then◌else◌, is_none},
+  proofs.Common.{◌≡◌, ℕ, ◌+◌, ◌<◌, ◌≤◌, ◌^◌, List, [], ◌∷◌, ◌++◌, length, take, Bool, true, false, Option, Some},
+  proofs.Common.{None, IsTrue, ◌⊎◌, refl, sym, ◌∙◌, ap, subst, arith, length-append, append-nil, inl, inr, All, zero},
+  proofs.Common.{suc, map, not, ◌&&◌, ◌||◌, if◌then◌else◌, is_none},
   specs.List.{concat, list_any},
 }
 use Rattle.ports_core.specs.{
@@ -20,15 +20,14 @@ use Rattle.ports_core.specs.{
   Streams.{standard_output, standard_error},
 }
 use Rattle.ports_core.proofs.{
-  InputsLemmas.{HasRead, changed_source, came_broken, came_sound, still_readable, read_broken, read_failed, read_more},
-  InputsLemmas.{read_none_more, read_to_end, of_content},
+  InputsLemmas.{HasRead, changed_source, came_broken, came_sound, still_readable, read_broken, read_failed},
+  InputsLemmas.{read_more, read_none_more, read_to_end, of_content},
 }
 use Rattle.tee_core.specs.{
-  Run.{AreSound, lost_for, GaveLast, IsRead, LeavesOf, to_end, to_break, to_limit, to_broken_output, EndsAs, copied},
-  Run.{no_room, FileLeft, file_whole, file_unopened, file_cut, file_unclosed, FilesLeft, no_file, one_file, ComesIn},
-  Run.{IsAsFound, OutputLeft, output_whole, output_cut, Break, all_copied, any_is, are_sound, ends_run, forgives},
-  Run.{gone_status, is_done, is_same, messages_of, output_names, said_before, said_in, standing_of, standings_before},
-  Run.{status_for, status_of, tee_called},
+  Run.{AreSound, lost_for, GaveLast, IsRead, LeavesOf, to_end, EndsAs, copied, no_room, FileLeft, file_whole},
+  Run.{FilesLeft, no_file, one_file, ComesIn, IsAsFound, OutputLeft, output_whole, output_cut, Break, all_copied},
+  Run.{any_is, are_sound, ends_run, forgives, gone_status, is_done, is_same, messages_of, output_names, said_before},
+  Run.{said_in, standing_of, standings_before, status_for, status_of, tee_called},
   declared.standing.Standing.{Standing, TheVariants.{Sound, Broken, Gone}},
   inner.Steps.{Copies, CopiesRead, HasCopied},
 }
@@ -162,62 +161,60 @@ pub reads_more : {x : List ℕ} (pieces : List (List ℕ)) (piece : List ℕ) {w
 reads_more pieces piece joined sized few so_far is =
     omega (arith, reads_once pieces joined sized few so_far is, length-append pieces (piece ∷ []))
 
-pub reads_copied : {told_in : Bool} (told : Bool) {calling : Calling} {mode : Mode} {on_broken : OnBroken}
-    {names : List (List ℕ)} {content : Content} {source : Source} {slots : List Slot} {known : List Standing}
-    {fault : Option Fault} {came : List ℕ} {pieces : List (List ℕ)} {is_vain : Bool} → came ≡ concat pieces
-    → is_done on_broken known ≡ is_vain → AreSized pieces → length came < 2 ^ 63
-    → (fault ≡ Some (Read 0)) ⊎ (source.is_broken ≡ false) → (fault ≡ None → is_vain ≡ false → source.ended ≡ true)
-    → (told_in ≡ true → is_vain ≡ true → GaveLast pieces source)
-    → source.reads ≡ length pieces + (if is_vain then 0 else 1)
-    → IsRead content (LeavesOf told_in source) is_vain came fault
-    → Copies told calling mode on_broken names pieces [] slots known
-    → CopiesRead told_in told calling mode on_broken names content source slots known fault
-reads_copied told joined vain sized few met ended last reads read copies = grind (arith, common_steps)
-
--- the end
-
-pub ends_copied : {told_in : Bool} (told : Bool) {calling : Calling} {mode : Mode}
-    {on_broken : OnBroken} {names : List (List ℕ)} {content : Content} {source : Source} {pieces : List (List ℕ)}
-    {fault : Option Fault} {status : ℕ} {slots : List Slot} {before known : List Standing}
-    → status ≡ status_for on_broken known fault → ComesIn told_in content source (is_done on_broken before) pieces fault
-    → HasCopied told calling mode on_broken names pieces fault before slots known
-    → EndsAs told_in told calling mode on_broken names content source slots status
-ends_copied told {on_broken = on_broken} {pieces = pieces} {fault} is read left =
-    copied pieces fault left.first left.broke left.output left.error left.files (rw (← left.before_are) at read)
-    left.goes_on left.output_left left.files_left left.said left.are
-    (cc)
-
--- there was no memory
-
 -- the fault was told, and the run has this status
 abbrev pub ToldSo : Bool → Calling → Fault → List Slot → List Slot → ℕ → Type 0
 ToldSo told calling fault mid new status = TellsOn told (tee_called calling) fault mid new
     × (status ≡ status_after fault calling (output_reason mid fault))
 
-ends_nowhere : {told_in : Bool} (told : Bool) {calling : Calling} {mode : Mode}
-    {on_broken : OnBroken} {names : List (List ℕ)} {content : Content} {source : Source} {mid new : List Slot}
-    {fault : Fault} {status : ℕ} → fault ≡ Memory → mid ≡ streams → IsAsFound told_in content source
-    → ToldSo told calling fault mid new status
-    → EndsAs told_in told calling mode on_broken names content source new status
-ends_nowhere told {calling} {mid = mid} {new} {status = status} is at unread says =
-    let (tells, one) = subst (λ (those : Fault). ToldSo told calling those mid new status) is says in
-    let said = tells standard_output standard_error [] at in
-    no_room said.0 (said.0, (Other, said.1), refl) unread said.2 one
+module _ {told_in told : Bool} {calling : Calling} {mode : Mode} {on_broken : OnBroken} {names : List (List ℕ)} where
+  pub reads_copied : {content : Content} {source : Source} {slots : List Slot} {known : List Standing}
+      {fault : Option Fault} {came : List ℕ} {pieces : List (List ℕ)} {is_vain : Bool} → came ≡ concat pieces
+      → is_done on_broken known ≡ is_vain → AreSized pieces → length came < 2 ^ 63
+      → (fault ≡ Some (Read 0)) ⊎ (source.is_broken ≡ false) → (fault ≡ None → is_vain ≡ false → source.ended ≡ true)
+      → (told_in ≡ true → is_vain ≡ true → GaveLast pieces source)
+      → source.reads ≡ length pieces + (if is_vain then 0 else 1)
+      → IsRead content (LeavesOf told_in source) is_vain came fault
+      → Copies told calling mode on_broken names pieces [] slots known
+      → CopiesRead told_in told calling mode on_broken names content source slots known fault
+  reads_copied joined vain sized few met ended last reads read copies = grind (arith, common_steps)
 
-pub ends_at_once : {told_in : Bool} (told : Bool) {calling : Calling} {mode : Mode}
-    {on_broken : OnBroken} {names : List (List ℕ)} {old new_sources : List Source} {first mid new : List Slot}
-    {fault : Fault} {status : ℕ} → fault ≡ Memory → IsFresh old → first ≡ streams → mid ≡ first → new_sources ≡ old
-    → ToldSo told calling fault mid new status
-    → OfContent told_in (source_at old 0).left
-    (λ content. EndsAs told_in told calling mode on_broken names content (source_at new_sources 0) new status
-    × CameFrom told_in content (source_at new_sources 0))
-ends_at_once {told_in} told {calling} {mode} {on_broken} {names} {old} {new_sources} {new = new} {status = status} is fresh at same sources says =
-    let unread = ap (λ those. source_at those 0) (sources ∙ fresh.only) in
-    of_content told_in (source_at old 0).left empty (source_at new_sources 0)
-    (λ content. EndsAs told_in told calling mode on_broken names content (source_at new_sources 0) new status)
-    (λ _. ends_nowhere told is (same ∙ at) (fresh.standard, unread, λ _. cc) says)
-    (λ untold. ends_nowhere told is (same ∙ at) (fresh.standard, unread, λ tells. absurd (cc)) says)
-    (cc) (cc)
+  -- the end
+
+  pub ends_copied : {content : Content} {source : Source} {pieces : List (List ℕ)}
+      {fault : Option Fault} {status : ℕ} {slots : List Slot} {before known : List Standing}
+      → status ≡ status_for on_broken known fault
+      → ComesIn told_in content source (is_done on_broken before) pieces fault
+      → HasCopied told calling mode on_broken names pieces fault before slots known
+      → EndsAs told_in told calling mode on_broken names content source slots status
+  ends_copied {pieces = pieces} {fault} is read left =
+      copied pieces fault left.first left.broke left.output left.error left.files (rw (← left.before_are) at read)
+      left.goes_on left.output_left left.files_left left.said left.are
+      (cc)
+
+  -- there was no memory
+
+  ends_nowhere : {content : Content} {source : Source} {mid new : List Slot}
+      {fault : Fault} {status : ℕ} → fault ≡ Memory → mid ≡ streams → IsAsFound told_in content source
+      → ToldSo told calling fault mid new status
+      → EndsAs told_in told calling mode on_broken names content source new status
+  ends_nowhere {mid = mid} {new} {status = status} is at unread says =
+      let (tells, one) = subst (λ (those : Fault). ToldSo told calling those mid new status) is says in
+      let said = tells standard_output standard_error [] at in
+      no_room said.0 (said.0, (Other, said.1), refl) unread said.2 one
+
+  pub ends_at_once : {old new_sources : List Source} {first mid new : List Slot}
+      {fault : Fault} {status : ℕ} → fault ≡ Memory → IsFresh old → first ≡ streams → mid ≡ first → new_sources ≡ old
+      → ToldSo told calling fault mid new status
+      → OfContent told_in (source_at old 0).left
+      (λ content. EndsAs told_in told calling mode on_broken names content (source_at new_sources 0) new status
+      × CameFrom told_in content (source_at new_sources 0))
+  ends_at_once {old} {new_sources} {new = new} {status = status} is fresh at same sources says =
+      let unread = ap (λ those. source_at those 0) (sources ∙ fresh.only) in
+      of_content told_in (source_at old 0).left empty (source_at new_sources 0)
+      (λ content. EndsAs told_in told calling mode on_broken names content (source_at new_sources 0) new status)
+      (λ _. ends_nowhere is (same ∙ at) (fresh.standard, unread, λ _. cc) says)
+      (λ untold. ends_nowhere is (same ∙ at) (fresh.standard, unread, λ tells. absurd (cc)) says)
+      (cc) (cc)
 
 -- nothing broke
 
@@ -251,38 +248,35 @@ pub whole_files : (told : Bool) (mode : Mode) (pieces : List (List ℕ)) (names 
 whole_files told mode pieces _ _ _ sound no_file = refl
 whole_files told mode pieces _ _ _ sound (one_file name names _ broke _ files file_whole rest) =
     cc (whole_files told mode pieces names broke files sound rest)
-whole_files told mode pieces _ _ _ sound (one_file name _ _ _ _ _ (file_unopened _ _) _) = absurd (cc)
-whole_files told mode pieces _ _ _ sound (one_file name _ _ _ _ _ (file_cut _ _ _ n is _) _) = absurd (cc)
-whole_files told mode pieces _ _ _ sound (one_file name _ _ _ _ _ _ _) = absurd (cc)
+whole_files told mode pieces names broke files sound left = absurd (cc)
 
--- outputs of which none is broken never broke
+module _ {told : Bool} {pieces : List (List ℕ)} where
+  -- outputs of which none is broken never broke
 
-output_sound : {told : Bool} {pieces : List (List ℕ)} {first : Option Break} {output : Slot} → output.is_broken ≡ false
-    → OutputLeft told pieces first output → first ≡ None
-output_sound whole output_whole = refl
-output_sound whole (output_cut _ _ _ n is _) = absurd (cc)
+  output_sound : {first : Option Break} {output : Slot} → output.is_broken ≡ false
+      → OutputLeft told pieces first output → first ≡ None
+  output_sound whole output_whole = refl
+  output_sound whole (output_cut _ _ _ n is _) = absurd (cc)
 
-file_sound : {told : Bool} {mode : Mode} {pieces : List (List ℕ)} {name : List ℕ} {first : Option Break} {file : Slot}
-    → file.is_broken ≡ false → FileLeft told mode pieces name first file → first ≡ None
-file_sound whole file_whole = refl
-file_sound whole (file_unopened _ _) = absurd (cc)
-file_sound whole (file_cut _ _ _ n is _) = absurd (cc)
-file_sound whole file_unclosed = absurd (cc)
+  file_sound : {mode : Mode} {name : List ℕ} {first : Option Break} {file : Slot}
+      → file.is_broken ≡ false → FileLeft told mode pieces name first file → first ≡ None
+  file_sound whole file_whole = refl
+  file_sound whole left = absurd (cc)
 
-files_sound : {told : Bool} {mode : Mode} {pieces names : List (List ℕ)} {broke : List (Option Break)}
-    {files : List Slot} → ((place : ℕ) → (slot_at files place).is_broken ≡ false)
-    → FilesLeft told mode pieces names broke files → are_sound broke ≡ true
-files_sound whole no_file = refl
-files_sound whole (one_file name _ _ _ file _ left rest) =
-    rw (file_sound (whole 0) left) (files_sound (λ place. whole (suc place)) rest)
+  files_sound : {mode : Mode} {names : List (List ℕ)} {broke : List (Option Break)}
+      {files : List Slot} → ((place : ℕ) → (slot_at files place).is_broken ≡ false)
+      → FilesLeft told mode pieces names broke files → are_sound broke ≡ true
+  files_sound whole no_file = refl
+  files_sound whole (one_file name _ _ _ file _ left rest) =
+      rw (file_sound (whole 0) left) (files_sound (λ place. whole (suc place)) rest)
 
-pub all_sound_if : {told : Bool} {mode : Mode} {pieces names : List (List ℕ)} {first : Option Break}
-    {broke : List (Option Break)} {output error : Slot} {files new : List Slot} → OutputLeft told pieces first output
-    → FilesLeft told mode pieces names broke files → new ≡ output ∷ error ∷ files → AreSound new
-    → are_sound (first ∷ broke) ≡ true
-all_sound_if left rest is whole =
-    let those = rw is at whole in rw (output_sound (those 0 (λ same. omega arith)) left)
-    (files_sound (λ place. those (suc (suc place)) (λ same. omega arith)) rest)
+  pub all_sound_if : {mode : Mode} {names : List (List ℕ)} {first : Option Break}
+      {broke : List (Option Break)} {output error : Slot} {files new : List Slot} → OutputLeft told pieces first output
+      → FilesLeft told mode pieces names broke files → new ≡ output ∷ error ∷ files → AreSound new
+      → are_sound (first ∷ broke) ≡ true
+  all_sound_if left rest is whole =
+      let those = rw is at whole in rw (output_sound (those 0 (λ same. omega arith)) left)
+      (files_sound (λ place. those (suc (suc place)) (λ same. omega arith)) rest)
 
 -- where it is no fault that one is gone, and none failed, nothing broke
 pub sound_if : (broke : List (Option Break)) → any_is Broken (map standing_of broke) ≡ false
@@ -317,9 +311,7 @@ status_zero on_broken broke fault strict = by (any_is Gone (map standing_of brok
 read_whole : {content : Content} (Leaves : List ℕ → Type 0) {is_vain : Bool} {x : List ℕ} {fault : Option Fault}
     → is_vain ≡ false → is_none fault ≡ true → IsRead content Leaves is_vain x fault → content.bytes ≡ x
 read_whole Leaves left sound (to_end x is _ _) = is
-read_whole Leaves left sound (to_break x is _ _) = absurd (cc)
-read_whole Leaves left sound (to_limit x _ _ is _ _ _) = absurd (cc)
-read_whole Leaves left sound (to_broken_output x _ is _) = absurd (cc)
+read_whole Leaves left sound read = absurd (cc)
 
 -- where nothing broke the run goes on
 none_ends : (on_broken : OnBroken) (call : ℕ) (broke : List (Option Break)) → are_sound broke ≡ true
@@ -362,38 +354,36 @@ well_of on_broken fault {first} {broke} left rest at sound zero_is = elim (cases
   | inr strict ↦ status_zero on_broken (first ∷ broke) fault strict zero_is
 ]
 
-pub whole_if : {told_in : Bool} (told : Bool) {calling : Calling} {mode : Mode}
-    {on_broken : OnBroken} {names : List (List ℕ)} {content : Content} {source : Source} {new : List Slot} {status : ℕ}
-    → status ≡ 0 → (forgives on_broken ≡ true → AreSound new)
-    → EndsAs told_in told calling mode on_broken names content source new status
-    → new ≡ all_copied told mode names content.bytes
-whole_if told zero_is sound (no_room _ said left at one) = absurd (omega arith)
-whole_if told {mode = mode} {on_broken} {names} zero_is sound (copied pieces fault first broke output error files read some output_left files_left said at is) =
-    let good = well_of on_broken fault output_left files_left at sound (sym is ∙ zero_is) in let sounds = sound_first first (are_sound broke) good.1 in
-    let silent = quiet fault (length pieces) (first ∷ broke) good.0 good.1 in
-    let made : error ≡ standard_error = rw silent at said in
-    rw (
-      at,
-      whole_output told pieces first output sounds.0 output_left,
-      made,
-      whole_files told mode pieces names broke files
-          sounds.1 files_left,
-      read_whole _ (sound_goes_on on_broken _ first broke good.1) good.0 read.read,
-    ) refl where
-      quiet : (fault : Option Fault) (pieces : ℕ) (broke : List (Option Break)) → is_none fault ≡ true
-          → are_sound broke ≡ true → messages_of on_broken names broke pieces fault ≡ []
-      quiet None pieces broke ended sound =
-          cc (
-            nothing_before on_broken (suc pieces) (output_names names) broke sound,
-            nothing_in on_broken (suc pieces)
-                (output_names names) broke sound,
-          )
-      quiet (Some _) pieces broke ended sound = absurd (cc)
+module _ {told_in told : Bool} {calling : Calling} {mode : Mode} {on_broken : OnBroken} {names : List (List ℕ)} where
+  pub whole_if : {content : Content} {source : Source} {new : List Slot} {status : ℕ}
+      → status ≡ 0 → (forgives on_broken ≡ true → AreSound new)
+      → EndsAs told_in told calling mode on_broken names content source new status
+      → new ≡ all_copied told mode names content.bytes
+  whole_if zero_is sound (no_room _ said left at one) = absurd (omega arith)
+  whole_if zero_is sound (copied pieces fault first broke output error files read some output_left files_left said at is) =
+      let good = well_of on_broken fault output_left files_left at sound (sym is ∙ zero_is) in let sounds = sound_first first (are_sound broke) good.1 in
+      let silent = quiet fault (length pieces) (first ∷ broke) good.0 good.1 in
+      let made : error ≡ standard_error = rw silent at said in
+      rw (
+        at,
+        whole_output told pieces first output sounds.0 output_left,
+        made,
+        whole_files told mode pieces names broke files sounds.1 files_left,
+        read_whole _ (sound_goes_on on_broken _ first broke good.1) good.0 read.read,
+      ) refl where
+        quiet : (fault : Option Fault) (pieces : ℕ) (broke : List (Option Break)) → is_none fault ≡ true
+            → are_sound broke ≡ true → messages_of on_broken names broke pieces fault ≡ []
+        quiet None pieces broke ended sound =
+            cc (
+              nothing_before on_broken (suc pieces) (output_names names) broke sound,
+              nothing_in on_broken (suc pieces)
+                  (output_names names) broke sound,
+            )
+        quiet (Some _) pieces broke ended sound = absurd (cc)
 
-pub whole_of : {told_in : Bool} (told : Bool) {calling : Calling} {mode : Mode}
-    {on_broken : OnBroken} {names : List (List ℕ)} (there : Content) {source : Source} {new : List Slot} {status : ℕ}
-    → told_in ≡ true → status ≡ 0 → (forgives on_broken ≡ true → AreSound new)
-    → OfContent told_in there
-    (λ content. EndsAs told_in told calling mode on_broken names content source new status
-    × CameFrom told_in content source) → new ≡ all_copied told mode names there.bytes
-whole_of told there tells zero_is sound (content, is, holds) = cc (whole_if told zero_is sound holds.0, is tells)
+  pub whole_of : (there : Content) {source : Source} {new : List Slot} {status : ℕ}
+      → told_in ≡ true → status ≡ 0 → (forgives on_broken ≡ true → AreSound new)
+      → OfContent told_in there
+      (λ content. EndsAs told_in told calling mode on_broken names content source new status
+      × CameFrom told_in content source) → new ≡ all_copied told mode names there.bytes
+  whole_of there tells zero_is sound (content, is, holds) = cc (whole_if zero_is sound holds.0, is tells)

@@ -2,9 +2,8 @@
 use Rattle.std.{
   proofs.lemmas.{Grind.common_steps, List.{append-nil, get_or-append-add, get_or_append_left, length-map}},
   proofs.Common.{◌≡◌, ℕ, ◌+◌, ◌-◌, ◌^◌, ◌<◌, ◌≤◌, zero, suc, List, [], ◌∷◌, ◌++◌, length, map, take, drop},
-  proofs.Common.{get_or, Bor},
-  proofs.Common.{true, inl, inr, refl, sym, ◌∙◌, ap, arith, append_assoc, length-append, replicate, Bool, false},
-  proofs.Common.{Option, Some, None},
+  proofs.Common.{get_or, Bor, true, inl, inr, refl, sym, ◌∙◌, ap, arith, append_assoc, length-append, replicate},
+  proofs.Common.{Bool, false, Option, Some, None},
   specs.List.list_any,
 }
 use Rattle.ports_core.{
@@ -21,13 +20,12 @@ use Rattle.tee_core.specs.{
   },
   Outputs.{IsOutput, IsReady, IsUsable},
   TeeState.TeeState,
-  Run.{Break, EachFile, no_file, one_file, output_whole, ends_run, fault_in, is_done, output_names, standing_of},
+  Run.{Break, EachFile, no_file, one_file, output_whole, ends_run, fault_in, output_names, standing_of},
   Run.{standings_before, stands_as},
   declared.standing.Standing.{Standing, TheVariants.Sound},
 }
 use Rattle.tee_core.proofs.{
-  CopyLemmas.{AllMark, Marked, all_marked, break_now, marked_none, marked_now, none_marked, said_marked, stand_now},
-  CopyLemmas.stand_so,
+  CopyLemmas.{AllMark, Marked, all_marked, break_now, marked_none, marked_now, none_marked, said_marked, stood},
 }
 use Rattle.ports_core.specs.declared.fault.Fault.TheVariants as fault
 
@@ -176,14 +174,6 @@ files_start told (one_more name _ file _ one rest) =
     let there = files_start told rest in
     (here.0 ∷ there.0, one_file _ _ _ _ _ _ here.1 there.1, all_marked _ _ _ _ _ _ here.2 there.2)
 
--- standard output, which nothing has broken, and the files
-all_start : (told : Bool) {mode : Mode} {names : List (List ℕ)} {files : List Slot} → OpensEach mode names files
-    → (broke : List (Option Break)) × EachFile (FileHas told mode []) names broke files
-    × AllMark 0 (None ∷ replicate (length names) None) (None ∷ broke)
-    (standings_of (standard_output ∷ standard_error ∷ files))
-all_start told {files = files} each =
-    let rest = files_start told each in (rest.0, rest.1, all_marked None None Sound _ rest.0 (map stands_as files) marked_none rest.2)
-
 pub opened_streams : {mode : Mode} {names : List (List ℕ)} {slots : List Slot} → Opens mode names streams slots
     → HasStreams slots (length names)
 opened_streams opens = grind (arith, common_steps, length-since)
@@ -195,10 +185,6 @@ none_before : (on_broken : OnBroken) (whens : List (Option Break))
 none_before on_broken [] = refl
 none_before on_broken (None ∷ whens) = none_before on_broken whens
 none_before on_broken (Some lost ∷ whens) = grind (arith, common_steps, none_before on_broken whens)
-
-goes_at_first : (on_broken : OnBroken) (whens : List (Option Break))
-    → is_done on_broken (standings_before 0 (None ∷ whens)) ≡ false
-goes_at_first on_broken whens = rw (none_before on_broken whens) refl
 
 standing_none : (count : ℕ) → map standing_of (replicate count None) ≡ replicate count Sound
 standing_none zero = refl
@@ -213,7 +199,8 @@ starts told on_broken {names} {known = known} {nows} opens unknown says sees =
     let known_is : known ≡ Sound ∷ replicate (length names) Sound = unknown
     ∙ ap (λ n. replicate n Sound) (let e : length names + 1 ≡ suc (length names) = omega arith in e) in
     let stand : nows ≡ standings_of (standard_output ∷ standard_error ∷ opens.since) = cc in
-    let all = all_start told opens.each in
+    let files = files_start told opens.each in
+    let marked = all_marked None None Sound _ files.0 (map stands_as opens.since) marked_none files.2 in
     let known_so = map standing_of (None ∷ replicate (length names) None) in
     let unbroken : known ≡ known_so = cc (standing_none (length names)) in
     let says_since = said_since on_broken (fault_in 0) (output_names names) in
@@ -222,16 +209,16 @@ starts told on_broken {names} {known = known} {nows} opens unknown says sees =
       error = says.0;
       files = opens.since;
       first = None;
-      broke = all.0;
+      broke = files.0;
       are = cc;
       output_has = rw (← (adds-nil told standard_output)) output_whole;
-      files_have = all.1;
+      files_have = files.1;
       said = rw (ap (λ those. says_since those nows) unbroken ∙ ap (says_since known_so) stand
-          ∙ sym (said_marked on_broken (output_names names) all.2) ∙ sym (append-nil _)) at
+          ∙ sym (said_marked on_broken (output_names names) marked) ∙ sym (append-nil _)) at
           (rw (ap (λ those. slot_at those 1) opens.slots) at says.1);
-      known_are = stand ∙ stand_so all.2;
-      goes_on = goes_at_first on_broken all.0;
-      are_known = stand_now all.2 ∙ sym stand;
+      known_are = stand ∙ (stood marked).3;
+      goes_on = rw (none_before on_broken files.0) refl;
+      are_known = (stood marked).2 ∙ sym stand;
     }
 
 pub length-names : (names : List (Bor (List ℕ))) {known : List Standing} → known ≡ replicate (length names + 1) Sound

@@ -1,6 +1,7 @@
 -- The outputs of a tee, and what each of its calls makes of them.
 use Rattle.std.specs.{
-  Prelude.{◌≡◌, ℕ, ◌+◌, ◌≤◌, ◌<◌, Bool, true, false, not, ◌&&◌, List, [], ◌∷◌, length, take, ◌⊎◌, if◌then◌else◌},
+  Prelude.{◌≡◌, ℕ, ◌+◌, ◌≤◌, ◌<◌, Bool, true, false, not, ◌&&◌, List, [], ◌∷◌, length, take, ◌⊎◌},
+  Prelude.if◌then◌else◌,
 }
 use Rattle.ports_core.specs.{
   Slot.{Slot, slot_at, is_open, adds, breaks, closes, told_of},

@@ -1,7 +1,7 @@
 -- What a run of `tee` leaves, of its input and of what broke when.
 use Rattle.std.specs.{
-  Prelude.{is_none, ◌≡◌, ℕ, ◌≤◌, ◌<◌, ◌^◌, zero, suc, ◌==◌, ◌&&◌, ◌||◌, ◌+◌, not, nat_lt, All, Bool, true, false, List},
-  Prelude.{[], ◌∷◌, ◌++◌, length, map, take, Option, Some, None, ◌⊎◌, codes, if◌then◌else◌},
+  Prelude.{is_none, ◌≡◌, ℕ, ◌≤◌, ◌<◌, ◌^◌, zero, suc, ◌==◌, ◌&&◌, ◌||◌, ◌+◌, not, nat_lt, All, Bool, true},
+  Prelude.{false, List, [], ◌∷◌, ◌++◌, length, map, take, Option, Some, None, ◌⊎◌, codes, if◌then◌else◌},
   List.{concat, list_any},
 }
 use Rattle.ports_core.specs.{

@@ -1,3 +1,3 @@
+pub mod ChangesSome
 pub mod Opening
 pub mod Steps
-pub mod Turns

@@ -5,7 +5,7 @@ ghost use Rattle.std.specs.{
 ghost use Rattle.ports_core.specs.Slot.{Slot, adds, is_open, slot_at, told_of};
 ghost use Rattle.tee_core.specs.{
   Opening.{Opens, OpensSome},
-  inner.{Opening.OpensOne, Turns.Turns},
+  inner.{Opening.OpensOne, ChangesSome.ChangesSome},
   Outputs.{ChangesEach, Closes, Gets, IsFile, IsOutput, IsReady, IsUsable, newly_broken},
   TeeState.TeeState,
 };
@@ -126,7 +126,8 @@ impl Tee {
     /// Writes the piece to each file in order, and returns how many broke.
     fn write_files<O: Outs>(&self, piece: &[u8], outs: &mut O) -> u64
         requires { (place : ℕ) → IsFile self.now place → IsUsable (slot_at (O.slots outs.old) place) }
-        ensures turned { Turns (Gets O.told piece.now) (IsFile self.now) (O.slots outs.old) (O.slots outs.new) result }
+        ensures turned { ChangesSome (Gets O.told piece.now) (IsFile self.now) (O.slots outs.old)
+            (O.slots outs.new) result }
         ensures few { result ≤ self.now.count }
     {
         let mut broke = 0;
@@ -139,7 +140,7 @@ impl Tee {
     /// Closes each file in order, and returns how many broke.
     fn close_files<O: Outs>(&self, outs: &mut O) -> u64
         requires { (place : ℕ) → IsFile self.now place → IsUsable (slot_at (O.slots outs.old) place) }
-        ensures { Turns Closes (IsFile self.now) (O.slots outs.old) (O.slots outs.new) result }
+        ensures { ChangesSome Closes (IsFile self.now) (O.slots outs.old) (O.slots outs.new) result }
     {
         let mut broke = 0;
         for n in 0..self.count {
@@ -194,7 +195,7 @@ fn open_file<O: Outs>(name: &str, mode: Mode, outs: &mut O) -> Result<usize, Fau
 /// Writes the piece to an output, unless that is broken. Returns 1 where it broke, and else 0.
 fn write_piece<O: Outs>(slot: usize, piece: &[u8], outs: &mut O) -> u64
     requires { IsUsable (slot_at (O.slots outs.old) slot) }
-    ensures turned { Turns (Gets O.told piece.now) (λ place. place ≡ slot) (O.slots outs.old)
+    ensures turned { ChangesSome (Gets O.told piece.now) (λ place. place ≡ slot) (O.slots outs.old)
         (O.slots outs.new) result }
     ensures few { result ≤ 1 }
 {
@@ -211,7 +212,7 @@ fn write_piece<O: Outs>(slot: usize, piece: &[u8], outs: &mut O) -> u64
 fn close_file<O: Outs>(slot: usize, outs: &mut O) -> u64
     requires file { 2 ≤ slot }
     requires usable { IsUsable (slot_at (O.slots outs.old) slot) }
-    ensures turned { Turns Closes (λ place. place ≡ slot) (O.slots outs.old) (O.slots outs.new) result }
+    ensures turned { ChangesSome Closes (λ place. place ≡ slot) (O.slots outs.old) (O.slots outs.new) result }
     ensures few { result ≤ 1 }
 {
     if outs.broken(slot) {

@@ -1,9 +1,8 @@
 -- Lemmas on opening a tool's engine.
 use Rattle.std.proofs.{
   lemmas.{Grind.common_steps, List.length-replicate},
-  Common.{◌≡◌, ℕ, ◌-◌, ◌<◌, ◌≤◌, ◌^◌, zero, Bool, true, false, IsTrue, if◌then◌else◌, List, [], length, Result},
-  Common.{Ok, Err, IfOk, IfErr, IsErr, OnOk, refl, sym, ap, arith, Option, Some, None, option_map, replicate, inl},
-  Common.inr,
+  Common.{◌≡◌, ℕ, ◌-◌, ◌<◌, ◌≤◌, ◌^◌, zero, Bool, true, false, IsTrue, if◌then◌else◌, List, [], length, Result, Ok},
+  Common.{Err, IfOk, IfErr, IsErr, OnOk, refl, sym, ap, arith, Option, Some, None, option_map, replicate, inl, inr},
 }
 use Rattle.ports_core.specs.{
   Slot.{Slot, is_writable},

@@ -1,9 +1,8 @@
 -- What a run leaves that a fault stopped is a beginning of what one leaves that none stopped.
 use Rattle.std.{
   proofs.lemmas.{Grind.common_steps, Bool.{cases_eq, false≢true, cond_both}},
-  proofs.Common.{◌≡◌, ℕ, ◌+◌, ◌≤◌, ◌<◌, zero, suc, Bool, true, false, List, [], ◌∷◌, ◌++◌, length, map, Option},
-  proofs.Common.{inl, inr, ◌⊎◌, refl, sym, ◌∙◌, arith, rules, None, append_assoc},
-  proofs.Common.{not, ◌&&◌},
+  proofs.Common.{◌≡◌, ℕ, ◌+◌, ◌≤◌, ◌<◌, zero, suc, Bool, true, false, List, [], ◌∷◌, ◌++◌, length, map, Option, inl},
+  proofs.Common.{inr, ◌⊎◌, refl, sym, ◌∙◌, arith, rules, None, append_assoc, not, ◌&&◌},
   proofs.Math.Bool.{and_assoc, or-true},
 }
 use Rattle.ports_core.specs.{
@@ -18,8 +17,7 @@ use Rattle.ports_core.specs.{
   Name.{name_count},
 }
 use Rattle.ports_core.proofs.{
-  PartLemmas.{nothing_begins, nothing_begins_part, part_begins_itself, part_trans},
-  PartLemmas.take_begins_after,
+  PartLemmas.{nothing_begins, nothing_begins_part, part_begins_itself, part_trans, take_begins_after},
   SlotLemmas.{slot_at-changed, slot_at-elsewhere},
 }
 use Rattle.seg_core.specs.{declared.cut.{Cut.{Cut, TheVariants.{Parts, Round}}, Way.Way}, Cut.IsWay}

@@ -1,8 +1,7 @@
 -- Over the inputs that any run found there is a run that no fault stops.
 use Rattle.std.{
   proofs.Common.{◌≡◌, ℕ, ◌+◌, ◌≤◌, ◌<◌, ◌^◌, suc, zero, Bool, true, false, ◌||◌, cond, List, [], ◌∷◌, ◌++◌},
-  proofs.Common.length,
-  proofs.Common.{map, Option, Some, None, inl, inr, ◌⊎◌, refl, sym, ◌∙◌, ap, arith, lit<, append_assoc},
+  proofs.Common.{length, map, Option, Some, None, inl, inr, ◌⊎◌, refl, sym, ◌∙◌, ap, arith, lit<, append_assoc},
   proofs.Common.length-append,
   proofs.Math.Seq.get_or-append_seam,
   proofs.lemmas.{Bool.{cases_Bool, cases_lt, false≢true}, List.{length-map, Elements.All-map}},

@@ -12,8 +12,7 @@ use Rattle.std.{
 use Rattle.operand_core.specs.{
   declared.operand.{Operand.Operand, Target.{Target, TheVariants.{Number, Search}}, Times.{Times, TheVariants.Count}},
   Reading.{Aim, line, match, Spelled, Aimed, aims, fails, Words, AreRead, Asks, IsTarget, aim_of, failed},
-  Reading.least_after,
-  Reading.{times_by, with_operand, words_from, words_of},
+  Reading.{least_after, times_by, with_operand, words_from, words_of},
   Word.{spelling, closed_at, repeated, numbered},
   Style.Style,
 }
@@ -22,12 +21,10 @@ use Rattle.csplit_core.specs.{
   Csplit.verdict_of,
   Input.{all_lines, marked, newline},
   Output.{file_in, manner_of, naming_of, shares_in, state_in},
-  Plan.{State, line_after, operands_after, step_of, Step, Ending, below, Runs, misses, is_above},
-  Plan.is_below,
-  Plan.cuts,
+  Plan.{State, line_after, operands_after, step_of, Step, Ending, below, Runs, misses, is_above, is_below, cuts},
   Planned.plan,
   Section.{Section, section_of, bytes_of, is_final, is_last_kept, lines_between, lines_in, whole_sections},
-  laws.{PlanLaws.plan_runs, SectionLaws.{are_within}},
+  laws.{PlanLaws.plan_runs, SectionLaws.are_within},
 }
 use Rattle.csplit_core.proofs.WholeLemmas.{ends_after_all, none_lost_at_end, between_rest, rest_is_all}
 use Rattle.tools_core.{

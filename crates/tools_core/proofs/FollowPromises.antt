@@ -2,8 +2,7 @@
 use Rattle.std.proofs.{
   lemmas.{Grind.common_steps, Bool.{or_parts, cases_lt, false≢true}},
   Common.{◌≡◌, ℕ, ◌+◌, ◌<◌, ◌≤◌, max, zero, suc, Bool, true, false, List, [], ◌∷◌, ◌++◌, length, drop, Option, Some},
-  Common.{refl, sym, ◌∙◌, ap, subst, arith, append_assoc, ◌&&◌, cond, is_some, not, ◌||◌, inl},
-  Common.{inr, rules},
+  Common.{refl, sym, ◌∙◌, ap, subst, arith, append_assoc, ◌&&◌, cond, is_some, not, ◌||◌, inl, inr, rules},
   Math.Seq.drop-append_seam as drop_front,
 }
 use Rattle.watch_core.specs.{Snapshot.{Snapshot, waiting}, Watched.Watched}
@@ -13,8 +12,7 @@ use Rattle.follow_core.specs.{
   Run.{AreKept, name_text},
   Version.{Entry, entries_later, entries_of, open_after, open_after_later, version_in},
   Followed.{any_failed, text_from},
-  Look.{Fate, Look, Ways, fate_at, is_dropped, sound},
-  Look.{snapshots, ways_of},
+  Look.{Fate, Look, Ways, fate_at, is_dropped, sound, snapshots, ways_of},
   Share.{bytes_of, gain, gains_from, no_share, share_by, share_of, shares_from},
   FollowState.is_alive,
 }

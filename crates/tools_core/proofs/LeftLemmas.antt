@@ -6,10 +6,9 @@ use Rattle.std.proofs.{
     Bool.{and_parts, not-false, or_parts, cond_both},
     List.Elements.{All-append, All-cons, All-head, All-map, All-nil, All-tail},
   },
-  Common.{◌≡◌, ℕ, ◌+◌, ◌<◌, zero, suc, Bool, true, false, ◌&&◌, cond, List, [], ◌∷◌, ◌++◌, length, map},
-  Common.{Option, Some, None, inl, inr, ◌⊎◌, refl, sym, ◌∙◌, ap, arith, append_assoc, append-nil, All, rules, ◌≤◌},
-  Common.◌^◌,
-  Common.{is_none, Ok, codes},
+  Common.{◌≡◌, ℕ, ◌+◌, ◌<◌, zero, suc, Bool, true, false, ◌&&◌, cond, List, [], ◌∷◌, ◌++◌, length, map, Option, Some},
+  Common.{None, inl, inr, ◌⊎◌, refl, sym, ◌∙◌, ap, arith, append_assoc, append-nil, All, rules, ◌≤◌, ◌^◌, is_none},
+  Common.{Ok, codes},
 }
 use Rattle.ports_core.specs.{
   Slot.{Slot, adds, has_file, slot_at, closes, opened, removes},
@@ -40,9 +39,7 @@ use Rattle.tools_core.{
   proofs.SameLemmas.{KnowsNoMore, all_made_alike, head_knows, shows_none, tail_knows, way_knows},
   specs.Promises.{AllAlike, AreAlike, GivesBytes, are_same, give_same, SaysLines, Completes, FindAlike, IsCopied},
   specs.Promises.{IsMet, Tells, IsFound, IsGone, IsTask, IsUnstopped, LeaveAlike, Ran, Run, TellsMet, Unstopped},
-  specs.Promises.broken_off,
-  specs.Promises.failing,
-  specs.Promises.{judged, missing, removes_files},
+  specs.Promises.{broken_off, failing, judged, missing, removes_files},
   specs.About.{TellsText, no_text, text_cut, text_whole},
   specs.Outcome.{DoesAsked, RefusesOperands},
   specs.Tasks.{filing_of, is_minus, is_plus, names_of, speaker_of},
@@ -53,8 +50,7 @@ use Rattle.run_core.specs.{
   Feeding.{IsCall, Step, closes as ends_call, feeds, is_enough, opens},
   Input.{Input, inputs_at, standard_input},
   RunEnds.{RunStep, calling as call_step, heading, unheaded, unopened, EndsAs, as_defined},
-  Task.{Outcome, Task, is_missing, joined, of_content, of_input, of_inputs},
-  Task.{made_by, status_of},
+  Task.{Outcome, Task, is_missing, joined, of_content, of_input, of_inputs, made_by, status_of},
 }
 use Rattle.run_core.proofs.StopLemmas.{beside_error, swept_error}
 use Rattle.tee_core.{

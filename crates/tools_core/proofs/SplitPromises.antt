@@ -6,13 +6,12 @@ use Rattle.std.proofs.{
   lemmas.List.{get_or_append_left, length-map, length-take, length-take-le, length-drop, get_or-take, get_or_past},
   lemmas.List.{take-append-drop, take-append-le, take_all},
   lemmas.List.FromFn.{get_or-map-range_with_len, length-map-range_with_len},
-  lemmas.List.Elements.{All-map},
+  lemmas.List.Elements.All-map,
   lemmas.Nat.mod_below,
-  Common.{◌≡◌, ℕ, ◌+◌, ◌-◌, ◌/◌, ◌%◌, ◌<◌, ◌≤◌, zero, suc, List, [], ◌∷◌, ◌++◌, length, inl},
-  Common.{inr, refl, sym, ◌∙◌},
-  Common.{ap, arith, append_assoc, length-append, Less, nat_cmp, append-nil, div-add-mod', rules, ◌*◌, min, Bool},
-  Common.true,
-  Common.{false, IsTrue, not, cond, map, take, drop, subst, filter, get_or, Some, None, All, suc-mul, is_some},
+  Common.{◌≡◌, ℕ, ◌+◌, ◌-◌, ◌/◌, ◌%◌, ◌<◌, ◌≤◌, zero, suc, List, [], ◌∷◌, ◌++◌, length, inl, inr, refl},
+  Common.{sym, ◌∙◌, ap, arith, append_assoc, length-append, Less, nat_cmp, append-nil, div-add-mod', rules, ◌*◌, min},
+  Common.{Bool, true, false, IsTrue, not, cond, map, take, drop, subst, filter, get_or, Some, None, All, suc-mul},
+  Common.is_some,
   Math.Seq.{drop-append_seam, take-append-add},
 }
 use Rattle.std.specs.{Cmp.Lexicographic.slice_cmp, List.{flat_map, range_with_len}, Prelude.{Option}}
@@ -29,10 +28,9 @@ use Rattle.ports_core.specs.{
 }
 use Rattle.ports_core.proofs.OrderLemmas.{in_order}
 use Rattle.tools_core.{
-  specs.Promises.{AreInOrder, Splits, makes_files, text_at, Run, Does, HasInput},
-  specs.Promises.{AreListed, ArePieces, AreLinePieces, AreUncut, AreDealt, EndsLine, IsFilled, IsSound, contents_of},
-  specs.Promises.{Completes, GivesOther, IsChunkAsShown, IsCutAsShown, TellsMet, files_of, lines_telling, output_of},
-  specs.Promises.removes_files,
+  specs.Promises.{AreInOrder, Splits, makes_files, text_at, Run, Does, HasInput, AreListed, ArePieces, AreLinePieces},
+  specs.Promises.{AreUncut, AreDealt, EndsLine, IsFilled, IsSound, contents_of, Completes, GivesOther},
+  specs.Promises.{IsChunkAsShown, IsCutAsShown, TellsMet, files_of, lines_telling, output_of, removes_files},
   specs.Tasks.{filing_of, names_of, naming_of, speaker_of, split_task},
   proofs.{
     BeginLemmas.all_have_names,

@@ -2,9 +2,8 @@
 use Rattle.std.{
   proofs.lemmas.{Grind.common_steps, Bool.{cases_Bool, false≢true}, List.{Elements.{All-append, All-nil}}},
   proofs.Common.{All, None, ◌≡◌, ℕ, ◌^◌, ◌≤◌, suc, Bool, true, false, cond, is_none, List, [], not, ◌||◌, map, ◌∷◌},
-  proofs.Common.◌++◌,
-  proofs.Common.{length, length-append, Option, Some, codes, inl, inr, ◌⊎◌, refl, sym, ◌∙◌, ap, arith},
-  proofs.Common.{zero, rules},
+  proofs.Common.{◌++◌, length, length-append, Option, Some, codes, inl, inr, ◌⊎◌, refl, sym, ◌∙◌, ap, arith, zero},
+  proofs.Common.rules,
   proofs.Math.Seq.get_or-append_seam,
   specs.List.concat,
 }
@@ -49,17 +48,17 @@ use Rattle.tools_core.specs.{
   About.{TellsText, no_text, text_cut, text_whole},
   Outcome.{refuser, speaker, word_of},
   Tasks.{by, names_of, speaker_of, tool_of},
-  Promises.{BrokeAt, Completes, Does, HasGone, HasLong, IsCalled, IsCopied, IsGone, IsSilent, IsStopped, IsTask},
-  Promises.{IsUnstopped, Ran, Run, SaysLines, SaysWhy, StopsRun, Tells, TellsMet, WhyBroken, broken_off, failing},
-  Promises.{named, removes_files},
+  Promises.{BrokeAt, Completes, Does, HasGone, HasLong, IsCalled, IsCopied, IsGone, IsSilent, IsUnread, IsStopped},
+  Promises.{IsTask, IsUnstopped, Ran, Run, SaysLines, SaysWhy, StopsRun, Tells, TellsMet, WhyBroken, broken_off},
+  Promises.{failing, named, removes_files},
 }
 use Rattle.tools_core.proofs.{
   BeginLemmas.{IsMarked, marked_at},
-  TeePromises.{IsLoud, any_gone, broken_tells, failing_stops, input_line, tee_lines, tee_told, unsound_broke},
+  TeePromises.{IsLoud, any_gone, broken_tells, failing_stops, input_line, tee_lines, tee_broke, tee_told},
+  TeePromises.unsound_broke,
   LeftLemmas.{tells_one, HasLine, all_tell, completes_left, left_at, left_says, one_line, ran_over, slots_at},
-  LeftLemmas.swept_gone,
-  LeftLemmas.{swept_kept, speaker_is, AreLive, IsSoundAt, inputs_fit, live_begin, outputs_live},
-  LeftLemmas.{Did, DidUnstopped, says_line, step_live, task_lives},
+  LeftLemmas.{swept_gone, swept_kept, speaker_is, AreLive, IsSoundAt, inputs_fit, live_begin, outputs_live, Did},
+  LeftLemmas.{DidUnstopped, says_line, step_live, task_lives},
   RunLemmas.{by_words, worded_by},
 }
 use Rattle.ports_core.specs.declared.reason.Reason.TheVariants as reason
@@ -89,6 +88,7 @@ step_long at long = search rules
 record IsBlamed (fault : Fault) (place : ℕ) (old new : Slot) : Type 0 where
   pub is : failing place new.state ≡ fault
   pub named : (slots : List Slot) → (slot_at slots place).name ≡ output_named slots fault
+  pub why : (slots : List Slot) → (slot_at slots place).reason ≡ output_reason slots fault
 
 blamed : (fault : Fault) (place : ℕ) (before : List Slot) {new : Slot} → IsSoundAt before place
     → IsMarked fault place before new → IsBlamed fault place (slot_at before place) new
@@ -172,9 +172,9 @@ module _ (run : Run) (asked : Settings) (clears : Bool) {output : Output} {error
         | inr marked ↦ marked
       ])
 
-  broke_at : (place : ℕ) → (place ≡ 1 → ⊥) → (slot_at reached place).is_broken ≡ true
+  marked_broke : (place : ℕ) → (place ≡ 1 → ⊥) → (slot_at reached place).is_broken ≡ true
       → BrokeAt run place (slot_at run.outputs place).name fault
-  broke_at place differs broken =
+  marked_broke place differs broken =
       let kept = swept_kept clears reached run.outputs swept place in
       (differs, inl refl, kept.still broken, grind (arith, common_steps, blamed_at))
 
@@ -186,11 +186,13 @@ quiet_own fault Cutters why is = absurd (cc)
 
 -- of a reader that is gone
 
-gone_reason : (slot : ℕ) (calling : Calling) (why : Reason) → is_quiet (Write slot) calling why ≡ true
+gone_reason : (fault : Fault) (calling : Calling) (why : Reason) → is_quiet fault calling why ≡ true
     → why ≡ reason.Gone
-gone_reason slot OwnName reason.Gone is = refl
-gone_reason slot OwnName why is = absurd (cc)
-gone_reason slot Cutters why is = absurd (cc)
+gone_reason (Write slot) OwnName reason.Gone is = refl
+gone_reason (Write slot) OwnName why is = absurd (cc)
+gone_reason (Write slot) Cutters why is = absurd (cc)
+gone_reason fault OwnName why is = absurd (cc)
+gone_reason fault Cutters why is = absurd (cc)
 
 quiet_gone : (run : Run) (asked : Settings) (name : List ℕ) (fault : Fault) (calling : Calling)
     → is_quiet fault calling (output_reason run.outputs fault) ≡ true → StopsRun run asked name fault → HasGone run
@@ -205,9 +207,15 @@ silent_by run task (Tee asked) of own gone is = absurd of
 silent_by run task (About which topic) of own gone is = absurd of
 silent_by run task asked of own gone is = (grind (arith, common_steps), gone, is)
 
+-- nothing is said of a reader that is gone, and which outputs are broken then
+record IsQuietly (run : Run) (asked : Settings) : Type 0 where
+  pub silent : IsSilent run asked
+  pub broke : (place : ℕ) → (place ≡ 1 → ⊥) → (slot_at run.outputs place).is_broken ≡ true
+      → IsUnread run place ⊎ (IsToldOf run asked place ⊎ IsStuck (removes_files asked) run.outputs place)
+
 -- nothing stopped it, or something did, or nothing is said
 abbrev Unless : Run → Settings → Type 0 → Type 0
-Unless run asked Whole = Whole ⊎ IsStop (removes_files asked) run asked ⊎ IsSilent run asked
+Unless run asked Whole = Whole ⊎ IsStop (removes_files asked) run asked ⊎ IsQuietly run asked
 
 ends_or : {run : Run} {asked : Settings} {task : Task} → IsTask run.calling asked task
     → (ends : EndsAs true true task
@@ -225,9 +233,20 @@ ends_or {run} {asked} {task} of
     let live = step_live (living input.shown).0 fits.live at in
     let stop = stops_run run asked fault step between
     (λ many. let (content, there, long) = step_long at many in (input, content, (before, after, are), there, long)) stops
-    (broke_at run asked clears live between swept) in
+    (marked_broke run asked clears live between swept) in
     elim (cases_Bool (is_quiet fault task.speaker.calling reason)) [
-      | inl quiet ↦ grind (arith, common_steps, silent_by, quiet_own, quiet_gone)
+      | inl quiet ↦ inr (inr (record {
+        silent = silent_by run task asked of (quiet_own fault _ reason quiet) (quiet_gone run asked name fault _ quiet stop)
+            (rw quiet at is);
+        broke = λ place differs broken.
+            let kept = swept_kept clears reached run.outputs swept place in
+            elim (cases_Bool (slot_at reached place).is_broken) [
+              | inr was ↦ let (is, closed) = kept.broke was broken in
+                  inr (inr (is, closed, swept_gone clears reached run.outputs is swept))
+              | inl was ↦ let blame = blamed_at run asked clears live between swept place differs was in
+                  inl (blame.why run.outputs ∙ gone_reason fault _ reason quiet)
+            ];
+      }))
       | inr loud ↦
           let all = says_more true task.speaker lines (message_of fault name) standard_error said error says (reason, rw loud at tells) in
           let told : SaysLines run asked (lines ++ message_of fault name ∷ []) = record {
@@ -308,7 +327,13 @@ tee_or : {run : Run} (asked : TeeAsked) {mode : Mode} {names : List (List ℕ)} 
 tee_or {run} asked {names = names} {content} only (tee.copied pieces fault first broke _ _ _ came _ left rest says slots is) =
     elim (cases_Bool (tee.is_quiet asked.on_broken)) [
       | inl quiet ↦ elim (cases_Bool (tee.any_is Gone (map tee.standing_of (first ∷ broke)))) [
-        | inl gone ↦ inr (inr (quiet, any_gone run asked fault slots left rest gone))
+        | inl gone ↦ inr (inr (record {
+          silent = (quiet, any_gone run asked fault slots left rest gone);
+          broke = λ place differs broken. elim (tee_broke run asked fault slots left rest place differs broken) [
+            | inl unread ↦ inl unread
+            | inr (called, has) ↦ inr (inl (_, called, says_line has told))
+          ];
+        }))
         | inr none ↦ loudly (are_sound (first ∷ broke)) refl (inr none)
       ]
       | inr loud ↦ loudly (are_sound (first ∷ broke)) refl (inl loud)
@@ -480,7 +505,7 @@ says_why run asked ran one = elim (ran_so ran) [
       let (line, (fault, name, met, is), has) = all.fits.tells (has_failed all.made.failed all.left.is one) in
       (fault, name, met, says_line (rw is at has) (left_says all.fits all.left))
   | inr (inl stop) ↦ grind (arith, common_steps)
-  | inr (inr silent) ↦ silent_says run asked ran silent one
+  | inr (inr quiet) ↦ silent_says run asked ran quiet.silent one
 ]
 
 why_broken : {run : Run} {asked : Settings} {place : ℕ}
@@ -490,7 +515,8 @@ why_broken (inr (removes, closed, gone)) = search rules
 
 -- where no fault stopped the run, only files that were to be removed are broken
 pub is_broken : (run : Run) (asked : Settings) (place : ℕ) → Ran run asked → (place ≡ 1 → ⊥)
-    → (slot_at run.outputs place).is_broken ≡ true → ((run.status ≡ 1) × WhyBroken run asked place) ⊎ IsSilent run asked
+    → (slot_at run.outputs place).is_broken ≡ true → ((run.status ≡ 1) × WhyBroken run asked place)
+    ⊎ (IsSilent run asked × (IsUnread run place ⊎ WhyBroken run asked place))
 is_broken run asked place ran differs broken = elim (ran_so ran) [
   | inl whole ↦
       let all = completes_left whole in
@@ -499,5 +525,11 @@ is_broken run asked place ran differs broken = elim (ran_so ran) [
       let (clears, failed) = all.fits.sweeps sweeps in
       inl (rw failed at all.left.is, why_broken (inr (clears, closed, swept_gone all.made.sweeps _ _ sweeps all.left.swept)))
   | inr (inl stop) ↦ inl (stop.failed, why_broken (stop.broke place differs broken))
-  | inr (inr silent) ↦ inr silent
+  | inr (inr quiet) ↦ inr (
+    quiet.silent,
+    elim (quiet.broke place differs broken) [
+      | inl unread ↦ inl unread
+      | inr why ↦ inr (why_broken why)
+    ],
+  )
 ]

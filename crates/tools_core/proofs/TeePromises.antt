@@ -1,13 +1,13 @@
 -- What a run of `tee` leaves and tells of its outputs, and what ended it.
 use Rattle.std.proofs.{
-  Common.{◌≡◌, ◌⊎◌, ℕ, ◌≤◌, ◌<◌, ◌^◌, get_or, map, zero, suc, Bool, true, false, List, [], ◌∷◌, ◌++◌},
-  Common.length,
-  Common.{take, Option, None, Some, cond, nat_lt, inl, inr, refl, sym, ◌∙◌, ap, arith, append-nil},
-  Common.{append_assoc, All, length-append, codes, not, rules, subst},
+  Common.{◌≡◌, ◌⊎◌, ℕ, ◌≤◌, ◌<◌, ◌^◌, get_or, map, zero, suc, Bool, true, false, List, [], ◌∷◌, ◌++◌, length},
+  Common.{take, Option, None, Some, cond, nat_lt, inl, inr, refl, sym, ◌∙◌, ap, arith, append-nil, append_assoc, All},
+  Common.{length-append, codes, not, rules, subst},
   lemmas.{
     List.Elements.{All-append, All-cons, All-nil},
     Grind.common_steps,
-    Bool.{and_parts, cases_lt, cond_both, eq-eqb, eqb-true, lt-ltb, not-true, or_parts, false≢true, or_cases},
+    Bool.{and_parts, cases_Bool, cases_lt, cond_both, eq-eqb, eqb-true, lt-ltb, not-true, or_parts, false≢true},
+    Bool.or_cases,
     Bool.Decides.nat_tests,
     List.Folds.concat-append,
   },
@@ -21,16 +21,14 @@ use Rattle.ports_core.specs.{
     calling.Calling.Calling,
     on_broken.OnBroken.OnBroken,
     slot.{State.{State, TheVariants.Unopened}, Mode.Mode},
-    fault.Fault.Fault,
   },
   Inputs.largest_piece,
   Slot.{Slot, adds, slot_at},
   Source.{Content, Source, source_at},
-  Streams.streams_with,
+  Streams.{streams_with, standard_error, standard_output},
   Part.{IsBeginning, file_of},
   Text.{Message, message_of},
   Message.SaysAll,
-  Streams.{standard_error, standard_output},
 }
 use Rattle.ports_core.proofs.PartLemmas.{begins_itself, begins_trans, take_begins_after}
 use Rattle.tee_core.specs.{
@@ -42,10 +40,8 @@ use Rattle.tee_core.specs.{
 use Rattle.words_core.specs.{TeeWords.TeeAsked, declared.settings.Settings.{Settings, TheVariants.Tee}}
 use Rattle.tools_core.{
   specs.{
-    Promises.{BeginsAs, BrokeAt, EndsWithBreak, HasGone, HasUpTo, IsCalled, OneIs, Ran, Run, SaysLines, StopsRun},
-    Promises.Tells,
-    Promises.TellsMet,
-    Promises.failing,
+    Promises.{BeginsAs, BrokeAt, EndsWithBreak, HasGone, HasUpTo, IsCalled, IsUnread, OneIs, Ran, Run, SaysLines},
+    Promises.{StopsRun, Tells, TellsMet, failing},
     Tasks.speaker_of,
   },
   proofs.BeginLemmas.{bare_begins, empty_begins},
@@ -271,15 +267,28 @@ module _ (run : Run) (asked : TeeAsked) {mode : Mode} {pieces names : List (List
         said = rw slots says;
       }
 
-  -- an output that is broken was told, where nothing is kept back
-  pub tee_told : IsLoud asked.on_broken (first ∷ broke) → (place : ℕ) → (place ≡ 1 → ⊥)
-      → (slot_at run.outputs place).is_broken ≡ true
-      → At place (λ name output when. IsCalled output name
+  abbrev IsToldAt : ℕ → Type 0
+  IsToldAt place = At place (λ name output when. IsCalled output name
       × HasLine (message_of (failing place output.state) name) lines)
+
+  -- an output that is broken lost its reader, or was told
+  pub tee_broke : (place : ℕ) → (place ≡ 1 → ⊥) → (slot_at run.outputs place).is_broken ≡ true
+      → IsUnread run place ⊎ IsToldAt place
+  tee_broke place differs broken = by (broke_at (first ∷ broke) (number_of place)) refl where
+    by : (when : Option Break) → broke_at (first ∷ broke) (number_of place) ≡ when → IsUnread run place ⊎ IsToldAt place
+    by None is = absurd (false≢true (sym (rw is at (left_at_place place differs)) ∙ broken))
+    by (Some one) is =
+        let here = has_broken place differs is in
+        elim (cases_Bool (is_same (lost_for one.why) Gone)) [
+          | inl gone ↦ inl (here.why ∙ gone_why one.why gone)
+          | inr other ↦ inr (here.called, has_line place differs is (told_loud asked.on_broken one.why (inr other)))
+        ]
+
+  -- it was told, where nothing is kept back
+  pub tee_told : IsLoud asked.on_broken (first ∷ broke) → (place : ℕ) → (place ≡ 1 → ⊥)
+      → (slot_at run.outputs place).is_broken ≡ true → IsToldAt place
   tee_told loud place differs broken = by (broke_at (first ∷ broke) (number_of place)) refl where
-    by : (when : Option Break) → broke_at (first ∷ broke) (number_of place) ≡ when
-        → At place (λ name output when. IsCalled output name
-        × HasLine (message_of (failing place output.state) name) lines)
+    by : (when : Option Break) → broke_at (first ∷ broke) (number_of place) ≡ when → IsToldAt place
     by None is = absurd (false≢true (sym (rw is at (left_at_place place differs)) ∙ broken))
     by (Some one) is = (
       (has_broken place differs is).called,

@@ -1,9 +1,8 @@
 -- What people rest on, in a manual's words: what a run leaves, over inputs and outputs that tell their bytes, as those
 -- in memory do.
 use Rattle.std.specs.{
-  Prelude.{◌≡◌, ℕ, ◌+◌, ◌^◌, ◌/◌, ◌%◌, ◌<◌, ◌≤◌, ◌==◌, suc, Bool, true, false, not, List, []},
-  Prelude.{◌∷◌, ◌++◌},
-  Prelude.{length, map, take, drop, All, slice_index_or, ◌⊎◌, Option, Some, None, Ok, if◌then◌else◌},
+  Prelude.{◌≡◌, ℕ, ◌+◌, ◌^◌, ◌/◌, ◌%◌, ◌<◌, ◌≤◌, ◌==◌, suc, Bool, true, false, not, List, [], ◌∷◌},
+  Prelude.{◌++◌, length, map, take, drop, All, slice_index_or, ◌⊎◌, Option, Some, None, Ok, if◌then◌else◌},
   List.{concat, flat_map},
   declared.cmp.Ordering.TheVariants.Less,
   Ordering.nat_cmp,
@@ -470,10 +469,13 @@ pub record IsChunkAsShown (run : Run) (asked : SplitAsked) (place : ℕ) (chunks
   pub told : has_ended chunks (length shown) bytes place ≡ false → Tells run (Split asked) (fault.Verdict Changed) name
   pub failed : has_ended chunks (length shown) bytes place ≡ false → run.status ≡ 1
 
+-- the output at this place broke, if it did, since nobody reads it any more
+abbrev pub IsUnread : Run → ℕ → Type 0
+IsUnread run place = (slot_at run.outputs place).reason ≡ reason.Gone
+
 -- an output broke since nobody reads it any more
 abbrev pub HasGone : Run → Type 0
-HasGone run = (place : ℕ) × (place ≡ 1 → ⊥) × ((slot_at run.outputs place).is_broken ≡ true)
-    × ((slot_at run.outputs place).reason ≡ reason.Gone)
+HasGone run = (place : ℕ) × (place ≡ 1 → ⊥) × ((slot_at run.outputs place).is_broken ≡ true) × IsUnread run place
 
 -- A reader may be gone of which nothing is said, by a tool's own name: the status tells it. `tee` may go on without it,
 -- where its words or how it was called ask for that.

@@ -1,8 +1,7 @@
 -- What edits do to the files.
 use Rattle.std.proofs.{
   Common.{◌≡◌, ℕ, ◌<◌, ◌≤◌, zero, suc, List, [], ◌∷◌, ◌++◌, length, Option, Some, None, refl, sym, ◌∙◌, ap, arith},
-  Common.◌⊎◌,
-  Common.{inl, inr, slice_index_or, get_or, set},
+  Common.{◌⊎◌, inl, inr, slice_index_or, get_or, set},
 }
 use Rattle.ports_core.{proofs.SlotLemmas.set-changed, specs.Slot.changed_at}
 use Rattle.watch_core.specs.Edits.{append, Bar, Link, World, led_to, with_file, edited, seen_in}

@@ -1,7 +1,7 @@
 -- Lemmas on what words mean by both ways to call the program.
 use Rattle.std.proofs.{
-  Common.{◌≡◌, refl, ap, ◌∙◌, ℕ, ◌==◌, ◌&&◌, ◌||◌, not, Bool, true, false, if◌then◌else◌, List, [], ◌∷◌, Option, Some},
-  Common.{None, Result, Ok, Err, option_map},
+  Common.{◌≡◌, refl, ap, ◌∙◌, ℕ, ◌==◌, ◌&&◌, ◌||◌, not, Bool, true, false, if◌then◌else◌, List, [], ◌∷◌},
+  Common.{Option, Some, None, Result, Ok, Err, option_map},
   Math.Bool.and-false,
 }
 use Rattle.ports_core.specs.declared.{

@@ -1,8 +1,8 @@
 -- Lemmas on what options ask for, one after another.
 use Rattle.std.{
-  proofs.lemmas.{Grind.common_steps, Bool.or_parts},
+  proofs.lemmas.{Grind.common_steps, Bool.or_parts, List.Sums.fold-append},
   proofs.Common.{◌≡◌, ◌≤◌, ◌↔◌, ℕ, Bool, true, false, ◌||◌, arith, List, [], ◌∷◌, ◌++◌, length, Option, Some, None},
-  proofs.Common.{Result, Ok, Err, refl, ◌∙◌, ap, is_some, if◌then◌else◌, filter, IsOk, rules},
+  proofs.Common.{Result, Ok, Err, refl, sym, ◌∙◌, ap, is_some, if◌then◌else◌, filter, IsOk, rules},
   specs.Option.unwrap_or,
 }
 use Rattle.ports_core.specs.declared.{
@@ -22,9 +22,9 @@ use Rattle.words_core.specs.{
   TailWords.{retry_by, tail_by, tail_of, unfollowed},
   TeeWords.{TeeAsked, fresh, tee_by},
   Words.{about_or, or_later, settings_for, topic_in, topic_of, work_for},
-  Laws.{LastDecides, amount_of, appends, counts, counts_looks, counts_pause, names_process, drops_sizes, elides_files},
-  Laws.{tells_of_files, ends_with_zero, gives_ending, gives_format, has, heads, keeps_files, leaves_lines_out},
-  Laws.{names_prefix, retries, says_followed, says_on_broken, separates, spells, widens},
+  Laws.{LastDecides, amount_of, appends, counts, counts_looks, counts_pause, names_process, drops_sizes},
+  Laws.{elides_files, tells_of_files, ends_with_zero, gives_ending, gives_format, has, heads, keeps_files},
+  Laws.{leaves_lines_out, names_prefix, retries, says_followed, says_on_broken, separates, spells, widens},
 }
 use Rattle.ports_core.specs.declared.tool.Tool.TheVariants as tool
 use Rattle.ports_core.specs.declared.slot.Mode.TheVariants as mode
@@ -40,7 +40,7 @@ module _ {A C : Type 0} (by : A → Choice → A) (part : A → C) (test : Choic
       → part (asked_by by asked options) ≡ part asked
   kept asked [] none = refl
   kept asked (option ∷ options) none =
-      let both = or_parts (test option.choice) (has test options) none in
+      let both = or_parts (test option.choice) _ none in
       let next : A = by asked option.choice in
       kept next options both.1 ∙ sets asked asked option.choice ∙ ap (λ test. if test then part next else part asked) both.0
 
@@ -50,9 +50,9 @@ module _ {A C : Type 0} (by : A → Choice → A) (part : A → C) (test : Choic
   decided asked other [] after option is none = rw (kept (by asked option.choice) after none, sets asked other option.choice, is)
   decided asked other (first ∷ before) after option is none = decided (by asked first.choice) other before after option is none
 
-pub last_decides : {A C : Type 0} (by : A → Choice → A) (part : A → C) (test : Choice → Bool) → Sets by part test
+pub last_decides : {A C : Type 0} (by : A → Choice → A) (part : A → C) {test : Choice → Bool} → Sets by part test
     → (asked : A) → LastDecides test (λ options. part (asked_by by asked options)) (part asked)
-last_decides by part test sets asked = record { last = decided by part test sets asked asked; none = kept by part test sets asked }
+last_decides by part {test} sets asked = record { last = decided by part test sets asked asked; none = kept by part test sets asked }
 
 -- What the options of each tool set. One without a value sets the same wherever it stands.
 
@@ -148,17 +148,12 @@ module _ (before after : List Chosen) (word : ℕ) where
 
   left_out : {A : Type 0} (by : A → Choice → A) (asked : A) → ((asked : A) → by asked choice.NoEffect ≡ asked)
       → asked_by by asked with_it ≡ asked_by by asked (before ++ after)
-  left_out {A} by asked same = from before asked where
-    from : (front : List Chosen) (asked : A)
-        → asked_by by asked (front ++ it ∷ after) ≡ asked_by by asked (front ++ after)
-    from [] asked = ap (λ those. asked_by by those after) (same asked)
-    from (option ∷ front) asked = from front (by asked option.choice)
+  left_out {A} by asked same =
+      let step : A → Chosen → A = λ asked option. by asked option.choice in
+      fold-append step asked before (it ∷ after) ∙ ap (λ those. asked_by by those after) (same (asked_by by asked before)) ∙ sym (fold-append step asked before after)
 
   no_way : filter is_way with_it ≡ filter is_way (before ++ after)
-  no_way = from before where
-    from : (front : List Chosen) → filter is_way (front ++ it ∷ after) ≡ filter is_way (front ++ after)
-    from [] = refl
-    from (option ∷ front) = ap (λ those. if is_way option then option ∷ those else those) (from front)
+  no_way = grind (arith, common_steps)
 
   no_work : (calling : Calling) (which : Tool) (operands : List GivenOperand)
       → work_for calling which (record { options = with_it; operands = operands })

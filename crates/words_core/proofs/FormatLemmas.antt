@@ -7,10 +7,9 @@ use Rattle.std.proofs.{
     Str.{IsCharBoundary-after_ascii, IsCharBoundary-before_ascii, IsCharBoundary-end},
   },
   Common.{◌≡◌, ℕ, ◌+◌, ◌-◌, ◌^◌, ◌<◌, ◌≤◌, ◌==◌, ◌&&◌, suc, min, not, nat_le, Bool, true, false, cond, List},
-  Common.{[], ◌∷◌},
-  Common.{◌++◌, length, take, drop, get_or, Option, Some, None, inl, inr, refl, sym, subst, ◌∙◌, ap, arith},
-  Common.{append_assoc, length-append},
-  Math.Seq.{drop-append_seam, get_or-append_seam},
+  Common.{[], ◌∷◌, ◌++◌, length, take, drop, get_or, Option, Some, None, inl, inr, refl, sym, subst, ◌∙◌, ap, arith},
+  Common.{append_assoc, length-append, ◌⊎◌},
+  Math.{Bool.and-false, Seq.{drop-append-add, get_or-append_seam}},
 }
 use Rattle.std.specs.{
   Prelude.{IfSome, option_map, slice_range},
@@ -21,31 +20,25 @@ use Rattle.std.specs.{
 use Rattle.ports_core.specs.declared.form.{Base.Base, Form.Form}
 use Rattle.seg_core.specs.Count.{after_digits}
 use Rattle.words_core.specs.{
-  Format.{Format, around, before_it, conversion_in, format_in, after_precision, after_text, digits_by, form_of},
-  Format.{with_letter, base_of, with_rest, go_with, plain_text},
+  Format.{before_it, conversion_in, format_in, after_precision, after_text, form_of, with_letter, base_of, with_rest},
+  Format.{go_with, plain_text},
   inner.Format.{AfterLetter, without_percent},
 }
 
 -- numbers above the limit are all alike
 
-no_form : {A : Type 0} (fits : Bool) (form : A) → (fits ≡ true → ⊥) → cond fits (Some form) None ≡ None
-no_form true form none = absurd (none refl)
-no_form false form none = refl
-
-too_wide : (flags : List ℕ) (width : ℕ) (precision : Option ℕ) (base : Base) → 255 < width
-    → form_of flags width precision (Some base) ≡ None
-too_wide flags width precision base wide =
-    no_form (go_with base flags && (nat_le width 255 && nat_le (digits_by precision) 255)) _ (λ fits. grind (arith, nat_tests))
-
-too_many : (flags : List ℕ) (width digits : ℕ) (base : Base) → 255 < digits
-    → form_of flags width (Some digits) (Some base) ≡ None
-too_many flags width digits base many = no_form (go_with base flags && (nat_le width 255 && nat_le digits 255)) _ (λ fits. grind (arith, nat_tests))
+clipped : (n : ℕ)
+    → (min n (2 ^ 64 - 1) ≡ n) ⊎ ((nat_le n 255 ≡ false) × (nat_le (min n (2 ^ 64 - 1)) 255 ≡ false))
+clipped n = elim (cases_lt 255 n) [
+  | inl large ↦ inr (grind (arith, nat_tests), grind (arith, nat_tests))
+  | inr within ↦ inl (omega arith)
+]
 
 width_clipped : (flags : List ℕ) (width : ℕ) (precision : Option ℕ) (base : Base)
     → form_of flags (min width (2 ^ 64 - 1)) precision (Some base) ≡ form_of flags width precision (Some base)
-width_clipped flags width precision base = elim (cases_lt 255 width) [
-  | inl wide ↦ too_wide flags (min width (2 ^ 64 - 1)) precision base (omega arith) ∙ sym (too_wide flags width precision base wide)
-  | inr within ↦ ap (λ width. form_of flags width precision (Some base)) (let same : min width (2 ^ 64 - 1) ≡ width = omega arith in same)
+width_clipped flags width precision base = elim (clipped width) [
+  | inl same ↦ rw same refl
+  | inr (one, other) ↦ rw (one, other, and-false (go_with base flags)) refl
 ]
 
 form_clipped : (flags : List ℕ) (width : ℕ) (precision : Option ℕ) (base : Option Base)
@@ -53,9 +46,9 @@ form_clipped : (flags : List ℕ) (width : ℕ) (precision : Option ℕ) (base :
     ≡ form_of flags width precision base
 form_clipped flags width precision None = refl
 form_clipped flags width None (Some base) = width_clipped flags width None base
-form_clipped flags width (Some digits) (Some base) = width_clipped flags width (Some (min digits (2 ^ 64 - 1))) base ∙ elim (cases_lt 255 digits) [
-  | inl many ↦ too_many flags width (min digits (2 ^ 64 - 1)) base (omega arith) ∙ sym (too_many flags width digits base many)
-  | inr within ↦ ap (λ digits. form_of flags width (Some digits) (Some base)) (let same : min digits (2 ^ 64 - 1) ≡ digits = omega arith in same)
+form_clipped flags width (Some digits) (Some base) = width_clipped flags width (Some (min digits (2 ^ 64 - 1))) base ∙ elim (clipped digits) [
+  | inl same ↦ rw same refl
+  | inr (one, other) ↦ rw (one, other, and-false (nat_le width 255), and-false (go_with base flags)) refl
 ]
 
 pub letter_clipped : (flags : List ℕ) (width : ℕ) (precision : Option ℕ) (text : List ℕ)
@@ -89,7 +82,7 @@ after_letter_of_precision (byte ∷ text) {rest} is = by (byte == 46) is where
 letter_ends : {text rest : List ℕ} → IsUtf8 text → AfterLetter text rest
     → (length rest ≤ length text) × IsCharBoundary text (length text - length rest)
 letter_ends {text} {rest} utf8 (front, letter, ascii, is) =
-    let size : length text ≡ length front + suc (length rest) = ap length is ∙ length-append front (letter ∷ rest) in
+    let size = ap length is ∙ length-append front (letter ∷ rest) in
     let at : get_or text (length front) 0 ≡ letter = ap (λ text. get_or text (length front) 0) is ∙ get_or-append_seam front letter rest 0 in
     let place : length text - length rest ≡ length front + 1 = omega arith in
     (omega arith, rw place (IsCharBoundary-after_ascii text (length front) utf8 (omega arith) (omega arith)))
@@ -99,7 +92,7 @@ letter_ends {text} {rest} utf8 (front, letter, ascii, is) =
 -- a text is its first byte and what follows it
 pub first_and_rest : (text : List ℕ) → 1 ≤ length text → text ≡ get_or text 0 0 ∷ take (length text - 1) (drop 1 text)
 first_and_rest [] some = elim some [ ]
-first_and_rest (byte ∷ text) some = ap (λ rest. byte ∷ rest) (sym (take_rest (byte ∷ text) 1))
+first_and_rest (byte ∷ text) some = grind (arith, common_steps)
 
 pub after_slice : (n : ℕ) (text : List ℕ) {rest : List ℕ} → AfterLetter (take (length text - n) (drop n text)) rest
     → AfterLetter text rest
@@ -143,7 +136,7 @@ boundary_at text front [] is begins =
     let size : length text ≡ length front = ap length is ∙ length-append front [] ∙ omega arith in
     rw (← size) (IsCharBoundary-end text)
 boundary_at text front (byte ∷ rest) is begins =
-    let size : length text ≡ length front + suc (length rest) = ap length is ∙ length-append front (byte ∷ rest) in
+    let size = ap length is ∙ length-append front (byte ∷ rest) in
     let at : get_or text (length front) 0 ≡ byte = ap (λ text. get_or text (length front) 0) is ∙ get_or-append_seam front byte rest 0 in
     IsCharBoundary-before_ascii text (length front) (omega arith) (omega arith)
 
@@ -157,17 +150,11 @@ conversion_begins text =
 
 -- what was read is the format of a text
 
-drop_past : (front : List ℕ) (letter : ℕ) (rest : List ℕ) → drop (length front + 1) (front ++ letter ∷ rest) ≡ rest
-drop_past front letter rest =
-    let size : length front + 1 ≡ length (front ++ letter ∷ []) = sym (length-append front (letter ∷ [])) in
-    ap (λ n. drop n (front ++ letter ∷ rest)) size ∙ ap (drop (length (front ++ letter ∷ []))) (sym (append_assoc front (letter ∷ []) rest))
-    ∙ drop-append_seam (front ++ letter ∷ []) rest
-
 letter_rest : {text rest : List ℕ} → AfterLetter text rest → drop (length text - length rest) text ≡ rest
 letter_rest {text} {rest} (front, letter, ascii, is) =
-    let size : length text ≡ length front + suc (length rest) = ap length is ∙ length-append front (letter ∷ rest) in
+    let size = ap length is ∙ length-append front (letter ∷ rest) in
     let place : length text - length rest ≡ length front + 1 = omega arith in
-    ap (λ n. drop n text) place ∙ ap (drop (length front + 1)) is ∙ drop_past front letter rest
+    ap (λ n. drop n text) place ∙ ap (drop (length front + 1)) is ∙ drop-append-add front (letter ∷ rest) 1
 
 after_conversion : (text : List ℕ) {rest : List ℕ} → AfterLetter (after_text text) rest → AfterLetter text rest
 after_conversion text {rest} (front, letter, ascii, is) =
@@ -198,10 +185,7 @@ is_format text {bytes} {conversion} {rest} {front} {back} {form} same is ends re
     omega (arith, ap length conv) in n) in
     let after : back ≡ rest = last
     ∙ ap (λ n. drop n text) (let n : length bytes - length rest ≡ length text - length rest = omega arith in n) ∙ ends.2 in
-    let made : List ℕ → List ℕ → Format = λ front back. record { before = plain_text front; form = form; after = plain_text back } in
-    ap (λ front. Some (made front back)) before ∙ ap (λ back. Some (made (before_it text) back)) after
-    ∙ sym (ap (around (before_it text)) (ap conversion_in (sym conv) ∙ sym read)
-    ∙ ap (λ empty. cond empty (Some (made (before_it text) rest)) None) none)
+    rw (before, after, ← conv, ← read, none) refl
 
 -- pieces of a text, without the second `%` of two
 

@@ -2,11 +2,14 @@
 use Rattle.std.proofs.{
   lemmas.{Grind.common_steps, Bool.{and_parts, lt-ltb, Decides.nat_tests}, List.Elements.recursion_from_All},
   Math.Seq.{drop-append_seam, take-append_seam},
-  Common.{◌≡◌, ◌⊎◌, inl, inr, refl, ℕ, ◌≤◌, ◌==◌, Bool, true, false, if◌then◌else◌, arith, List, [], ◌∷◌},
-  Common.{◌++◌, ◌*◌},
-  Common.{length, Some, None, Result, Ok, Err, sym, ap, ◌∙◌, rules},
+  Common.{◌≡◌, ◌⊎◌, inl, inr, refl, ℕ, ◌≤◌, ◌<◌, ◌==◌, Bool, true, false, if◌then◌else◌, arith, List, []},
+  Common.{◌∷◌, ◌++◌, ◌*◌, length, Some, None, Result, Ok, Err, sym, ap, ◌∙◌, rules},
 }
-use Rattle.std.specs.{Char.is_ascii_digit, List.{AllByRecursion, list_all, prefix_len}, Prelude.{nat_lt, bytes_eq, ⊤}}
+use Rattle.std.specs.{
+  Char.is_ascii_digit,
+  List.{AllByRecursion, list_all, prefix_len},
+  Prelude.{nat_lt, bytes_eq, filter, ⊤},
+}
 use Rattle.seg_core.specs.{
   declared.{count.{Count.Count, Sign.Sign}, unit.Unit.{Unit as Measured, TheVariants.Lines}},
   Count.{after_digits, is_number, leading_digits, sized},
@@ -23,7 +26,8 @@ use Rattle.words_core.specs.{
   },
   Laws.{HasLetters, IsSwitch, how_many, of_lines, of_unit},
   Given.{Given, joined, nothing, one_option},
-  Lettered.{counted_with, is_lettered, unit_of, switched, switches, without_digits, times, unit_in, with_letters},
+  Lettered.{are_known, counted_with, is_lettered, is_unit, unit_of, switched, switches, without_digits, times},
+  Lettered.{unit_in, with_letters},
   Spelling.{Meaning, cluster, given_at, lettered, mixed, option_lettered, reading},
   Table.{OptionRow, alone, head_table, is_among, tail_table},
   Value.{counted, then_check},
@@ -142,14 +146,6 @@ module _ (rows : List OptionRow) where
   abbrev pub AreOthers : List ℕ → Type 0
   AreOthers letters = AllByRecursion IsOther letters
 
-  pub no_digit : (letters : List ℕ) → AreOthers letters → prefix_len is_ascii_digit letters ≡ 0
-  no_digit [] are = refl
-  no_digit (letter ∷ letters) are = rw are.0.1 refl
-
-  no_unit : (letters : List ℕ) → AreOthers letters → unit_in letters ≡ (Lines, 1)
-  no_unit [] are = refl
-  no_unit (letter ∷ letters) are = rw (are.0.0, no_unit letters are.1) refl
-
   as_cluster : (place : ℕ) (letters : List ℕ) → AreOthers letters
       → cluster rows place letters ≡ reading (switches rows place letters)
   as_cluster place [] are = refl
@@ -158,24 +154,36 @@ module _ (rows : List OptionRow) where
       let found : option_lettered rows letter ≡ Some switch.takes = rw (lt-ltb letter 128 switch.ascii) switch.named in
       rw (as_cluster place letters are.1, found, switch.named, are.0.0) (lettered_so place letters switch.takes (switches rows place letters) switch.alone)
 
-  -- one letter among them says what is counted
+  -- letters of options, and perhaps one that says what is counted: this unit, and nothing else than the options alone
+  abbrev pub Say : (letters options : List ℕ) → Measured × ℕ → ℕ → Type 0
+  Say letters options unit units = (prefix_len is_ascii_digit letters ≡ 0) × (unit_in letters ≡ unit)
+      × ((place : ℕ) → switches rows place letters ≡ switches rows place options)
+      × (are_known rows letters ≡ are_known rows options) × (length (filter is_unit letters) ≡ units)
 
-  pub no_digit_first : (before : List ℕ) (letter : ℕ) (after : List ℕ) {unit : Measured × ℕ}
-      → unit_of letter ≡ Some unit → AreOthers (before ++ after)
-      → prefix_len is_ascii_digit (before ++ letter ∷ after) ≡ 0
-  no_digit_first [] letter after is are = rw (unit_is_no_digit letter is) refl
-  no_digit_first (one ∷ before) letter after is are = rw are.0.1 refl
+  say_more : (letter : ℕ) (letters options : List ℕ) {unit : Measured × ℕ} {units : ℕ} → IsOther letter
+      → Say letters options unit units → Say (letter ∷ letters) (letter ∷ options) unit units
+  say_more letter letters options is (digit, unit, same, known, units) = (rw is.1 refl, rw is.0 unit, λ place. rw (same place) refl, rw known refl, rw is.0 units)
 
-  the_unit : (before : List ℕ) (letter : ℕ) (after : List ℕ) {unit : Measured × ℕ} → unit_of letter ≡ Some unit
-      → AreOthers (before ++ after) → unit_in (before ++ letter ∷ after) ≡ unit
-  the_unit [] letter after is are = rw is refl
-  the_unit (one ∷ before) letter after is are = rw are.0.0 (the_unit before letter after is are.1)
+  say_lines : (letters : List ℕ) → AreOthers letters → Say letters letters (Lines, 1) 0
+  say_lines [] are = (refl, refl, λ place. refl, refl, refl)
+  say_lines (letter ∷ letters) are = say_more letter letters letters are.0 (say_lines letters are.1)
 
-  their_switches : (place : ℕ) (before : List ℕ) (letter : ℕ) (after : List ℕ) {unit : Measured × ℕ}
-      → unit_of letter ≡ Some unit
-      → switches rows place (before ++ letter ∷ after) ≡ switches rows place (before ++ after)
-  their_switches place [] letter after is = rw is refl
-  their_switches place (one ∷ before) letter after is = rw (their_switches place before letter after is) refl
+  say_unit : (before : List ℕ) (letter : ℕ) (after : List ℕ) {unit : Measured × ℕ} → unit_of letter ≡ Some unit
+      → AreOthers (before ++ after) → Say (before ++ letter ∷ after) (before ++ after) unit 1
+  say_unit [] letter after is are = (rw (unit_is_no_digit letter is) refl, rw is refl, λ place. rw is refl, rw is refl, rw (is, (say_lines after are).4) refl)
+  say_unit (one ∷ before) letter after is are = say_more one (before ++ letter ∷ after) (before ++ after) are.0 (say_unit before letter after is are.1)
+
+  pub parted : (text digits options : List ℕ) {unit : Measured × ℕ} → HasLetters rows text digits options unit
+      → AreOthers options × (letters : List ℕ) × (units : ℕ) × (units < 2) × HasParts text digits letters
+      × Say letters options unit units
+  parted text digits options (of_lines is all are) =
+      let others = recursion_from_All IsOther options are in
+      let say = say_lines options others in
+      (others, options, 0, omega arith, rw is (parts digits options all say.0), say)
+  parted text digits options (of_unit before letter after says is options_are all are) =
+      let others = recursion_from_All IsOther options are in
+      let say = say_unit before letter after says (rw options_are at others) in
+      (others, before ++ letter ∷ after, 1, omega arith, rw is (parts digits (before ++ letter ∷ after) all say.0), rw options_are say)
 
   -- what such a text asks
 
@@ -185,30 +193,12 @@ module _ (rows : List OptionRow) where
   checked unit place given (Ok count) = refl
   checked unit place given (Err fault) = refl
 
-  asked_by_parts : (sign : Sign) (text : List ℕ) {digits letters : List ℕ} {unit : Measured × ℕ} (place : ℕ)
-      {given : Given} → HasParts text digits letters → unit_in letters ≡ unit → switches rows place letters ≡ given
-      → with_letters rows sign place text
-      ≡ then_check (counted (sized sign (how_many digits * unit.1)))
-      (λ count. Ok (joined (one_option (Amount unit.0 count) place) given))
-  asked_by_parts sign text {digits = digits} {unit = unit} place {given} has unit_is given_is =
-      rw (has.0, has.1, unit_is, given_is) (checked unit.0 place given (counted (sized sign (how_many digits * unit.1))))
-
-  given_so : (place : ℕ) (options : List ℕ) {given : Given} → AreOthers options
-      → cluster rows place options ≡ reading given → switches rows place options ≡ given
-  given_so place options are is = same_given (sym (as_cluster place options are) ∙ is)
-
   pub letters_ask : (sign : Sign) (text digits options : List ℕ) (unit : Measured × ℕ) (place : ℕ) (given : Given)
       → HasLetters rows text digits options unit → cluster rows place options ≡ reading given
       → with_letters rows sign place text
       ≡ then_check (counted (sized sign (how_many digits * unit.1)))
       (λ count. Ok (joined (one_option (Amount unit.0 count) place) given))
-  letters_ask sign text digits options unit place given (of_lines is all are) gives =
-      let others = recursion_from_All IsOther options are in
-      asked_by_parts sign text {letters =
-      options} place (rw is (parts digits options all (no_digit options others))) (no_unit options others) (given_so place options others gives)
-  letters_ask sign text digits options unit place given (of_unit before letter after says is options_are all are) gives =
-      let others : AreOthers (before ++ after) = rw options_are at (recursion_from_All IsOther options are) in
-      asked_by_parts sign text {letters =
-      before ++ letter ∷ after} place (rw is (parts digits (before ++ letter ∷ after) all (no_digit_first before letter after says others)))
-      (the_unit before letter after says others)
-      (their_switches place before letter after says ∙ given_so place (before ++ after) others (rw options_are at gives))
+  letters_ask sign text digits options unit place given has gives =
+      let (others, letters, units, few, is, say) = parted text digits options has in
+      let asked = say.2 place ∙ same_given (sym (as_cluster place options others) ∙ gives) in
+      rw (is.0, is.1, say.1, asked) (checked unit.0 place given (counted (sized sign (how_many digits * unit.1))))

@@ -1,8 +1,8 @@
 -- Whatever words spell, sizes, counts of files and widths are within their limits, and files that lines are dealt to have names.
 use Rattle.std.{
-  proofs.lemmas.{Grind.common_steps, Bool.cond_both},
-  proofs.Common.{◌≡◌, ℕ, zero, suc, ◌+◌, ◌-◌, ◌^◌, ◌≤◌, false, arith, List, [], ◌∷◌, ◌++◌, Option, Some, None, Result},
-  proofs.Common.{Ok, Err, IfOk, inl, inr, ◌⊎◌, rules},
+  proofs.lemmas.{Grind.common_steps, Bool.{cond_both, Decides.nat_tests}},
+  proofs.Common.{◌≡◌, ℕ, ◌+◌, ◌-◌, ◌^◌, ◌≤◌, false, arith, List, [], ◌∷◌, Option, Some, None, Result, Ok, Err, IfOk},
+  proofs.Common.{inl, inr, ◌⊎◌, rules},
   specs.Prelude.{⊤, IfSome, filter, ◌==◌},
 }
 use Rattle.ports_core.{
@@ -28,7 +28,7 @@ use Rattle.words_core.specs.{
   },
   Table.{OptionRow, ToolRow, row_named, tools},
   Value.then_check,
-  Given.{asked_by, Given, GivenOperand},
+  Given.{asked_by, Given},
   Spelling.{Meaning, meaning_of, given_before, onward, spelled, start_of, given_by},
   SplitWords.{SplitAsked, AreNamed, CanSplit, IsInLimits, IsWidth, is_way, only_way, way_of, split_by, no_options},
   SplitWords.{suffix_for, files_in, split_asked, separator_in, for_all, first_number, free, least_width, wide_enough},
@@ -56,10 +56,8 @@ before-among : (rows : List OptionRow) {place : ℕ} {word : List ℕ} (words : 
     × ((front.operands ≡ []) ⊎ (front.operands ≡ record { text = word; word = place } ∷ []))
     → GivesAmong rows (place + 1) words rest → GivesAmong rows place (word ∷ words) (given_before front rest)
 before-among rows {place} {word} words front (Ok more) (sound, inl is) among =
-    let P : List GivenOperand → Type 0 = λ operands. AreAmong (operands ++ more.operands) place (word ∷ words) in
     (λ safe. sound-append front.options more.options (sound safe) (among.0 safe), rw is (passed more.operands place word words among.1))
 before-among rows {place} {word} words front (Ok more) (sound, inr is) among =
-    let P : List GivenOperand → Type 0 = λ operands. AreAmong (operands ++ more.operands) place (word ∷ words) in
     (λ safe. sound-append front.options more.options (sound safe) (among.0 safe), rw is (taken more.operands place word words among.1))
 before-among rows words front (Err fault) is among = tt
 
@@ -140,8 +138,7 @@ least-can alphabet {count} few =
     (least_writes alphabet count 21 2 (all_writes alphabet few), (omega arith, omega arith))
 
 some_if : (width : ℕ) → (width == 0) ≡ false → 1 ≤ width
-some_if zero given = absurd (cc)
-some_if (suc width) given = omega arith
+some_if width given = grind (arith, nat_tests)
 
 some_names : (alphabet : Alphabet) (width : ℕ) → 1 ≤ name_count alphabet width
 some_names alphabet width = power_positive alphabet width

@@ -3,8 +3,7 @@ use Rattle.std.{
   proofs.{
     lemmas.Grind.common_steps,
     Common.{◌≡◌, refl, ℕ, ◌-◌, ◌^◌, ◌==◌, ◌&&◌, ◌≤◌, ◌<◌, arith, List, [], ◌∷◌, ◌++◌, Option, Some, None},
-    Common.{Result, Ok},
-    Common.{Err, IfOk, inl, inr, ◌⊎◌, rules},
+    Common.{Result, Ok, Err, IfOk, inl, inr, ◌⊎◌, rules},
   },
   specs.Prelude.{⊤, IfSome, nat_lt},
 }
@@ -25,7 +24,7 @@ use Rattle.words_core.specs.{
   Table.{OptionRow, begins_one, beginning, full_or, is_among, only_one, option_called, option_named},
   Division.{all_in, division_in, numbers_in},
   SplitWords.AreFew,
-  Given.{Given, GivenOperand, bare, joined},
+  Given.{Given, bare, joined},
   Lettered.{counted_with, is_lettered, is_start, is_unit, letter_named, switched, switches, times, unit_in},
   Lettered.with_letters,
   Spelling.{Meaning, before, said, valued, lettered, option_lettered, cluster, after_equals, named, dashed, foremost},
@@ -112,20 +111,13 @@ abbrev pub Tells : ℕ → Fault → Type 0
 Tells place (Usage kind word) = place ≤ word
 Tells place fault = ⊤
 
--- one word: options, within their limits where the table is, and these operands; its fault stands at it, and so does the option that then awaits a value
-
-abbrev pub Gives : (IfSo : Type 0) → (List GivenOperand → Type 0) → ℕ → Result Meaning Fault → Type 0
-Gives IfSo HasOperands place (Ok meaning) = (IfSo → AreSound meaning.given.options) × HasOperands meaning.given.operands × Awaits place meaning.next
-Gives IfSo HasOperands place (Err fault) = Tells place fault
-
--- no operand, or the word itself
-
-abbrev GivesOptions : List OptionRow → ℕ → Result Meaning Fault → Type 0
-GivesOptions rows place meant = Gives (AreSafe rows) (λ operands. operands ≡ []) place meant
-
+-- one word: options, within their limits where the table is, and no operand but the word itself; its fault stands at it, and so does
+-- the option that then awaits a value
 abbrev pub GivesItself : List OptionRow → ℕ → List ℕ → Result Meaning Fault → Type 0
-GivesItself rows place word meant =
-    Gives (AreSafe rows) (λ operands. (operands ≡ []) ⊎ (operands ≡ record { text = word; word = place } ∷ [])) place meant
+GivesItself rows place word (Ok meaning) = (AreSafe rows → AreSound meaning.given.options)
+    × ((meaning.given.operands ≡ []) ⊎ (meaning.given.operands ≡ record { text = word; word = place } ∷ []))
+    × Awaits place meaning.next
+GivesItself rows place word (Err fault) = Tells place fault
 
 -- what `-n` says
 
@@ -152,49 +144,6 @@ choice-sound kind.Divided text = as-sound (λ division. choice.Divided division)
 choice-sound which text = search rules
 
 module _ (rows : List OptionRow) (place : ℕ) where
-  options_alone : (word : List ℕ) (meant : Result Meaning Fault) → GivesOptions rows place meant
-      → GivesItself rows place word meant
-  options_alone word (Ok meaning) is = (is.0, inl is.1, is.2)
-  options_alone word (Err fault) is = is
-
-  said-gives : (option : ℕ) (value : Result Choice UsageKind) → IfOk value IsSound
-      → GivesOptions rows place (said option place value)
-  said-gives option (Ok choice) is = (λ _. (is, tt), refl, tt)
-  said-gives option (Err fault) is = omega arith
-
-  valued-gives : (kind : Kind) (option : ℕ) (text : List ℕ) → GivesOptions rows place (valued kind option place text)
-  valued-gives kind option text = said-gives option (choice_in kind text) (choice-sound kind text)
-
-  bare-gives : (choice : Choice) (meant : Result Meaning Fault) → (AreSafe rows → IsSound (seen choice))
-      → GivesOptions rows place meant → GivesOptions rows place (before (bare choice place) meant)
-  bare-gives choice (Ok meaning) sound is = (λ safe. (sound safe, is.0 safe), is.1, is.2)
-  bare-gives choice (Err fault) sound is = is
-
-  lettered-gives : (rest : List ℕ) (others : Result Meaning Fault) (option : Option Takes)
-      → (AreSafe rows → IfSome option IsSafe) → GivesOptions rows place others
-      → GivesOptions rows place (lettered place rest others option)
-  lettered-gives rest others None safe is = omega arith
-  lettered-gives [] others (Some (takes.Value kind)) safe is = (λ _. tt, refl, omega arith)
-  lettered-gives (byte ∷ text) others (Some (takes.Value kind)) safe is = valued-gives kind place (byte ∷ text)
-  lettered-gives rest others (Some (takes.Last topic)) safe is = (λ _. (tt, tt), refl, tt)
-  lettered-gives rest others (Some (takes.Nothing choice)) safe is = bare-gives choice others safe is
-  lettered-gives rest others (Some (takes.Optional choice kind)) safe is = bare-gives choice others safe is
-
-  cluster-gives : (letters : List ℕ) → GivesOptions rows place (cluster rows place letters)
-  cluster-gives [] = (λ _. tt, refl, tt)
-  cluster-gives (letter ∷ rest) = lettered-gives rest (cluster rows place rest) (option_lettered rows letter) (lettered-safe rows letter) (cluster-gives rest)
-
-  named-gives : (option : Result Takes UsageKind) (value : Option (List ℕ)) → (AreSafe rows → IfOk option IsSafe)
-      → GivesOptions rows place (named place option value)
-  named-gives (Err fault) value safe = omega arith
-  named-gives (Ok (takes.Value kind)) (Some text) safe = valued-gives kind place text
-  named-gives (Ok (takes.Optional choice kind)) (Some text) safe = valued-gives kind place text
-  named-gives (Ok other) (Some text) safe = omega arith
-  named-gives (Ok (takes.Value kind)) None safe = (λ _. tt, refl, omega arith)
-  named-gives (Ok (takes.Last topic)) None safe = (λ _. (tt, tt), refl, tt)
-  named-gives (Ok (takes.Nothing choice)) None safe = (λ rows. (safe rows, tt), refl, tt)
-  named-gives (Ok (takes.Optional choice kind)) None safe = (λ rows. (safe rows, tt), refl, tt)
-
   -- a number with letters
 
   abbrev GivesSound : Given → Type 0
@@ -212,39 +161,77 @@ module _ (rows : List OptionRow) (place : ℕ) where
       either GivesSound (is_unit letter) _ _ (switches-give letters)
       (switched-gives _ (letter_named rows letter) (found-safe rows (45 ∷ letter ∷ [])) (switches-give letters))
 
-  counted-gives : (unit : Measured) (options : Given) (count : Result Count UsageKind) → GivesSound options
-      → GivesOptions rows place (given_at place (counted_with unit place options count))
-  counted-gives unit options (Ok count) is = (λ safe. (tt, is.0 safe), is.1, tt)
-  counted-gives unit options (Err fault) is = omega arith
+  -- options alone
 
-  numbered-gives : (sign : Sign) (text : List ℕ)
-      → GivesOptions rows place (given_at place (with_letters rows sign place text))
-  numbered-gives sign text = counted-gives (unit_in (after_digits text)).0 _
-      (times sign (leading_digits text) (unit_in (after_digits text)).1) (switches-give (after_digits text))
+  module _ (word : List ℕ) where
+    said-gives : (option : ℕ) (value : Result Choice UsageKind) → IfOk value IsSound
+        → GivesItself rows place word (said option place value)
+    said-gives option (Ok choice) is = (λ _. (is, tt), inl refl, tt)
+    said-gives option (Err fault) is = omega arith
 
-  dashed-gives : (rest : List ℕ) → GivesOptions rows place (dashed rows place rest)
-  dashed-gives [] = (λ _. tt, refl, tt)
-  dashed-gives (byte ∷ rest) = named-gives _ (after_equals (45 ∷ 45 ∷ byte ∷ rest)) (called-safe rows _)
+    valued-gives : (kind : Kind) (option : ℕ) (text : List ℕ)
+        → GivesItself rows place word (valued kind option place text)
+    valued-gives kind option text = said-gives option (choice_in kind text) (choice-sound kind text)
+
+    bare-gives : (choice : Choice) (meant : Result Meaning Fault) → (AreSafe rows → IsSound (seen choice))
+        → GivesItself rows place word meant → GivesItself rows place word (before (bare choice place) meant)
+    bare-gives choice (Ok meaning) sound is = (λ safe. (sound safe, is.0 safe), is.1, is.2)
+    bare-gives choice (Err fault) sound is = is
+
+    lettered-gives : (rest : List ℕ) (others : Result Meaning Fault) (option : Option Takes)
+        → (AreSafe rows → IfSome option IsSafe) → GivesItself rows place word others
+        → GivesItself rows place word (lettered place rest others option)
+    lettered-gives rest others None safe is = omega arith
+    lettered-gives [] others (Some (takes.Value kind)) safe is = (λ _. tt, inl refl, omega arith)
+    lettered-gives (byte ∷ text) others (Some (takes.Value kind)) safe is = valued-gives kind place (byte ∷ text)
+    lettered-gives rest others (Some (takes.Last topic)) safe is = (λ _. (tt, tt), inl refl, tt)
+    lettered-gives rest others (Some (takes.Nothing choice)) safe is = bare-gives choice others safe is
+    lettered-gives rest others (Some (takes.Optional choice kind)) safe is = bare-gives choice others safe is
+
+    cluster-gives : (letters : List ℕ) → GivesItself rows place word (cluster rows place letters)
+    cluster-gives [] = (λ _. tt, inl refl, tt)
+    cluster-gives (letter ∷ rest) = lettered-gives rest (cluster rows place rest) (option_lettered rows letter) (lettered-safe rows letter) (cluster-gives rest)
+
+    named-gives : (option : Result Takes UsageKind) (value : Option (List ℕ)) → (AreSafe rows → IfOk option IsSafe)
+        → GivesItself rows place word (named place option value)
+    named-gives (Err fault) value safe = omega arith
+    named-gives (Ok (takes.Value kind)) (Some text) safe = valued-gives kind place text
+    named-gives (Ok (takes.Optional choice kind)) (Some text) safe = valued-gives kind place text
+    named-gives (Ok other) (Some text) safe = omega arith
+    named-gives (Ok (takes.Value kind)) None safe = (λ _. tt, inl refl, omega arith)
+    named-gives (Ok (takes.Last topic)) None safe = (λ _. (tt, tt), inl refl, tt)
+    named-gives (Ok (takes.Nothing choice)) None safe = (λ rows. (safe rows, tt), inl refl, tt)
+    named-gives (Ok (takes.Optional choice kind)) None safe = (λ rows. (safe rows, tt), inl refl, tt)
+
+    counted-gives : (unit : Measured) (options : Given) (count : Result Count UsageKind) → GivesSound options
+        → GivesItself rows place word (given_at place (counted_with unit place options count))
+    counted-gives unit options (Ok count) is = (λ safe. (tt, is.0 safe), inl is.1, tt)
+    counted-gives unit options (Err fault) is = omega arith
+
+    numbered-gives : (sign : Sign) (text : List ℕ)
+        → GivesItself rows place word (given_at place (with_letters rows sign place text))
+    numbered-gives sign text = counted-gives (unit_in (after_digits text)).0 _
+        (times sign (leading_digits text) (unit_in (after_digits text)).1) (switches-give (after_digits text))
+
+    dashed-gives : (rest : List ℕ) → GivesItself rows place word (dashed rows place rest)
+    dashed-gives [] = (λ _. tt, inl refl, tt)
+    dashed-gives (byte ∷ rest) = named-gives _ (after_equals (45 ∷ 45 ∷ byte ∷ rest)) (called-safe rows _)
 
   mixed-gives : (word : List ℕ) → GivesItself rows place word (mixed rows place word)
   mixed-gives [] = (λ _. tt, inr refl, tt)
   mixed-gives (byte ∷ []) = (λ _. tt, inr refl, tt)
   mixed-gives (byte ∷ next ∷ rest) =
-      either (GivesItself rows place (byte ∷ next ∷ rest)) (byte == 45) _ _
-      (options_alone (byte ∷ next ∷ rest) _ (either (GivesOptions rows place) (next == 45) _ _ (dashed-gives rest) (cluster-gives (next ∷ rest))))
-      (λ _. tt, inr refl, tt)
+      let word : List ℕ = byte ∷ next ∷ rest in
+      either (GivesItself rows place word) (byte == 45) _ _ (either (GivesItself rows place word) (next == 45) _ _ (dashed-gives word rest) (cluster-gives word (next ∷ rest))) (λ _. tt, inr refl, tt)
 
   pub meaning-gives : (state : State) (word : List ℕ) → GivesItself rows place word (meaning_of rows state place word)
   unfolding foremost
   meaning-gives (First calling kind letters) [] = (λ _. tt, inr refl, tt)
   meaning-gives (First calling kind letters) (byte ∷ text) =
-      either (GivesItself rows place (byte ∷ text)) (byte == 45 && is_number text) _ _
-      (options_alone (byte ∷ text) _ (valued-gives kind place text))
-      (either (GivesItself rows place (byte ∷ text)) (byte == 45 && is_lettered rows letters text) _ _
-      (options_alone (byte ∷ text) _ (numbered-gives Plain text))
-      (either (GivesItself rows place (byte ∷ text)) (byte == 43 && is_start calling rows letters text) _ _
-      (options_alone (byte ∷ text) _ (numbered-gives Plus text)) (mixed-gives (byte ∷ text))))
+      let word : List ℕ = byte ∷ text in
+      either (GivesItself rows place word) (byte == 45 && is_number text) _ _ (valued-gives word kind place text) (either (GivesItself rows place word) (byte == 45 && is_lettered rows letters text) _ _ (numbered-gives word Plain text)
+      (either (GivesItself rows place word) (byte == 43 && is_start calling rows letters text) _ _ (numbered-gives word Plus text) (mixed-gives word)))
   meaning-gives Reading word = mixed-gives word
-  meaning-gives (Awaiting kind option) word = options_alone word _ (valued-gives kind option word)
+  meaning-gives (Awaiting kind option) word = valued-gives word kind option word
   meaning-gives OnlyOperands word = (λ _. tt, inr refl, tt)
   meaning-gives Ended word = (λ _. tt, inl refl, tt)

@@ -20,14 +20,6 @@ pub either : {A : Type 0} (P : A → Type 0) (test : Bool) (one other : A) → P
 either P true one other first second = first
 either P false one other first second = second
 
--- what is given first, and what is given after it
-
--- what a word gives comes after what was given before it
-
--- one word more was read
-
--- the loop over words: what is left of them
-
 -- a fault among the first words, whatever follows them
 
 pub of_more : (given : Given) (meant : Result Given Fault) {fault : Fault} → given_before given meant ≡ Err fault

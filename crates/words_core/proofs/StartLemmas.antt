@@ -2,8 +2,7 @@
 use Rattle.std.proofs.{
   lemmas.Bool.{and_parts, Decides.nat_tests},
   Common.{◌≡◌, refl, ℕ, ◌-◌, ◌*◌, ◌^◌, ◌≤◌, ◌<◌, ◌==◌, true, false, arith, append-nil, List, [], ◌∷◌},
-  Common.{◌++◌, length, Ok},
-  Common.{Err, subst},
+  Common.{◌++◌, length, Ok, Err, subst},
   Math.Bool.{and-false, or-true},
 }
 use Rattle.std.specs.{Char.is_ascii_digit, List.{list_all, prefix_len}, Prelude.nat_lt}
@@ -27,7 +26,7 @@ use Rattle.words_core.proofs.LetteredLemmas.{HasParts, not_empty, parts}
 with_unit : (text digits letters : List ℕ) → HasParts text digits letters → is_number digits ≡ true
     → are_of_tail letters ≡ true → is_start OwnName tail_table OfTail text ≡ true
 with_unit text digits letters is number of_tail =
-    let some = (and_parts (nat_lt 0 (length digits)) (list_all is_ascii_digit digits) number).0 in
+    let some = (and_parts (nat_lt 0 (length digits)) _ number).0 in
     rw (is.0, is.1, of_tail, some, or-true (is_number text)) refl
 
 -- what these ask
@@ -50,7 +49,7 @@ no_letters : (digits : List ℕ) → is_number digits ≡ true → HasParts digi
 no_letters digits number =
     let nil : digits ++ [] ≡ digits = append-nil digits in
     let HasNone : List ℕ → Type 0 = λ text. HasParts text digits [] in
-    subst HasNone nil (parts digits [] (and_parts (nat_lt 0 (length digits)) (list_all is_ascii_digit digits) number).1 refl)
+    subst HasNone nil (parts digits [] (and_parts (nat_lt 0 (length digits)) _ number).1 refl)
 
 pub digits_start : (digits : List ℕ) (place : ℕ) → is_number digits ≡ true
     → foremost OwnName tail_table (Amount Lines) OfTail place (43 ∷ digits)
@@ -64,8 +63,8 @@ pub digits_count : (digits : List ℕ) → is_number digits ≡ true → count_o
 unfolding count_of factor_of
 digits_count [] number = absurd (cc)
 digits_count (digit ∷ digits) number =
-    let all = (and_parts (nat_lt 0 (length (digit ∷ digits))) (list_all is_ascii_digit (digit ∷ digits)) number).1 in
-    let first = (and_parts (is_ascii_digit digit) (list_all is_ascii_digit digits) all).0 in
+    let all = (and_parts (nat_lt 0 (length (digit ∷ digits))) _ number).1 in
+    let first = (and_parts (is_ascii_digit digit) _ all).0 in
     let no_plus : (digit == 43) ≡ false = grind (arith, nat_tests) in
     let no_minus : (digit == 45) ≡ false = grind (arith, nat_tests) in
     let is = no_letters (digit ∷ digits) number in
@@ -80,7 +79,7 @@ pub letters_start : (digits letters : List ℕ) (place amount : ℕ) → is_numb
     (counted_with (unit_in letters).0 place (switches tail_table place letters) (counted (sized Plus amount)))
 unfolding foremost
 letters_start digits letters place amount number none of_tail many =
-    let is = parts digits letters (and_parts (nat_lt 0 (length digits)) (list_all is_ascii_digit digits) number).1 none in
+    let is = parts digits letters (and_parts (nat_lt 0 (length digits)) _ number).1 none in
     rw (with_unit (digits ++ letters) digits letters is number of_tail, asked_so Plus (digits ++ letters) place amount is number many) refl
 
 not_all : (digits : List ℕ) (letter : ℕ) (letters : List ℕ) → is_ascii_digit letter ≡ false
@@ -97,7 +96,7 @@ pub letters_last : (calling : Calling) (digits : List ℕ) (letter : ℕ) (lette
     (counted (sized Plain amount)))
 unfolding foremost
 letters_last calling digits letter letters place amount number other of_tail many =
-    let whole = and_parts (nat_lt 0 (length digits)) (list_all is_ascii_digit digits) number in
+    let whole = and_parts (nat_lt 0 (length digits)) _ number in
     let is = parts digits (letter ∷ letters) whole.1 (rw other refl) in
     let no_number : is_number (digits ++ letter ∷ letters) ≡ false = rw
     (not_all digits letter letters other, and-false (nat_lt 0 (length (digits ++ letter ∷ letters)))) refl in

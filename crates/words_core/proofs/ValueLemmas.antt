@@ -1,8 +1,8 @@
 -- Lemmas on the ways in which the value of an option is spelled.
 use Rattle.std.proofs.{
   lemmas.{Grind.common_steps, Bool.{cond-false, cond-true, eq-eqb, ne_eqb, or_parts}},
-  Common.{◌≡◌, ◌≢◌, ℕ, ◌+◌, ◌==◌, not, false, arith, List, [], ◌∷◌, ◌++◌, length, Option, Some, None, Result, Ok, cond},
-  Common.{refl, ap, ◌∙◌, append-nil, rules},
+  Common.{◌≡◌, ◌≢◌, ℕ, ◌+◌, ◌==◌, not, false, arith, List, [], ◌∷◌, ◌++◌, length, Option, Some, None, Result, Ok},
+  Common.{cond, refl, ap, ◌∙◌, append-nil, rules},
   Math.Seq.{take-append_seam, drop-append-add, take-length},
 }
 use Rattle.std.specs.List.{list_any, position_or_len, before_first}
@@ -18,8 +18,6 @@ use Rattle.ports_core.specs.declared.fault.UsageKind.{UsageKind}
 use Rattle.words_core.specs.declared.table.Takes.TheVariants as takes
 
 -- a letter
-
--- one that takes no value
 
 pub value_attached : (rows : List OptionRow) (letter : ℕ) (kind : Kind) (value : List ℕ) (choice : Choice)
     (words : List (List ℕ)) (place : ℕ)
@@ -48,7 +46,7 @@ place_of_equals : (front rest : List ℕ) → list_any is_equals front ≡ false
     → position_or_len is_equals (front ++ rest) ≡ length front
 place_of_equals [] rest none here = here
 place_of_equals (byte ∷ front) rest none here =
-    let both = or_parts (byte == 61) (list_any is_equals front) none in
+    let both = or_parts (byte == 61) _ none in
     let past = place_of_equals front rest both.1 here in
     ap (λ test. cond (not test) (1 + position_or_len is_equals (front ++ rest)) 0) both.0 ∙ omega arith
 

@@ -1,7 +1,7 @@
 -- The least width that writes as many numbers.
 use Rattle.std.proofs.{
   Common.{◌≡◌, ℕ, ◌+◌, ◌-◌, ◌<◌, ◌≤◌, zero, suc, false, arith, refl, ◌∙◌, ap},
-  lemmas.Bool.{cond_both, leb-true},
+  lemmas.{Grind.common_steps, Bool.{cond_both, leb-true}},
 }
 use Rattle.ports_core.specs.{declared.alphabet.Alphabet.Alphabet, Name.name_count}
 use Rattle.words_core.specs.SplitWords.{least_from, names_all}
@@ -17,9 +17,7 @@ least_next alphabet count width few not =
 pub least_within : (alphabet : Alphabet) (count more width : ℕ)
     → (width ≤ least_from alphabet count more width) × (least_from alphabet count more width ≤ width + more)
 least_within alphabet count zero width = (omega arith, omega arith)
-least_within alphabet count (suc more) width = cond_both (names_all alphabet count width) width (least_from alphabet count more (width + 1)) (λ found. (width ≤ found) × (found ≤ width + suc more))
-    (λ _. (omega arith, omega arith))
-    (λ _. let rest = least_within alphabet count more (width + 1) in (omega arith, omega arith))
+least_within alphabet count (suc more) width = grind (arith, common_steps, least_within alphabet count more (width + 1))
 
 pub least_writes : (alphabet : Alphabet) (count more width : ℕ) → count ≤ name_count alphabet (width + more)
     → count ≤ name_count alphabet (least_from alphabet count more width)

@@ -1,7 +1,7 @@
 -- The words of the laws: which options ask for what, and the operands among words.
 use Rattle.std.specs.{
-  Prelude.{◌≡◌, ◌≢◌, ℕ, ◌+◌, ◌<◌, ◌==◌, not, ◌&&◌, Bool, true, false, List, [], ◌∷◌, ◌++◌, All, length, codes},
-  Prelude.{if◌then◌else◌, Option, Some, None, Result, Ok, Err, ◌⊎◌},
+  Prelude.{◌≡◌, ◌≢◌, ℕ, ◌+◌, ◌<◌, ◌==◌, not, ◌&&◌, Bool, true, false, List, [], ◌∷◌, ◌++◌, All, length},
+  Prelude.{codes, if◌then◌else◌, Option, Some, None, Result, Ok, Err, ◌⊎◌},
   Char.is_ascii_digit,
   List.{Contains, list_all, list_any},
 }

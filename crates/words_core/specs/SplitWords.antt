@@ -1,7 +1,7 @@
 -- What options and operands ask of `split`, or what is wrong with them.
 use Rattle.std.specs.{
-  Prelude.{ℕ, zero, suc, ◌+◌, ◌==◌, ◌≤◌, ◌<◌, nat_le, Bool, true, false, List, [], ◌∷◌, filter, codes, is_some, Option},
-  Prelude.{Some, None, Result, Ok, Err, if◌then◌else◌},
+  Prelude.{ℕ, zero, suc, ◌+◌, ◌==◌, ◌≤◌, ◌<◌, nat_le, Bool, true, false, List, [], ◌∷◌, filter, codes, is_some},
+  Prelude.{Option, Some, None, Result, Ok, Err, if◌then◌else◌},
   Option.unwrap_or,
 }
 use Rattle.ports_core.specs.{

@@ -4,8 +4,8 @@
 -- `-s`, `--pid` and `--max-unchanged-stats` of `tail`, the `-p` and `--output-error` of `tee`, and the long names;
 -- `--looks` is of these tools alone.
 use Rattle.std.specs.{
-  Prelude.{ℕ, Bool, true, false, List, [], ◌∷◌, map, filter, codes, Option, Some, None, Result, Ok, Err, if◌then◌else◌},
-  Prelude.{eqb, bytes_eq},
+  Prelude.{ℕ, Bool, true, false, List, [], ◌∷◌, map, filter, codes, Option, Some, None, Result, Ok, Err},
+  Prelude.{if◌then◌else◌, eqb, bytes_eq},
   List.starts_with,
 }
 use Rattle.ports_core.specs.declared.{
@@ -18,8 +18,9 @@ use Rattle.seg_core.specs.declared.unit.Unit.TheVariants.{Lines, Bytes}
 use Rattle.words_core.specs.declared.{
   choice.Choice.Choice,
   choice.Kind.Kind,
-  choice.Kind.TheVariants.{Amount, Follow, Looks, Pause, Process, LinesEach, BytesEach, LineBytesEach, Divided, Width},
-  choice.Kind.TheVariants.{NumericSuffixes, HexSuffixes, Separator, Ending, Prefix, Format, OnBroken, NoEffect},
+  choice.Kind.TheVariants.{Amount, Follow, Looks, Pause, Process, LinesEach, BytesEach, LineBytesEach, Divided},
+  choice.Kind.TheVariants.{Width, NumericSuffixes, HexSuffixes, Separator, Ending, Prefix, Format, OnBroken},
+  choice.Kind.TheVariants.NoEffect,
   settings.{Headers.TheVariants.{Never, Always}, Topic.TheVariants.{Help, Version}},
   value.Followed.TheVariants.Descriptor,
   table.Letters.{Letters, TheVariants.{Never as NoLetters, OfHead, OfTail}},

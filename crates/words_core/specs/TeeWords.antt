@@ -5,7 +5,10 @@ use Rattle.ports_core.specs.declared.{
   slot.Mode.{Mode, TheVariants.{Fresh, Append}},
 }
 use Rattle.std.specs.Prelude.{ℕ, List}
-use Rattle.words_core.specs.{declared.{choice.Choice.Choice, spelled.Chosen.Chosen}, Given.{asked_by, Given, texts_of}}
+use Rattle.words_core.specs.{
+  declared.{choice.Choice.Choice, spelled.Chosen.Chosen},
+  Given.{asked_by, Given, texts_of},
+}
 use Rattle.words_core.specs.declared.choice.Choice.TheVariants as choice
 
 -- what words ask of `tee`

@@ -1,8 +1,8 @@
 -- What the value of an option says, or what is wrong with it. A value that isn't of its form is told before one that is
 -- too large, and that before 0.
 use Rattle.std.specs.{
-  Prelude.{ℕ, ◌+◌, ◌-◌, ◌*◌, ◌/◌, ◌^◌, ◌==◌, ◌&&◌, Bool, nat_lt, nat_le, min, codes, length, List, [], ◌∷◌, Option},
-  Prelude.{Some, None, Result, Ok, Err, if◌then◌else◌, bytes_eq},
+  Prelude.{ℕ, ◌+◌, ◌-◌, ◌*◌, ◌/◌, ◌^◌, ◌==◌, ◌&&◌, Bool, nat_lt, nat_le, min, codes, length, List, [], ◌∷◌},
+  Prelude.{Option, Some, None, Result, Ok, Err, if◌then◌else◌, bytes_eq},
   Char.{is_ascii_digit, is_digit},
   List.{list_all, list_any},
   Str.Parse.digits_value,

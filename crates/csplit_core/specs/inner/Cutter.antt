@@ -1,15 +1,15 @@
 -- What private calls say of where a run stands, of the cutter of lines, and of the stage that takes in bytes.
 use Rattle.std.specs.{
-  Prelude.{◌≡◌, ℕ, ◌<◌, ◌≤◌, Bool, false, List, ◌∷◌, length, drop, ◌⊎◌, ◌+◌, true, [], ◌++◌, take, get_or, Option},
-  Prelude.{Some, None, IfNone, IfSome, IfOk, Result, Ok, Err, ◌≢◌, OnOk, IsTrue, if◌then◌else◌},
+  Prelude.{◌≡◌, ℕ, ◌<◌, ◌≤◌, Bool, false, List, ◌∷◌, length, drop, ◌⊎◌, ◌+◌, true, [], ◌++◌, take, get_or},
+  Prelude.{Option, Some, None, IfNone, IfSome, IfOk, Result, Ok, Err, ◌≢◌, OnOk, IsTrue, if◌then◌else◌},
 }
 use Rattle.csplit_core.specs.{
   Operand.{Operand, Line, is_match},
   Plan.{State, CutsAt, search_line, line_after, state_after},
   Measure.Moves,
   declared.{
-    progress.{Progress.Progress, Turn.{Turn, TheVariants.{UsedUp, Missed, Above, Below, Cuts}}},
-    line_cutter.{Cut.Cut, LineCutter.LineCutter, Passed.Passed},
+    progress.{Progress.Progress, Attempt.{Attempt, TheVariants.{UsedUp, Missed, Above, Below, Cuts}}},
+    line_cutter.{CutPoint.CutPoint, LineCutter.LineCutter, Passed.Passed},
   },
   Progress.{state_of, WillMove, EndsHere, AimsAt},
   Csplit.{settled_of, whole_of, verdict_of},
@@ -36,7 +36,7 @@ use Rattle.ports_core.specs.{
   Draft.{Draft, draft_part},
   FileWriter.{WriterState, OwnsFiles, IsManner, IsReady, Breaks, manner_in, size_of, Leaves, Reaches, new_writer},
   FileWriter.paused,
-  Turn.fault_in,
+  InTurn.fault_in,
   Engine.Sweeps,
 }
 use Rattle.ports_core.specs.declared.fault.Fault.TheVariants as fault_is
@@ -59,13 +59,13 @@ pub record GoesPast (suppress : Bool) (lines : List Line) (state : State) (match
   pub from : state.current ≤ cut
   pub within : cut ≤ length lines
 
--- what a turn says of the plan: it ends here, or has one more step
-abbrev pub Turns : Bool → List Line → State → Turn → Type 0
-Turns suppress lines state (Cuts matched line) = GoesPast suppress lines state matched line
-Turns suppress lines state turn = EndsHere suppress lines state turn
+-- what an attempt says of the plan: it ends here, or has one more step
+abbrev pub AgreesWithPlan : Bool → List Line → State → Attempt → Type 0
+AgreesWithPlan suppress lines state (Cuts matched line) = GoesPast suppress lines state matched line
+AgreesWithPlan suppress lines state attempt = EndsHere suppress lines state attempt
 
 -- where a cut falls
-abbrev pub FallsAt : (total current matched cut : ℕ) → Turn → Type 0
+abbrev pub FallsAt : (total current matched cut : ℕ) → Attempt → Type 0
 FallsAt total current matched cut UsedUp = ⊥
 FallsAt total current matched cut Missed = ⊥
 FallsAt total current matched cut (Above last line) = (last ≡ matched) × (line ≡ cut) × (total < cut)
@@ -73,7 +73,7 @@ FallsAt total current matched cut Below = (cut ≤ total) × (cut < current)
 FallsAt total current matched cut (Cuts last line) = (last ≡ matched) × (line ≡ cut) × (current ≤ cut) × (cut ≤ total)
 
 -- a cut moves on: so a run makes no more steps than `needed` says
-abbrev pub MovesOn : List Operand → (total : ℕ) → Progress → Turn → Type 0
+abbrev pub MovesOn : List Operand → (total : ℕ) → Progress → Attempt → Type 0
 MovesOn operands total progress UsedUp = Unit {0}
 MovesOn operands total progress Missed = Unit {0}
 MovesOn operands total progress (Above matched line) = WillMove operands total progress matched line
@@ -113,7 +113,7 @@ abbrev pub plan_in : CutterState → List ℕ → Plan
 plan_in cutter x = plan (suppress_in cutter) cutter.operands (all_lines x)
 
 -- the next operand cuts there, where the lines x came in
-abbrev pub CutsIn : CutterState → List ℕ → Cut → Type 0
+abbrev pub CutsIn : CutterState → List ℕ → CutPoint → Type 0
 CutsIn cutter x cut = GoesPast (suppress_in cutter) (all_lines x) (state_in cutter) cut.matched cut.line
 
 -- where the plan over x ends, as far as its fault is known from it
@@ -167,7 +167,7 @@ pub record Held (cutter : CutterState) (left : List ℕ) (next : CutterState) : 
   pub size : size_of next.writer.current + length next.window.held ≤ size_of cutter.writer.current + length left
 
 -- What `hold` does: the lines up to x came in, and these were left.
-pub record Holds (told : Bool) (cutter : CutterState) (left : List ℕ) (old new : List Slot) (next : CutterState)
+pub record HoldsLines (told : Bool) (cutter : CutterState) (left : List ℕ) (old new : List Slot) (next : CutterState)
     (fault : Option Fault) : Type 0 where
   pub keeps : Keeps cutter next old new fault
   pub reaches : (x : List ℕ) (at : IsAt (bare cutter) x left) → Arrives cutter at
@@ -196,7 +196,7 @@ pub record Looked (cutter : CutterState) (x line : List ℕ) : Type 0 where
       → is_match operand (all_lines x) other ≡ false
 
 -- The next operand cuts at this line, which is among those that came in.
-pub record WillCut (cutter : CutterState) (cut : Cut) : Type 0 where
+pub record WillCut (cutter : CutterState) (cut : CutPoint) : Type 0 where
   pub operand : Operand
   pub operands : List Operand
   pub some : cutter.progress.done < length cutter.operands
@@ -207,31 +207,31 @@ pub record WillCut (cutter : CutterState) (cut : Cut) : Type 0 where
   pub within : cut.line ≤ cutter.lines
 
 -- where a search after this cut begins
-abbrev pub search_after : Bool → Cut → ℕ
+abbrev pub search_after : Bool → CutPoint → ℕ
 search_after suppress cut = search_line suppress
     (record { operands = []; repetition = 0; current = line_after suppress cut.line; matched = cut.matched })
 
 -- After the cut no line before the last one is looked at: so it is where that was so before it, and where a pattern
 -- cuts.
-abbrev pub StaysNear : CutterState → Cut → Type 0
+abbrev pub StaysNear : CutterState → CutPoint → Type 0
 StaysNear cutter cut = (cutter.lines ≤ search_line (suppress_in cutter) (state_in cutter)) ⊎ (cutter.sought ≡ None → ⊥)
     → cutter.lines ≤ search_after (suppress_in cutter) cut
 
 -- What trying the next operand with the last line says of the plan over all lines that came in.
-abbrev pub Tries : CutterState → List ℕ → CutterState → Option Cut → Type 0
+abbrev pub Tries : CutterState → List ℕ → CutterState → Option CutPoint → Type 0
 Tries cutter line next None = (x : List ℕ) → Looked cutter x line → EndsNow next x
 Tries cutter line next (Some cut) = (x : List ℕ) → Looked cutter x line
     → CutsIn cutter x cut × StaysNear cutter cut
 
 -- The same of a line that is counted first, where the lines x came in before it.
-abbrev pub TriesNext : CutterState → List ℕ → CutterState → Option Cut → Type 0
+abbrev pub TriesNext : CutterState → List ℕ → CutterState → Option CutPoint → Type 0
 TriesNext cutter line next None = (x : List ℕ) → IsWhole x → IsLive cutter x → EndsNow next (x ++ line)
 TriesNext cutter line next (Some cut) = (x : List ℕ) → IsWhole x → IsLive cutter x
     → CutsIn cutter (x ++ line) cut × (next.lines ≤ search_after (suppress_in cutter) cut)
 
 -- The plan over x cuts there, and no line of it before the last one is to be looked at again. The lines that are left
 -- begin with number `place`.
-pub record CutsNow {cutter : CutterState} {x left : List ℕ} (line : List ℕ) (cut : Cut) (place : ℕ)
+pub record CutsNow {cutter : CutterState} {x left : List ℕ} (line : List ℕ) (cut : CutPoint) (place : ℕ)
     (at : IsAt cutter x left) : Type 0 where
   pub last : IsLastLine x line
   pub near : cutter.lines ≤ search_after (suppress_in cutter) cut
@@ -239,8 +239,8 @@ pub record CutsNow {cutter : CutterState} {x left : List ℕ} (line : List ℕ) 
   pub before : place ≤ cut.line
   pub goes : CutsIn cutter x cut
 
--- the turn is no cut
-abbrev pub IsNoCut : Turn → Type 0
+-- the attempt is no cut
+abbrev pub IsNoCut : Attempt → Type 0
 IsNoCut UsedUp = Unit {0}
 IsNoCut Missed = Unit {0}
 IsNoCut (Above matched line) = Unit {0}
@@ -248,13 +248,13 @@ IsNoCut Below = Unit {0}
 IsNoCut (Cuts matched line) = ⊥
 
 -- where the run stands after a cut
-abbrev pub PassesOn : CutterState → Cut → CutterState → Type 0
+abbrev pub PassesOn : CutterState → CutPoint → CutterState → Type 0
 PassesOn cutter cut next = (operand : Operand) (operands : List Operand)
     → (state_in cutter).operands ≡ operand ∷ operands
     → state_in next ≡ state_after (suppress_in cutter) operand operands cutter.progress.repetition cut.matched cut.line
 
 -- The run went on after a cut, and nothing is written yet.
-pub record WentOn (cutter : CutterState) (cut : Cut) (next : CutterState) : Type 0 where
+pub record WentOn (cutter : CutterState) (cut : CutPoint) (next : CutterState) : Type 0 where
   pub same : next ≡ record cutter { progress = next.progress; window = next.window; sought = next.sought }
   pub held : next.window.held ≡ []
   pub fit : IsFit next
@@ -266,7 +266,7 @@ abbrev pub Lacks : CutterState → CutterState → Fault → Type 0
 Lacks cutter next fault = (fault ≡ Memory) × (next.writer ≡ cutter.writer) × (next.operands ≡ cutter.operands)
     × (next.style ≡ cutter.style)
 
-abbrev pub PassesCut : CutterState → Cut → CutterState → Option Fault → Type 0
+abbrev pub PassesCut : CutterState → CutPoint → CutterState → Option Fault → Type 0
 PassesCut cutter cut next None = WentOn cutter cut next
 PassesCut cutter cut next (Some fault) = Lacks cutter next fault
 
@@ -292,7 +292,7 @@ pub record IsAfter (told : Bool) (cutter : CutterState) (x line : List ℕ) (nex
   pub reaches : Puts told cutter next low (part_at now) old new None
 
 -- Some cuts were made, and these lines are left.
-pub record Spreading (told : Bool) (cutter : CutterState) (cut : Cut) (place : ℕ) (waiting line : List ℕ)
+pub record Spreading (told : Bool) (cutter : CutterState) (cut : CutPoint) (place : ℕ) (waiting line : List ℕ)
     (old new : List Slot) (now : CutterState) (left : List ℕ) : Type 0 where
   pub keeps : Keeps cutter now old new None
   pub lines : now.lines ≡ cutter.lines
@@ -304,13 +304,13 @@ pub record Spreading (told : Bool) (cutter : CutterState) (cut : Cut) (place : �
   pub end : IsEnd left waiting
 
 -- The open section ended at a cut, and the next one began.
-pub record CutAt (told : Bool) (cutter : CutterState) (cut : Cut) (place : ℕ) (left : List ℕ) (old new : List Slot)
+pub record CutAt (told : Bool) (cutter : CutterState) (cut : CutPoint) (place : ℕ) (left : List ℕ) (old new : List Slot)
     (next : CutterState) (rest : List ℕ) : Type 0 where
   pub fewer : needed next.lines (state_in next) < needed cutter.lines (state_in cutter)
   pub spreading : (line : List ℕ) → Spreading told cutter cut place left line old new next rest
 
 -- No operand cuts any more what is left, and nothing of it is written or waits yet.
-pub record Spread (told : Bool) (cutter : CutterState) (cut : Cut) (place : ℕ) (waiting line : List ℕ)
+pub record Spread (told : Bool) (cutter : CutterState) (cut : CutPoint) (place : ℕ) (waiting line : List ℕ)
     (old new : List Slot) (next : CutterState) (left : List ℕ) : Type 0 where
   pub now : CutterState
   pub so_far : Spreading told cutter cut place waiting line old new now left
@@ -319,7 +319,7 @@ pub record Spread (told : Bool) (cutter : CutterState) (cut : Cut) (place : ℕ)
   pub aim : IsAimed next
 
 -- the lines that were left were cut as often as operands cut, and more came in that aren't cut
-pub record CutAll (cutter : CutterState) (cut : Cut) (place : ℕ) (left line more : List ℕ)
+pub record CutAll (cutter : CutterState) (cut : CutPoint) (place : ℕ) (left line more : List ℕ)
     (next : CutterState) : Type 0 where
   pub lines : next.lines ≤ cutter.lines + length more
   pub sound : IsSound next
@@ -328,7 +328,7 @@ pub record CutAll (cutter : CutterState) (cut : Cut) (place : ℕ) (left line mo
       ≤ size_of cutter.writer.current + length left + length more
 
 -- What cutting as often as operands cut does, from the first cut on, and then taking in more lines that aren't cut.
-pub record CutsAll (told : Bool) (cutter : CutterState) (cut : Cut) (place : ℕ) (left line more : List ℕ)
+pub record CutsAll (told : Bool) (cutter : CutterState) (cut : CutPoint) (place : ℕ) (left line more : List ℕ)
     (old new : List Slot)
     (next : CutterState) (fault : Option Fault) : Type 0 where
   pub keeps : Keeps cutter next old new fault
@@ -396,15 +396,16 @@ pub record Stretches (told : Bool) (cutter : CutterState) (text : List ℕ) (siz
   pub took : Takes told cutter (take size text ++ take on.n (drop size text)) old new next (fault_in result)
 
 -- The lines of a text after its first bytes were passed over, and then held together with what is left of those bytes.
-pub record GoesOn (told : Bool) (cutter : CutterState) (left text : List ℕ) (size : ℕ) (old new : List Slot)
+pub record PassesThenHolds (told : Bool) (cutter : CutterState) (left text : List ℕ) (size : ℕ) (old new : List Slot)
     (next : CutterState) (result : Result Passed Fault) : Type 0 where
   pub on : Extends text size next result
   pub mid : CutterState
   pub over : PassesOver cutter (drop size text) mid on.n
-  pub held : Holds told mid (mid.window.held ++ (left ++ take on.n (drop size text))) old new next (fault_in result)
+  pub held : HoldsLines told mid (mid.window.held ++ (left ++ take on.n (drop size text))) old new next
+      (fault_in result)
 
 -- The first line of a text was cut, and the lines after it that aren't cut were taken in too.
-pub record CutsOn (told : Bool) (cutter : CutterState) (cut : Cut) (text : List ℕ) (size : ℕ) (old new : List Slot)
+pub record CutsOn (told : Bool) (cutter : CutterState) (cut : CutPoint) (text : List ℕ) (size : ℕ) (old new : List Slot)
     (next : CutterState) (result : Result Passed Fault) : Type 0 where
   pub on : Extends text size next result
   pub all : CutsAll told cutter cut cutter.lines (take size text) (take size text) (take on.n (drop size text)) old new

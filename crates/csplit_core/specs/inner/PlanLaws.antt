@@ -1,11 +1,12 @@
 -- What private calls say: the plan that is computed is the one plan there is, and what sections are as more lines come.
 use Rattle.std.specs.{
-  Prelude.{◌≡◌, ℕ, suc, ◌+◌, ◌<◌, true, false, List, length, Option, Some, None, ◌-◌, ◌*◌, Bool, [], ◌∷◌, ◌≤◌, ◌++◌},
+  Prelude.{◌≡◌, ℕ, suc, ◌+◌, ◌<◌, true, false, List, length, Option, Some, None, ◌-◌, ◌*◌, Bool, [], ◌∷◌, ◌≤◌},
+  Prelude.◌++◌,
 }
 use Rattle.csplit_core.specs.{
   Operand.{Operand, Line, Target, Number, Search, is_kept, most_held},
   Plan.{IsFirst, MatchesNone, State, Step, Ending, Runs, used_up, missed, above, below, CutsAt, Misses},
-  Planned.{Plan, Turn, ends, goes, turn, ended, with_step, plan_within, plan},
+  Planned.{Plan, Attempt, ends, goes, attempt, ended, with_step, plan_within, plan},
   Section.{Section, settled_end},
 }
 
@@ -13,9 +14,9 @@ abbrev pub MatchesAs : Operand → List Line → ℕ → Option ℕ → Type 0
 MatchesAs operand lines from None = MatchesNone operand lines from
 MatchesAs operand lines from (Some line) = IsFirst operand lines from line
 
--- the steps after a turn
-abbrev pub after : ℕ → Bool → List Line → State → Turn → Plan
-after bound suppress lines state turn = elim turn [
+-- the steps after an attempt
+abbrev pub after : ℕ → Bool → List Line → State → Attempt → Plan
+after bound suppress lines state attempt = elim attempt [
   | ends ending ↦ ended state ending
   | goes step next ↦ with_step step (plan_within bound suppress lines next)
 ]

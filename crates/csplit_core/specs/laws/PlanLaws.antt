@@ -2,19 +2,15 @@
 use Rattle.std.proofs.{
   lemmas.{Grind.common_steps, Bool.{cases_lt, Decides.nat_tests}, List.{drop_all, length-take-le, take-append-drop}},
   Common.{◌≡◌, inl, inr, ℕ, zero, suc, ◌+◌, ◌-◌, ◌<◌, ◌≤◌, Bool, true, false, cond, List, [], ◌∷◌, ◌++◌},
-  Common.append_assoc,
-  Common.{length, Option, Some, None, refl, ◌∙◌, ap, arith, length-append, ◌*◌, nat_lt},
-  Common.subst,
-  Common.rules,
+  Common.{append_assoc, length, Option, Some, None, refl, ◌∙◌, ap, arith, length-append, ◌*◌, nat_lt, subst, rules},
   Math.Seq.get_or-append_seam,
 }
 use Rattle.csplit_core.specs.{
   Operand.{Operand, Line, is_match, Offset, Target, Number, Search, has_more},
   Plan.{State, search_line, start, Step, Ending, used_up, missed, above, below, CutsAt, Misses, line_after},
   Plan.{operands_after, repetition_after, state_after, step_of, Runs, is_used_up, misses, is_above, is_below, cuts},
-  Planned.{first_among, first_match, ends, goes, turn, Turn, turn_at, turn_from, turn_to, turn_of, ended, with_step},
-  Planned.plan_within,
-  Planned.plan,
+  Planned.{first_among, first_match, ends, goes, attempt, Attempt, attempt_at, attempt_from, attempt_to, attempt_of},
+  Planned.{ended, with_step, plan_within, plan},
   inner.PlanLaws.{MatchesAs, after, left_of, needed_by, needed, so, RunsAs},
   Measure.Moves,
 }
@@ -67,20 +63,20 @@ from_not_less a b is = grind (arith, nat_tests, is)
 
 -- What a plan says, the computation does
 
-turn_at_cut : (suppress : Bool) (lines : List Line) (state : State) (operand : Operand) (operands : List Operand)
+attempt_at_cut : (suppress : Bool) (lines : List Line) (state : State) (operand : Operand) (operands : List Operand)
     (target : Target) (matched cut : ℕ)
-    → CutsAt suppress lines state operand target matched cut → turn_to suppress lines state operand operands target
-    ≡ turn_at suppress (length lines) state operand operands matched cut
-turn_at_cut suppress lines state operand operands (Number n) matched cut at = search rules
-turn_at_cut suppress lines state operand operands (Search pattern kept offset) matched cut at =
+    → CutsAt suppress lines state operand target matched cut → attempt_to suppress lines state operand operands target
+    ≡ attempt_at suppress (length lines) state operand operands matched cut
+attempt_at_cut suppress lines state operand operands (Number n) matched cut at = search rules
+attempt_at_cut suppress lines state operand operands (Search pattern kept offset) matched cut at =
     rw (first_is suppress operand lines state (Some matched) at.0, ← at.1) refl
 
-turn_missed : (suppress : Bool) (lines : List Line) (state : State) {operand : Operand} (operands : List Operand)
+attempt_missed : (suppress : Bool) (lines : List Line) (state : State) {operand : Operand} (operands : List Operand)
     (target : Target)
     → Misses suppress lines state operand target
-    → turn_to suppress lines state operand operands target ≡ ends (missed operand state.repetition)
-turn_missed suppress lines state operands (Number n) none = absurd none
-turn_missed suppress lines state {operand} operands (Search pattern kept offset) none =
+    → attempt_to suppress lines state operand operands target ≡ ends (missed operand state.repetition)
+attempt_missed suppress lines state operands (Number n) none = absurd none
+attempt_missed suppress lines state {operand} operands (Search pattern kept offset) none =
     rw (first_is suppress operand lines state None none) refl
 
 fewer_operands : (total : ℕ) (state : State) (operands : List Operand)
@@ -125,8 +121,8 @@ line_some suppress cut = search rules
 
 ends_within : (bound : ℕ) (suppress : Bool) (lines : List Line) (state : State) {operand : Operand}
     {operands : List Operand} {ending : Ending} → state.operands ≡ operand ∷ operands
-    → turn_to suppress lines state operand operands operand.target ≡ ends ending → needed (length lines) state ≤ bound
-    → plan_within bound suppress lines state ≡ so [] state ending
+    → attempt_to suppress lines state operand operands operand.target ≡ ends ending
+    → needed (length lines) state ≤ bound → plan_within bound suppress lines state ≡ so [] state ending
 ends_within bound suppress lines state is e enough = grind (arith, common_steps)
 
 -- A plan is the one that is computed
@@ -137,13 +133,13 @@ pub computed : {suppress : Bool} {lines : List Line} {first : State} (all : List
 computed all end (is_used_up state none) zero enough some = refl
 computed all end (is_used_up state none) (suc bound) enough some = search rules
 computed {suppress} {lines} all end (misses state operand operands is none) bound enough some =
-    search (rules, ends_within, turn_missed)
+    search (rules, ends_within, attempt_missed)
 computed {suppress} {lines} all end (is_above state operand operands matched cut is at far) bound enough some =
     ends_within bound suppress lines state is
     (grind (
       arith,
       common_steps,
-      (turn_at_cut suppress lines state operand operands operand.target matched cut at),
+      (attempt_at_cut suppress lines state operand operands operand.target matched cut at),
       less_test,
     )) enough
 computed {suppress} {lines} all end (is_below state operand operands matched cut is at within low) bound enough some =
@@ -151,7 +147,7 @@ computed {suppress} {lines} all end (is_below state operand operands matched cut
     (grind (
       arith,
       common_steps,
-      (turn_at_cut suppress lines state operand operands operand.target matched cut at),
+      (attempt_at_cut suppress lines state operand operands operand.target matched cut at),
       less_test,
       not_less_test,
     )) enough
@@ -163,7 +159,7 @@ computed {suppress} {lines} all end (cuts state operand operands matched cut ste
       arith,
       common_steps,
       is,
-      (turn_at_cut suppress lines state operand operands operand.target matched cut at),
+      (attempt_at_cut suppress lines state operand operands operand.target matched cut at),
       not_less_test,
     ))
     ∙ ap (with_step (step_of state operand matched cut)) (computed steps last rest bound
@@ -171,17 +167,17 @@ computed {suppress} {lines} all end (cuts state operand operands matched cut ste
     (length lines) state = search (rules, fewer) in omega arith)
     (omega (arith, line_some suppress cut)))
 
--- What a turn says of the plan: it ends here, or any plan goes on after one more step, and there is less to do.
-abbrev Turned : Bool → List Line → State → Turn → Type 0
-Turned suppress lines state (ends ending) = Runs suppress lines state [] state ending
-Turned suppress lines state (goes step next) = (needed (length lines) next < needed (length lines) state)
+-- What an attempt says of the plan: it ends here, or any plan goes on after one more step, and there is less to do.
+abbrev Attempted : Bool → List Line → State → Attempt → Type 0
+Attempted suppress lines state (ends ending) = Runs suppress lines state [] state ending
+Attempted suppress lines state (goes step next) = (needed (length lines) next < needed (length lines) state)
     × (1 ≤ next.current) × ((steps : List Step) (last : State) (ending : Ending)
     → Runs suppress lines next steps last ending → Runs suppress lines state (step ∷ steps) last ending)
 
 module _ (suppress : Bool) (lines : List Line) (state : State) (some : 1 ≤ state.current) where
   turned_at : {operand : Operand} {operands : List Operand} → state.operands ≡ operand ∷ operands → (matched cut : ℕ)
       → CutsAt suppress lines state operand operand.target matched cut → (far low : Bool)
-      → nat_lt (length lines) cut ≡ far → nat_lt cut state.current ≡ low → Turned suppress lines state
+      → nat_lt (length lines) cut ≡ far → nat_lt cut state.current ≡ low → Attempted suppress lines state
       (cond far (ends (above operand state.repetition matched cut)) (cond low (ends (below operand state.repetition))
       (goes (step_of state operand matched cut) (state_after suppress operand operands state.repetition matched cut))))
   turned_at is matched cut at far low far_is low_is =
@@ -190,19 +186,19 @@ module _ (suppress : Bool) (lines : List Line) (state : State) (some : 1 ≤ sta
   turned_from : {operand : Operand} {operands : List Operand} → state.operands ≡ operand ∷ operands
       → {pattern' : Pattern} {kept : Bool} (offset : Offset) → operand.target ≡ Search pattern' kept offset
       → (matched : Option ℕ) → MatchesAs operand lines (search_line suppress state) matched
-      → Turned suppress lines state (turn_from suppress (length lines) state operand operands offset matched)
+      → Attempted suppress lines state (attempt_from suppress (length lines) state operand operands offset matched)
   turned_from is offset target None none = misses state _ _ is
       (search rules)
   turned_from is offset target (Some matched) first = search (rules, turned_at)
 
   turned_to : {operand : Operand} {operands : List Operand} → state.operands ≡ operand ∷ operands → (target : Target)
       → operand.target ≡ target
-      → Turned suppress lines state (turn_to suppress lines state operand operands target)
+      → Attempted suppress lines state (attempt_to suppress lines state operand operands target)
   turned_to is (Number n) target = search (rules, turned_at)
   turned_to is (Search pattern' kept offset) target = search (rules, turned_from, first_match_as, search_some)
 
   turned_of : (operands : List Operand) → state.operands ≡ operands
-      → Turned suppress lines state (turn_of suppress lines state operands)
+      → Attempted suppress lines state (attempt_of suppress lines state operands)
   turned_of [] is = is_used_up state is
   turned_of (operand ∷ operands) is = turned_to is operand.target refl
 
@@ -215,8 +211,8 @@ runs : (bound : ℕ) (suppress : Bool) (lines : List Line) (state : State) → n
     → 1 ≤ state.current → RunsAs suppress lines state (plan_within bound suppress lines state)
 runs zero suppress lines state enough some = search (rules, none_by)
 runs (suc bound) suppress lines state enough some =
-    (elim (turn suppress lines state) as (λ turn. Turned suppress lines state turn
-    → RunsAs suppress lines state (after bound suppress lines state turn)) [
+    (elim (attempt suppress lines state) as (λ attempt. Attempted suppress lines state attempt
+    → RunsAs suppress lines state (after bound suppress lines state attempt)) [
       | ends ending ↦ λ is. is
       | goes step next ↦ λ is. is.2 _ _ _ (runs bound suppress lines next (omega arith) is.1)
     ]) (search (rules, turned_of))

@@ -1,9 +1,8 @@
 -- Laws that traits cite: what sections are when more lines come.
 use Rattle.std.proofs.{
   lemmas.{Grind.{common_steps, flat_map-append}, List.{append-nil, map-append}},
-  Common.{rules, ◌≡◌, ◌⊎◌, inl, inr, ℕ, zero, suc, ◌+◌, ◌-◌, ◌≤◌, Bool, false, List, [], ◌∷◌, ◌++◌},
-  Common.{length, map},
-  Common.{take, drop, refl, sym, subst, arith, append_assoc, length-append},
+  Common.{rules, ◌≡◌, ◌⊎◌, inl, inr, ℕ, zero, suc, ◌+◌, ◌-◌, ◌≤◌, Bool, false, List, [], ◌∷◌, ◌++◌, length},
+  Common.{map, take, drop, refl, sym, subst, arith, append_assoc, length-append},
 }
 use Rattle.ports_core.{
   specs.{

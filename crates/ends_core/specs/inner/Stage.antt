@@ -24,9 +24,9 @@ due (Last kept) piece = []
 
 -- with these bytes nothing is written where they are the first: where all from the nth on is asked for, they stand before
 -- it, and else there are none
-abbrev pub IsSilent : Ends → List ℕ → Type 0
-IsSilent (FromNth count front) x = after_of front.delim front.unit front.left x ≡ []
-IsSilent ends x = x ≡ []
+abbrev pub WritesNothing : Ends → List ℕ → Type 0
+WritesNothing (FromNth count front) x = after_of front.delim front.unit front.left x ≡ []
+WritesNothing ends x = x ≡ []
 
 -- what it is after these bytes then
 abbrev pub passed : Ends → List ℕ → Ends

@@ -6,8 +6,7 @@ use Rattle.std.proofs.{
     Bool.cases_lt,
   },
   Common.{◌≡◌, ℕ, ◌+◌, ◌-◌, ◌<◌, ◌≤◌, zero, suc, List, [], ◌∷◌, ◌++◌, length, take, drop, refl, sym, ◌∙◌},
-  Common.{ap, arith},
-  Common.{append_assoc, length-append, length-drop, inl, inr},
+  Common.{ap, arith, append_assoc, length-append, length-drop, inl, inr},
 }
 use Rattle.seg_core.{
   specs.{Line.line_count, declared.unit.Unit.{Unit as Counted, TheVariants.{Lines, Bytes}}},

@@ -1,8 +1,8 @@
 -- The laws of the work of `head` and of `tail`.
 use Rattle.std.proofs.{
   lemmas.{Grind.common_steps, Bool.{leb-true, le-leb, le-ltb, lt-ltb}},
-  Common.{◌≡◌, ℕ, ◌-◌, ◌<◌, ◌≤◌, ◌&&◌, zero, suc, not, List, ◌++◌, length, Bool, true, false, Option, Some, None, cond},
-  Common.{nat_le, refl, sym, ◌∙◌, ap, arith, rules},
+  Common.{◌≡◌, ℕ, ◌-◌, ◌<◌, ◌≤◌, ◌&&◌, zero, suc, not, List, ◌++◌, length, Bool, true, false, Option, Some, None},
+  Common.{cond, nat_le, refl, sym, ◌∙◌, ap, arith, rules},
 }
 use Rattle.ports_core.{
   specs.{

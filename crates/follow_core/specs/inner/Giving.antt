@@ -1,8 +1,8 @@
 -- What a look gives for one name, call by call: bytes on standard output, under headers, and lines on standard error;
 -- and what one call on a name owes, and what is due of it.
 use Rattle.std.specs.{
-  Prelude.{◌≡◌, ◌<◌, ◌-◌, Bool, true, false, ℕ, List, Option, Some, None, Result, Ok, Err, ◌⊎◌, nat_lt, [], ◌∷◌, ◌++◌},
-  Prelude.{drop, length, if◌then◌else◌, IfOk, is_some},
+  Prelude.{◌≡◌, ◌<◌, ◌-◌, Bool, true, false, ℕ, List, Option, Some, None, Result, Ok, Err, ◌⊎◌, nat_lt, [], ◌∷◌},
+  Prelude.{◌++◌, drop, length, if◌then◌else◌, IfOk, is_some},
 }
 use Rattle.ports_core.specs.{declared.{reason.Reason.Reason, fault.Fault.Fault}, Slot.{Slot, changed_at, slot_at}}
 use Rattle.watch_core.specs.{Snapshot.Snapshot, Watched.{NameBreaks, Watched, open_contents, opens, watched_at}}
@@ -83,7 +83,7 @@ AreGiven (Some (Over why)) events due before = Begins events due
 
 -- What is due of a name was given; or what comes before the call on it that failed; or a beginning, where following
 -- ends. Whatever is watched, this is so of what was given.
-pub record Ends (told_in : Bool) (Is : List Event → Type 0) (told is_opened : Bool) (printer : PrinterState)
+pub record GivesDue (told_in : Bool) (Is : List Event → Type 0) (told is_opened : Bool) (printer : PrinterState)
     (name : List ℕ) (due before : List Event) (old : List Slot) (after : PrinterState) (new : List Slot)
     (stop : Option Stop) : Type 0 where
   pub events : List Event
@@ -198,7 +198,7 @@ pub record Copies (told_in told : Bool) (snapshot : Snapshot) (from : ℕ) (plac
     (after : PrinterState) (slots_new : List Slot) (stop : Option Stop) : Type 0 where
   pub at : ℕ
   pub ends : let opened = watched_at watched place in let contents = open_contents snapshot opened in
-      Ends told_in
+      GivesDue told_in
       (WereFound Nothing (FromThere opened.opened from) snapshot opened.name (unread opened.opened at) stop)
       told false printer name (gives (drop from contents) ∷ [])
       (all_but (length contents - at) (gives (drop from contents) ∷ [])) slots after slots_new stop
@@ -215,7 +215,7 @@ pub record Starts (told_in told seeks : Bool) (snapshot : Snapshot) (start : Lis
     (after : PrinterState) (slots_new : List Slot) (stop : Option Stop) : Type 0 where
   pub fate : Fate
   pub ends : let due = gives (start (held_at snapshot (watched_at watched place).opened)) ∷ [] in
-      Ends told_in
+      GivesDue told_in
       (WereFound Nothing Anywhere snapshot (watched_at watched place).name fate stop) told false printer name due
       (led_before snapshot fate due) slots after slots_new stop
   pub keeps : Keeps place watched watched_new fate stop
@@ -245,7 +245,7 @@ pub record Adds (told_in told : Bool) (snapshot : Snapshot) (place : ℕ) (name 
   pub ends : let known = watched_at watched place in (last : Entry)
       → (told_in ≡ true → StandsAt last known.opened position)
       → let due = events_later last (entries_open snapshot known.opened) in
-      Ends told_in
+      GivesDue told_in
       (WereFound (ToldShort snapshot known position) (FromEither known.opened position) snapshot known.name fate
       (stop_in result)) told false printer name due (came_before snapshot fate due) slots after slots_new
       (stop_in result)
@@ -267,7 +267,7 @@ pub record Leads (told_in told by_name : Bool) (snapshot : Snapshot) (led : Opti
   pub ends : let known = watched_at watched place in (last : Entry)
       → (told_in ≡ true → StandsAt last known.opened position)
       → let due = events_later last (entries_led snapshot known.opened led) in
-      Ends told_in (WereFound (ToldLed by_name snapshot known) FromFront snapshot known.name fate (stop_in result))
+      GivesDue told_in (WereFound (ToldLed by_name snapshot known) FromFront snapshot known.name fate (stop_in result))
       told false printer name due (led_before snapshot fate due) slots after slots_new (stop_in result)
   pub stands : let opened = (watched_at watched place).opened in IfOk result (λ len. told_in ≡ true → (last : Entry)
       → StandsAt last opened position → StandsAt (last_from last (entries_led snapshot opened led)) led len)

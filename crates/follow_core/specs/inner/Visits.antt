@@ -8,7 +8,7 @@ use Rattle.follow_core.specs.{
     name.Standing.{Standing, TheVariants.{New, Followed, Left}},
     visitor.Stop.{Stop, TheVariants.{Broke, Over}},
     start.Start.Start,
-    follow.Stage.TheVariants.{Fresh, Looking, Over},
+    follow.Phase.TheVariants.{Fresh, Looking, Over},
   },
   Standing.{NameState, NoneGoesOn, AllStand, CanVisit, Stands, StandsAmong, texts},
   Telling.tail_by,
@@ -156,16 +156,16 @@ pub record AddsSome (names : List (List ℕ)) (old new : List Watched) : Type 0 
 
 -- no look was made yet, or each name can be looked at; following is not over
 abbrev pub CanBegin : FollowState → List Watched → Type 0
-CanBegin follow watched = elim follow.stage [
+CanBegin follow watched = elim follow.phase [
   | Fresh ↦ Unit {0}
   | Looking ↦ AllReady follow.names follow.first watched
   | Over ↦ ⊥
 ]
 
 -- all names are watched, what held of the looks before holds, and the names of others are as they were
-pub record Begins (told_in : Bool) (old : FollowState) (watched : List Watched) (new : FollowState)
+pub record BeginsLook (told_in : Bool) (old : FollowState) (watched : List Watched) (new : FollowState)
     (watched_new : List Watched) : Type 0 where
-  pub stage : new.stage ≡ Looking
+  pub phase : new.phase ≡ Looking
   pub ready : AllReady new.names new.first watched_new
   pub others : (number : ℕ) → IsOther old watched number
       → IsOther new watched_new number × (watched_at watched_new number ≡ watched_at watched number)
@@ -184,7 +184,7 @@ pub record MakesLook (told_in told : Bool) (snapshot : Snapshot) (seen : List Sn
   pub stopped : IfErr result (StopsOn told_in told snapshot old watched slots watched_new slots_new)
   pub seen_is : OnOk result (seen_new ≡ seen ++ snapshot ∷ [])
   pub saw : IfErr result (λ why. SawOrNot seen snapshot seen_new)
-  pub stage : OnOk result (new.stage ≡ Looking)
+  pub phase : OnOk result (new.phase ≡ Looking)
   pub ready : OnOk result (AllReady new.names new.first watched_new)
   pub can : OnOk result (CanPrint slots_new)
   pub cause : IfErr result (IsCause old slots slots_new)

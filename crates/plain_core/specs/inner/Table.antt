@@ -1,5 +1,7 @@
 -- Tables of stretches of a line, as the truth values of `contains` are found with.
-use Rattle.std.specs.Prelude.{◌≡◌, ℕ, suc, ◌+◌, ◌≤◌, Bool, false, ◌==◌, ◌&&◌, nat_le, List, [], slice_index_or, Option}
+use Rattle.std.specs.{
+  Prelude.{◌≡◌, ℕ, suc, ◌+◌, ◌≤◌, Bool, false, ◌==◌, ◌&&◌, nat_le, List, [], slice_index_or, Option},
+}
 use Rattle.bre_core.specs.{
   declared.token.Token.{Token, TheVariants.{Set, Front, End}},
   Pattern.{set, front, end},

@@ -18,7 +18,7 @@ use Rattle.ports_core.specs.{
   Streams.{streams_with, standard_error},
 }
 use Rattle.run_core.specs.{
-  declared.{feeding.Fed.Fed, inputs.Progress.Progress},
+  declared.{feeding.Fed.Fed, inputs.RunProgress.RunProgress},
   Feeding.{Step, Stops},
   Input.{Input, IsFor, World, is_dash, input_of, next_slot},
   Reading.{AreDone, AreUntouched, IsDone},
@@ -58,8 +58,8 @@ input_from name slot shown content = record { name = name; slot = slot; shown = 
 -- whether a fault was, and standard input was read or not. The files that may be removed are those from `first` on.
 pub data TookInput (told_in told : Bool) (task : Task) (most : ℕ) (input : Input) (outcome : Outcome)
     (is_first failed was_read : Bool) (so_far : Part) (error : Slot) (first : ℕ) (sources : List Source)
-    (new : List Slot) : Result Progress Fault → Type 0 where
-  took : (next : Progress) (after : Slot) (reached : List Slot)
+    (new : List Slot) : Result RunProgress Fault → Type 0 where
+  took : (next : RunProgress) (after : Slot) (reached : List Slot)
       → next ≡ record {
         was_read = was_read;
         is_first = is_first && is_missing input.content;

@@ -15,9 +15,9 @@ begun None nodes = Back 0 ∷ nodes
 begun (Some high) nodes = nodes
 
 -- a duplication's item may stand from its place on among `size` nodes, and its bounds are in order
-abbrev pub IsBegun : Option ℕ → ℕ → ℕ → ℕ → Type 0
-IsBegun None low start size = start < size
-IsBegun (Some high) low start size = (start ≤ size) × (low ≤ high) × (0 < high)
+abbrev pub HasBegun : Option ℕ → ℕ → ℕ → ℕ → Type 0
+HasBegun None low start size = start < size
+HasBegun (Some high) low start size = (start ≤ size) × (low ≤ high) × (0 < high)
 
 -- the item that stands from the duplication's place on was written out as often as the duplication asks for
 abbrev pub Repeats : Duplication → List Node → List Node → Type 0

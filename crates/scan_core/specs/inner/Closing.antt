@@ -24,7 +24,7 @@ pub record Follows (code : List Node) (closures : Closures) (hop : Hop) (old new
   pub settled : over ≡ 0 → (number : ℕ) → IsIn new number → IsIn old number
 
 -- hops to numbers that lead on were followed; only landings are missing if no bit is left over
-pub record Passes (code : List Node) (closures : Closures) (old new : List ℕ) (over : ℕ) : Type 0 where
+pub record FollowsHops (code : List Node) (closures : Closures) (old new : List ℕ) (over : ℕ) : Type 0 where
   pub closer : Closer code closures.hops old new over
   pub done : over ≡ 0 → (from to : ℕ) → IsIn new from → Flows code false false from to
       → IsIn new to ⊎ HopsTo closures.hops.landings.items (from / 64) to

@@ -7,13 +7,13 @@ use Rattle.scan_core.specs.{
     emit.Duplication.Duplication,
     node.Node.{Node, TheVariants.{Take, First, Last, Back}},
   },
-  inner.Backwards.{IsBegun, Repeats},
+  inner.Backwards.{HasBegun, Repeats},
 }
 
 -- what waits for an item waits for one that may stand among the nodes
 abbrev pub Waits : ℕ → Pending → Type 0
 Waits size Group = Unit {0}
-Waits size (Repeated duplication) = IsBegun duplication.high duplication.low duplication.start size
+Waits size (Repeated duplication) = HasBegun duplication.high duplication.low duplication.start size
 
 abbrev pub AreBegun : Compiling → Type 0
 AreBegun compiling = All (Waits (length compiling.nodes.items)) compiling.pending.items

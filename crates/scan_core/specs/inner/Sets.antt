@@ -21,8 +21,8 @@ abbrev pub FlowsOn : List Node → Bool → Bool → ℕ → ℕ → Type 0
 FlowsOn code at_first at_last from to = (count : ℕ) × Parts (Flows code at_first at_last) count from to
 
 -- a byte leads from a node to the next
-abbrev pub Passes : List Node → ℕ → ℕ → ℕ → Type 0
-Passes code byte from to = (bytes : List Bool) × At code from (Take bytes) × IsTrue (has bytes byte) × (to ≡ from + 1)
+abbrev pub StepsBy : List Node → ℕ → ℕ → ℕ → Type 0
+StepsBy code byte from to = (bytes : List Bool) × At code from (Take bytes) × IsTrue (has bytes byte) × (to ≡ from + 1)
 
 -- where a node leads is no more than a size, and not below the front
 abbrev pub FitsIn : ℕ → ℕ → Node → Type 0

@@ -6,13 +6,13 @@ use Rattle.scan_core.specs.{
   declared.{node.Node.Node, table.{State.State, Table.Table}},
   Code.{Entered, weight},
   Sets.{IsMarked, positions_among},
-  inner.Sets.{FlowsOn, Passes, Reaches},
+  inner.Sets.{FlowsOn, StepsBy, Reaches},
   Counted.{set_at, AreSteps},
 }
 
 -- what a byte and then none leads to from the numbers of a set, the search having begun once more
 abbrev pub Next : List Node → ℕ → (ℕ → Type 0) → ℕ → Type 0
-Next code byte Set number = (from : ℕ) × (((before : ℕ) × Set before × Passes code byte before from) ⊎ (from ≡ 0))
+Next code byte Set number = (from : ℕ) × (((before : ℕ) × Set before × StepsBy code byte before from) ⊎ (from ≡ 0))
     × FlowsOn code false false from number
 
 -- what is entered at a place that isn't the line's last

@@ -8,7 +8,7 @@ use Rattle.std.specs.{
 use Rattle.scan_core.specs.{
   declared.{masks.{Kind.{Kind, TheVariants.{Takes, Counts}}, Masks.Masks}, node.Node.Node},
   Code.weight_of,
-  inner.{Each.AreEach, Sets.{FlowsOn, Passes}},
+  inner.{Each.AreEach, Sets.{FlowsOn, StepsBy}},
 }
 
 unfoldable pub IsIn : List ℕ → ℕ → Type 0
@@ -59,7 +59,7 @@ counted_at (node ∷ code) zero = weight_of node
 counted_at (node ∷ code) (suc number) = counted_at code number
 
 abbrev pub IsOf : List Node → Kind → ℕ → Type 0
-IsOf code (Takes byte) number = Passes code byte number (number + 1)
+IsOf code (Takes byte) number = StepsBy code byte number (number + 1)
 IsOf code Counts number = counted_at code number ≡ 1
 
 -- a word has its numbers of a kind

@@ -6,7 +6,7 @@ use Rattle.split_core.specs.{
   ChunkerState.{ChunkerState, Holds, course, work},
   Ways.terms,
   declared.splitter.Splitter.TheVariants.Chunks,
-  inner.Sends.{Brings, Stays},
+  inner.Brings.{Brings, Stays},
 }
 use Rattle.split_core.specs.inner.Ways as ways
 
@@ -16,7 +16,7 @@ passed_to chunker front place within = record chunker {
   cutter = record chunker.cutter {
     at = front;
     is_within = within;
-    target = record chunker.cutter.target { place = place };
+    sink = record chunker.cutter.sink { place = place };
   };
 }
 
@@ -33,9 +33,9 @@ pub record IsLike (chunker next : ChunkerState) : Type 0 where
 -- the outputs have come from what is settled to this part, or a fault stopped them on the way
 pub record Comes (told : Bool) (chunker : ChunkerState) (high : List ℕ → Part) (old new : List Slot)
     (next : ChunkerState) (fault : Option Fault) : Type 0 where
-  pub stays : Stays (course chunker.cutter) chunker.cutter.target.aim next.cutter.target.aim old new fault
+  pub stays : Stays (course chunker.cutter) chunker.cutter.sink.aim next.cutter.sink.aim old new fault
   pub brings : (x : List ℕ) → Holds chunker x
-      → Brings told (course chunker.cutter) chunker.cutter.target.aim next.cutter.target.aim
+      → Brings told (course chunker.cutter) chunker.cutter.sink.aim next.cutter.sink.aim
       ((work chunker).settled x) (high x) old new fault
 
 -- what it leaves that took in a piece, and at the end

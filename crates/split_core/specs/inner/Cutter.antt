@@ -1,16 +1,15 @@
 -- What private calls say: cutting an input into chunks.
 use Rattle.std.specs.{
   Prelude.{◌≡◌, ℕ, ◌+◌, ◌-◌, ◌<◌, ◌≤◌, ◌⊎◌, max, min, Bool, true, false, List, ◌++◌, length, take, drop, Option},
-  Prelude.Some,
-  Prelude.{None, IfNone, Result, Ok, Err, IfErr, IfOk, OnOk},
+  Prelude.{Some, None, IfNone, Result, Ok, Err, IfErr, IfOk, OnOk},
 }
-use Rattle.ports_core.specs.{Part.Part, Slot.Slot, Turn.fault_in, Work.{IsNeeded, Work}, declared.fault.Fault.Fault}
+use Rattle.ports_core.specs.{Part.Part, Slot.Slot, InTurn.fault_in, Work.{IsNeeded, Work}, declared.fault.Fault.Fault}
 use Rattle.split_core.specs.{
   Chunks.{before_chunk, begun_before, chunks_within, ended, is_within},
   ChunkerState.{Carries, CutterState, HasAll, HasCut, course, first_on, part_on, whole_on, work_on},
   Parts.{CutUp, uncut},
   declared.chunk_cutter.ChunkCutter.ChunkCutter,
-  inner.{Seen.{is_past_on, seen_target}, Sends.{Brings, Changes, Gives, Stays, with_fulls, with_rest}},
+  inner.{Seen.{is_past_on, seen_sink}, Brings.{Brings, Changes, Gives, Stays, with_fulls, with_rest}},
 }
 
 abbrev pub seen_cutter : ChunkCutter → CutterState
@@ -18,7 +17,7 @@ seen_cutter cutter = record {
   chunks = cutter.chunks;
   at = cutter.at;
   is_within = cutter.is_within;
-  target = seen_target cutter.target;
+  sink = seen_sink cutter.sink;
 }
 
 -- what of a text that comes goes with the chunk that was begun, where that ends at a place
@@ -29,8 +28,8 @@ cut_to cutter end text = begun_before cutter.chunks.unit cutter.chunks.delim (ma
 pub record WritesTo (told : Bool) (cutter : CutterState) (end : ℕ) (text : List ℕ) (old new : List Slot)
     (next : CutterState) (result : Result ℕ Fault) : Type 0 where
   pub chunks : next.chunks ≡ cutter.chunks
-  pub place : next.target.place ≡ cutter.target.place
-  pub changes : Changes told cutter.target (with_rest (cut_to cutter end text)) old new next.target (fault_in result)
+  pub place : next.sink.place ≡ cutter.sink.place
+  pub changes : Changes told cutter.sink (with_rest (cut_to cutter end text)) old new next.sink (fault_in result)
   pub count : IfOk result (λ n. (0 < n) × (n ≤ length text) × (take n text ≡ cut_to cutter end text))
   pub at : IfOk result (λ n. next.at ≡ cutter.at + n)
   pub kept : IfErr result (λ fault. next.at ≡ cutter.at)
@@ -40,14 +39,14 @@ pub record WritesTo (told : Bool) (cutter : CutterState) (end : ℕ) (text : Lis
 
 -- a text was cut off, all of it before the end of the chunk that was begun, and is cut up like this
 pub record IsCutOff (cutter : CutterState) (size : ℕ) (x : List ℕ) (cut : CutUp) : Type 0 where
-  pub carries : Carries cutter.target cut
+  pub carries : Carries cutter.sink cut
   pub all : HasAll (course cutter) cutter.chunks.count
   pub at : cutter.at ≡ length x
   pub within : cutter.is_within ≡ is_within cutter.chunks.unit cutter.chunks.delim x
   pub fits : length x ≤ size
   pub begun : is_within cutter.chunks.unit cutter.chunks.delim x ≡ true → length x < size
-      → before_chunk cutter.chunks size (cutter.target.place + 1) x ≡ x
-  pub from : cutter.target.place ≤ ended cutter.chunks size x
+      → before_chunk cutter.chunks size (cutter.sink.place + 1) x ≡ x
+  pub from : cutter.sink.place ≤ ended cutter.chunks size x
 
 -- the chunks ended that had all that goes with them
 pub record EndsFull (told : Bool) (cutter : CutterState) (size : ℕ) (old new : List Slot) (next : CutterState)
@@ -55,10 +54,10 @@ pub record EndsFull (told : Bool) (cutter : CutterState) (size : ℕ) (old new :
   pub chunks : next.chunks ≡ cutter.chunks
   pub at : next.at ≡ cutter.at
   pub within : next.is_within ≡ cutter.is_within
-  pub stays : Stays (course cutter) cutter.target.aim next.target.aim old new fault
+  pub stays : Stays (course cutter) cutter.sink.aim next.sink.aim old new fault
   pub gives : (x : List ℕ) (cut : CutUp) → IsCutOff cutter size x cut
-      → Gives told (course cutter) cutter.target next.target cut
-      (with_fulls (ended cutter.chunks size x - cutter.target.place) cut) old new fault
+      → Gives told (course cutter) cutter.sink next.sink cut
+      (with_fulls (ended cutter.chunks size x - cutter.sink.place) cut) old new fault
 
 -- what is made of an input that says that it has this size
 abbrev pub said_work : CutterState → ℕ → Work
@@ -73,13 +72,13 @@ abbrev pub part_so : CutterState → ℕ → List ℕ → Part
 part_so cutter size x = part_on (course cutter) (chunks_within cutter.chunks size x)
 
 -- and more of it was, or a fault came meanwhile
-pub record Cuts (told : Bool) (cutter : CutterState) (size : ℕ) (bytes : List ℕ) (old new : List Slot)
+pub record CutsMore (told : Bool) (cutter : CutterState) (size : ℕ) (bytes : List ℕ) (old new : List Slot)
     (next : CutterState) (fault : Option Fault) : Type 0 where
   pub chunks : next.chunks ≡ cutter.chunks
   pub bound : next.at ≤ cutter.at + length bytes
-  pub stays : Stays (course cutter) cutter.target.aim next.target.aim old new fault
+  pub stays : Stays (course cutter) cutter.sink.aim next.sink.aim old new fault
   pub brings : (x : List ℕ) → IsCut cutter size x → length (x ++ bytes) ≤ size
-      → Brings told (course cutter) cutter.target.aim next.target.aim (part_so cutter size x)
+      → Brings told (course cutter) cutter.sink.aim next.sink.aim (part_so cutter size x)
       (part_so cutter size (x ++ bytes)) old new fault
   pub leads : (x : List ℕ) → IsCut cutter size x → length (x ++ bytes) ≤ size
       → IfNone fault (IsCut next size (x ++ bytes))
@@ -89,12 +88,12 @@ abbrev pub IsOpen : CutterState → ℕ → List ℕ → Type 0
 IsOpen cutter size x = (said_work cutter size).is_complete x ≡ false
 
 -- a stretch of the text was cut off, or a fault came
-abbrev pub Steps : Bool → CutterState → ℕ → List ℕ → List Slot → List Slot → CutterState → Result ℕ Fault → Type 0
-Steps told cutter size text old new next (Ok n) = (0 < n) × (n ≤ length text)
-    × (next.at ≡ cutter.at + n) × Cuts told cutter size (take n text) old new next None
-    × (is_past_on cutter.target ≡ false → (x : List ℕ) → IsCut cutter size x → length (x ++ text) ≤ size
+abbrev pub CutsStretch : Bool → CutterState → ℕ → List ℕ → List Slot → List Slot → CutterState → Result ℕ Fault → Type 0
+CutsStretch told cutter size text old new next (Ok n) = (0 < n) × (n ≤ length text)
+    × (next.at ≡ cutter.at + n) × CutsMore told cutter size (take n text) old new next None
+    × (is_past_on cutter.sink ≡ false → (x : List ℕ) → IsCut cutter size x → length (x ++ text) ≤ size
     → IsOpen cutter size (x ++ take (n - 1) text))
-Steps told cutter size text old new next (Err fault) = Cuts told cutter size text old new next (Some fault)
+CutsStretch told cutter size text old new next (Err fault) = CutsMore told cutter size text old new next (Some fault)
 
 -- Of what stands within the size as much was cut off as the output isn't complete without; the last `left` bytes are left.
 pub record CutsAs (told : Bool) (cutter : CutterState) (size : ℕ) (text : List ℕ) (old new : List Slot)
@@ -102,16 +101,16 @@ pub record CutsAs (told : Bool) (cutter : CutterState) (size : ℕ) (text : List
   pub few : left ≤ length text
   pub at : next.at ≡ cutter.at + (length text - left)
   pub fits : cutter.at ≤ size → cutter.at + (length text - left) ≤ size
-  pub still : is_past_on cutter.target ≡ true → left ≡ length text
-  pub cuts : Cuts told cutter size (take (length text - left) text) old new next None
+  pub still : is_past_on cutter.sink ≡ true → left ≡ length text
+  pub cuts : CutsMore told cutter size (take (length text - left) text) old new next None
   pub needed : (left ≡ length text) ⊎ ((x : List ℕ) → IsCut cutter size x
       → IsNeeded (said_work cutter size).is_complete 1 (x ++ take (length text - left) text))
-  pub enough : (left ≡ 0) ⊎ (is_past_on next.target ≡ true) ⊎ (size ≤ next.at)
+  pub enough : (left ≡ 0) ⊎ (is_past_on next.sink ≡ true) ⊎ (size ≤ next.at)
 
 abbrev pub CutsSo : Bool → CutterState → ℕ → List ℕ → List Slot → List Slot → CutterState → Result ℕ Fault → Type 0
 CutsSo told cutter size text old new next (Ok left) = CutsAs told cutter size text old new next left
 CutsSo told cutter size text old new next (Err fault) =
-    Cuts told cutter size (take (min (length text) (size - cutter.at)) text) old new next (Some fault)
+    CutsMore told cutter size (take (min (length text) (size - cutter.at)) text) old new next (Some fault)
 
 -- Where the size isn't known
 
@@ -129,9 +128,9 @@ pub record Settles (told : Bool) (cutter : CutterState) (waiting : List ℕ) (en
     (next : CutterState) (left : List ℕ) (fault : Option Fault) : Type 0 where
   pub chunks : next.chunks ≡ cutter.chunks
   pub bound : next.at + length left ≤ cutter.at + length waiting
-  pub stays : Stays (course cutter) cutter.target.aim next.target.aim old new fault
+  pub stays : Stays (course cutter) cutter.sink.aim next.sink.aim old new fault
   pub brings : (z : List ℕ) → BeginsBefore cutter end z
-      → Brings told (course cutter) cutter.target.aim next.target.aim (part_on (course cutter) (uncut z))
+      → Brings told (course cutter) cutter.sink.aim next.sink.aim (part_on (course cutter) (uncut z))
       (part_on (course cutter) (uncut (all_before cutter waiting end z))) old new fault
   pub leads : (z : List ℕ) → BeginsBefore cutter end z
       → IfNone fault (HasCut next (all_before cutter waiting end z) (uncut (all_before cutter waiting end z))
@@ -148,7 +147,7 @@ pub record EndsHeld (told : Bool) (cutter : CutterState) (waiting : List ℕ) (s
     (next : CutterState) (left : List ℕ) (fault : Option Fault) : Type 0 where
   pub chunks : next.chunks ≡ cutter.chunks
   pub bound : next.at + length left ≤ cutter.at + length waiting
-  pub stays : Stays (course cutter) cutter.target.aim next.target.aim old new fault
+  pub stays : Stays (course cutter) cutter.sink.aim next.sink.aim old new fault
   pub brings : (z : List ℕ) → IsFront cutter waiting size z
-      → Brings told (course cutter) cutter.target.aim next.target.aim (part_on (course cutter) (uncut z))
+      → Brings told (course cutter) cutter.sink.aim next.sink.aim (part_on (course cutter) (uncut z))
       (whole_on (course cutter) (chunks_within cutter.chunks size (z ++ waiting))) old new fault

@@ -1,8 +1,7 @@
 -- What private calls say: how files in order get more bytes, and how more of them are opened.
 use Rattle.std.specs.{
   Prelude.{◌≡◌, ℕ, ◌+◌, ◌-◌, ◌<◌, ◌≤◌, max, Bool, true, List, [], ◌∷◌, ◌++◌, ◌⊎◌, length, map, Result, Ok},
-  Prelude.{Err, OnOk},
-  Prelude.{IfErr, nat_lt, ◌==◌, if◌then◌else◌},
+  Prelude.{Err, OnOk, IfErr, nat_lt, ◌==◌, if◌then◌else◌},
   List.range_with_len,
 }
 use Rattle.ports_core.specs.{

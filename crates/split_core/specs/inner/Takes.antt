@@ -45,14 +45,14 @@ Extends told parts bytes old new next fault =
     Moves told parts (parts.left, parts.has_line, []) (with_bytes (parts.waiting ++ bytes)) old new next fault
 
 -- what is begun ends, and these bytes begin the next
-abbrev pub turns : List ℕ → Draft → Draft
-turns past draft = with_bytes past (with_next Late draft)
+abbrev pub begins_next : List ℕ → Draft → Draft
+begins_next past draft = with_bytes past (with_next Late draft)
 
 -- the part that was begun ended, and what waits and these bytes begin the next
-abbrev pub Turns : Bool → PartsState → List ℕ → List Slot → List Slot → PartsState → Option Fault → Type 0
-Turns told parts bytes old new next fault =
-    Moves told parts (most parts.limit - length (parts.waiting ++ bytes), false, []) (turns (parts.waiting ++ bytes))
-    old new next fault
+abbrev pub BeginsNext : Bool → PartsState → List ℕ → List Slot → List Slot → PartsState → Option Fault → Type 0
+BeginsNext told parts bytes old new next fault =
+    Moves told parts (most parts.limit - length (parts.waiting ++ bytes), false, [])
+    (begins_next (parts.waiting ++ bytes)) old new next fault
 
 -- names ran out before these bytes of the input were written: the outputs have all that has a name
 pub record LacksNames (told : Bool) (parts : PartsState) (x bytes : List ℕ) (old new : List Slot) : Type 0 where
@@ -72,10 +72,10 @@ pub record Takes (told : Bool) (parts : PartsState) (bytes : List ℕ) (old new 
       → LacksNames told parts x bytes old new)
 
 -- a stretch of the piece was taken in, or a fault came
-abbrev pub Steps : Bool → PartsState → List ℕ → List Slot → List Slot → PartsState → Result ℕ Fault → Type 0
-Steps told parts piece old new next (Ok n) = (0 < n) × (n ≤ length piece)
+abbrev pub TakesStretch : Bool → PartsState → List ℕ → List Slot → List Slot → PartsState → Result ℕ Fault → Type 0
+TakesStretch told parts piece old new next (Ok n) = (0 < n) × (n ≤ length piece)
     × Takes told parts (take n piece) old new next None
-Steps told parts piece old new next (Err fault) = Takes told parts piece old new next (Some fault)
+TakesStretch told parts piece old new next (Err fault) = Takes told parts piece old new next (Some fault)
 
 -- the input ended, and all of it is written; or a file broke meanwhile
 pub record Finishes (told : Bool) (parts : PartsState) (old new : List Slot) (next : PartsState)

@@ -40,8 +40,8 @@ begun_some Lines delim place (byte ∷ x) some has = rw (begun_first _ _ _ x som
 
 -- From where on it may still get bytes
 
-pub none_open : (delim : ℕ) (x : List ℕ) → delimiters delim x ≡ 0 → open_from Lines delim x ≡ 0
-none_open delim x none = rw none refl
+pub open_from_none : (delim : ℕ) (x : List ℕ) → delimiters delim x ≡ 0 → open_from Lines delim x ≡ 0
+open_from_none delim x none = rw none refl
 
 -- A text that goes on
 
@@ -68,9 +68,9 @@ few_before delim n place x past = elim (cases_lt (delimiters delim _) n) [
 ]
 
 -- where they are no longer, they do
-all_before : (delim place : ℕ) (x : List ℕ) → open_from Lines delim x ≤ place
+lines_before_all : (delim place : ℕ) (x : List ℕ) → open_from Lines delim x ≤ place
     → delimiters delim (take place x) ≡ delimiters delim x
-all_before delim place x within = let lines = first_lines delim (delimiters delim x) x in
+lines_before_all delim place x within = let lines = first_lines delim (delimiters delim x) x in
     omega (
       arith,
       delimiters-take-le delim place x,
@@ -109,7 +109,7 @@ begun_on Lines delim (suc place) x y past =
     let more : max (suc place - length x) 1 ≡ suc (place - length x) = omega arith in
     let n = delimiters delim (take place (x ++ y)) in let m = delimiters delim (take (place - length x) y) in
     let count : n ≡ delimiters delim x + m =
-    rw (take_over place x y, delimiters-append, all_before delim place x (omega arith)) in
+    rw (take_over place x y, delimiters-append, lines_before_all delim place x (omega arith)) in
     let left : suc n - delimiters delim x ≡ suc m = omega arith in
     cc (
       begun_is delim place (x ++ y),

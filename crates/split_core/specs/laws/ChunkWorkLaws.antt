@@ -4,8 +4,7 @@ use Rattle.std.{
     lemmas.{Grind.common_steps, Bool.cases_lt},
     lemmas.List.{append-nil, append_assoc, map-append, Elements.filter-append, FromFn.length-map-range_with_len},
     Common.{◌≡◌, ℕ, ◌+◌, ◌-◌, ◌<◌, ◌≤◌, max, zero, suc, eqb, Bool, true, false, List, [], ◌∷◌, ◌++◌, length},
-    Common.take,
-    Common.{map, get_or, Option, Some, None, inl, inr, refl, sym, arith},
+    Common.{take, map, get_or, Option, Some, None, inl, inr, refl, sym, arith},
   },
   specs.List.range_with_len,
 }

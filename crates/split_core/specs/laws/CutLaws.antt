@@ -1,8 +1,7 @@
 -- Laws that traits cite: laws of parts that follow one another: what a text that goes on is cut into.
 use Rattle.std.proofs.{
-  lemmas.{Grind.common_steps, Bool.{cases_Bool}, List.{drop-append-le}},
-  Common.{◌≡◌, ℕ, ◌≤◌, zero, suc, List, [], ◌++◌, length, true, false, refl},
-  Common.{inl, inr, arith, length-drop, rules},
+  lemmas.{Grind.common_steps, Bool.cases_Bool, List.drop-append-le},
+  Common.{◌≡◌, ℕ, ◌≤◌, zero, suc, List, [], ◌++◌, length, true, false, refl, inl, inr, arith, length-drop, rules},
 }
 use Rattle.seg_core.{specs.{declared.cut.Limit.{Limit}}}
 use Rattle.split_core.specs.{

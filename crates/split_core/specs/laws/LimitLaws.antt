@@ -1,14 +1,12 @@
--- Laws that traits cite: what each limit cuts off, and what the next bytes of a piece do to the part that was begun.
--- All other laws of parts stand on these: none of them has a case for a limit.
+-- What each limit cuts off, and what the next bytes of a piece do to the part that was begun. Laws that a trait cites go
+-- by these, and so does all else that is proved of parts: none of it has a case for a limit.
 use Rattle.std.{
   proofs.{
-    Common.{Bool, List, [], ap, append_assoc, arith, drop, false, inl, inr, length},
-    Common.{length-append, length-drop, max, ne_eqb, refl, replicate, rules, suc, sym},
-    Common.{take, true, zero, ℕ, ◌++◌, ◌+◌, ◌-◌, ◌<◌, ◌∙◌},
-    Common.{◌≡◌, ◌≤◌},
-    Math.{Seq.{take-append-add}},
+    Common.{Bool, List, [], ap, append_assoc, arith, drop, false, inl, inr, length, length-append, length-drop, max},
+    Common.{ne_eqb, refl, replicate, rules, suc, sym, take, true, zero, ℕ, ◌++◌, ◌+◌, ◌-◌, ◌<◌, ◌∙◌, ◌≡◌, ◌≤◌},
+    Math.Seq.take-append-add,
     lemmas.{
-      Bool.{cases_lt},
+      Bool.cases_lt,
       Grind.common_steps,
       List.{append-nil, append_cancel_left, drop_all, length-replicate, length-take, length-take-le},
       List.{take-append-drop, take-append-le, take-take, take_all},
@@ -20,13 +18,11 @@ use Rattle.seg_core.{
     Delimiters.{delimiters-append, delimiters-le-length},
     EndLines.after_lines-append,
     FirstLines.{delimiters-first_lines, first_lines-append, first_lines-full, first_lines-is_take, first_lines-short},
-    FirstLines.{first_lines_then_rest, length-first_lines-le},
-    FirstLines.lines_of-first_lines,
+    FirstLines.{first_lines_then_rest, length-first_lines-le, lines_of-first_lines},
   },
   specs.{
-    Cut.{most},
-    Line.{EndsAt, LastEndsAt, delimiters, first_lines},
-    Line.lines_of,
+    Cut.most,
+    Line.{EndsAt, LastEndsAt, delimiters, first_lines, lines_of},
     declared.cut.{Limit.{Limit, TheVariants.{Bytes, LineBytes, Lines}}},
   },
 }
@@ -35,9 +31,8 @@ use Rattle.ports_core.{
   specs.{Agreed.{CanCome}, Part.{IsBeginning}},
 }
 use Rattle.split_core.specs.{
-  Parts.{first_part, is_full, measure, open_line},
-  Parts.{settled_rest, waiting_rest, whole_lines},
-  PartsState.{Lacks},
+  Parts.{first_part, is_full, measure, open_line, settled_rest, waiting_rest, whole_lines},
+  PartsState.Lacks,
   inner.{Step.{IsBegun, IsTurned}},
 }
 

@@ -20,8 +20,7 @@ use Rattle.split_core.specs.{
   Parts.{is_full, first_part, after_first, cut_up, unless_empty, parts, settled_rest},
   Split.{Filing, Share, share, manner_of, are_named, output_by, settled_parts},
   inner.{CutLaws.{goes, cut_so, whole_parts, named}},
-  laws.CutLaws.{cut_on},
-  laws.CutLaws.{cut_none, cut_once, cuts_up, rest_short},
+  laws.CutLaws.{cut_on, cut_none, cut_once, cuts_up, rest_short},
 }
 use Rattle.split_core.specs.laws.{LimitLaws.{full_some, settled_some, settled_then_waiting, short_some}}
 use Rattle.split_core.specs.laws.LimitLaws.{settled_in_full, settled_in_rest}

@@ -1,7 +1,7 @@
 -- What each step of a run leaves.
 use Rattle.std.specs.{
-  Prelude.{◌≡◌, ℕ, ◌<◌, zero, suc, Bool, true, false, List, [], ◌∷◌, ◌++◌, length, map, take, Option, Some, None, ◌⊎◌},
-  Prelude.if◌then◌else◌,
+  Prelude.{◌≡◌, ℕ, ◌<◌, zero, suc, Bool, true, false, List, [], ◌∷◌, ◌++◌, length, map, take, Option, Some, None},
+  Prelude.{◌⊎◌, if◌then◌else◌},
   List.concat,
 }
 use Rattle.ports_core.specs.{

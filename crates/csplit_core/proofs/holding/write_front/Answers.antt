@@ -1,8 +1,6 @@
 use Rattle.ports_core.proofs.{HandedOn.handed_on, FileWriterLemmas.can_count, WriterSteps.goes_as}
 use Rattle.std.proofs.{Common.{arith}, lemmas.Grind.common_steps}
-use Rattle.csplit_core.proofs.{
-  CutterLemmas.{all_held, empties, empties_short},
-}
+use Rattle.csplit_core.proofs.{CutterLemmas.{all_held, empties, empties_short}}
 use Rattle.csplit_core.proofs.holding.write_front.Goals as goal
 
 pub loop-left-init : goal.loop-left-init

@@ -3,8 +3,7 @@ use Rattle.std.proofs.{
   lemmas.{List.{take_all, length-drop}, Grind.common_steps, Bool.and_parts},
 }
 use Rattle.follow_core.proofs.{
-  CallGivesLemmas.{copied_more, copied_none, copies_all, copies_part, copies_short},
-  CallGivesLemmas.{held_many, some_read},
+  CallGivesLemmas.{copied_more, copied_none, copies_all, copies_part, copies_short, held_many, some_read},
 }
 use Rattle.watch_core.specs.{Snapshot.latest, Watched.watched_at}
 use Rattle.follow_core.proofs.visitor.copy.Goals as goal

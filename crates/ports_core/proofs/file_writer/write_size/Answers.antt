@@ -14,8 +14,9 @@ returns g c =
 pub returns-in_err-write_whole : goal.returns-in_err-write_whole
 returns-in_err-write_whole g c = stop_is (Wrote _ _ _ _ _) _ _ (of_write _ _ _ c.from_residual.ensures.1 c.in_err-write_whole.ensures.slot)
     (broke c.in_err-write_whole.field-0.0.written
-    (subst (λ line. BrokeAfter g.O.Outs.told (g.O.Outs.slots c.args.outs.now) (g.O.Outs.slots c.write_whole.new.outs) 0 line c.in_err-write_whole.field-0.0.written)
-    (line_is c.args.size 21 c.copy_from_slice.new.self c.copy_from_slice.ensures.after
+    (subst (λ line. BrokeAfter g.O.Outs.told (g.O.Outs.slots c.args.outs.now)
+    (g.O.Outs.slots c.write_whole.new.outs) 0 line c.in_err-write_whole.field-0.0.written)
+    (line_is _ 21 _ c.copy_from_slice.ensures.after
     (c.as_bytes-digits.ensures.value ∙ c.format.ensures.text) (let fits = c.format.ensures.fits in omega arith))
     c.in_err-write_whole.ensures.cut))
 

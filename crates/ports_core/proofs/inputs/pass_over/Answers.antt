@@ -11,4 +11,5 @@ returns-then-unwrap_or-count-clause-passes g c = rw c.shown.ensures.same (passes
 pub returns-clause-passes : goal.returns-clause-passes
 returns-clause-passes g c =
     let few : c.args.count < 2 ^ 63 = omega arith in
-    rw (← c.shown.ensures.same) (passes_if _ c.skip.result (rw c.shown.ensures.same c.requires.input) c.skip.ensures.there few c.skip.ensures.rest c.skip.ensures.unchanged)
+    rw (← c.shown.ensures.same) (passes_if _ _
+    (rw c.shown.ensures.same c.requires.input) c.skip.ensures.there few c.skip.ensures.rest c.skip.ensures.unchanged)

@@ -7,8 +7,8 @@ loop-place-init g c = none_swept c.requires
 
 pub loop-place-preserved-then-is_ok : goal.loop-place-preserved-then-is_ok
 loop-place-preserved-then-is_ok g c =
-    sweep_on c.remove.result c.loop-place.invariant (omega arith) refl (sym c.is_ok.ensures.value ∙ c.if-is_ok.true) c.remove.ensures.ok
+    sweep_on _ c.loop-place.invariant (omega arith) refl (sym c.is_ok.ensures.value ∙ c.if-is_ok.true) c.remove.ensures.ok
 
 pub loop-place-preserved : goal.loop-place-preserved
 loop-place-preserved g c =
-    sweep_past c.remove.result c.loop-place.invariant (omega arith) refl (sym c.is_ok.ensures.value ∙ c.if-is_ok.false) c.remove.ensures.err
+    sweep_past _ c.loop-place.invariant (omega arith) refl (sym c.is_ok.ensures.value ∙ c.if-is_ok.false) c.remove.ensures.err

@@ -13,9 +13,9 @@ use Rattle.ports_core.{
 }
 use Rattle.run_core.{
   specs.Feeding.{IsUnread, enough, is_stop, to_end, broke_off},
-  proofs.FeedingLemmas.{OfVerdict, of_more, of_read, read_to_used, told_by_complete, alike_after, alike_itself, judges},
-  proofs.FeedingLemmas.{goes_on, stopped_feeding, ended, needed_more, piece_within, ends_sound, needed_within},
-  proofs.FeedingLemmas.{read_used, takes_more, uses_all, uses_judged, uses_part, needed_front},
+  proofs.FeedingLemmas.{OfVerdict, of_more, of_read, read_to_used, told_by_complete, alike_after, alike_itself},
+  proofs.FeedingLemmas.{judges, goes_on, stopped_feeding, ended, needed_more, piece_within, ends_sound},
+  proofs.FeedingLemmas.{needed_within, read_used, takes_more, uses_all, uses_judged, uses_part, needed_front},
 }
 use Rattle.run_core.proofs.feeding.feed_input.Goals as goal
 
@@ -31,7 +31,7 @@ pieces-init g c =
         same = took.same;
         holds = record { live = c.load.ensures.live; count = c.load.ensures.fed ∙ loads.long; within = took.holds };
         owns = λ first own. took.owns first _ own;
-        outputs = λ before own at. rw took.same (rw took.idle at);
+        outputs = λ before begun. rw took.same (rw took.idle begun.1);
         bound = omega arith;
       };
       readable = rw (passed, c.requires.input);
@@ -59,15 +59,15 @@ pieces-init g c =
 pub returns-in-Err : goal.returns-in-Err
 returns-in-Err g c =
     let so_far = c.pieces.invariant in
-    let going : (g.S.Stage.terms.work c.pieces.engine.stage).is_complete so_far.fed ≡ false = sym
-    (c.done.ensures.complete so_far.fed so_far.feeds.holds) ∙ c.pieces-test.true in record {
+    let work = g.S.Stage.terms.work c.pieces.engine.stage in
+    let going = sym (c.done.ensures.complete so_far.fed so_far.feeds.holds) ∙ c.pieces-test.true in record {
       ends = λ before opening own at.
           of_read g.I.Inputs.told _ so_far.fed true _ _ (λ told. read_broken _ _ _ _ (so_far.read told) (c.in-Err.ensures.break_off told))
           (λ content. came_broken g.I.Inputs.told _ _ _ _ so_far.readable c.in-Err.ensures.err)
           (λ content is bytes breaks came. (
             rw (← so_far.feeds.same)
-                (broke_off breaks (ap (g.S.Stage.terms.work c.pieces.engine.stage).is_complete bytes ∙ going)
-                (g.O.Outs.slots c.pieces.outs) (rw bytes (so_far.feeds.outputs before own at))
+                (broke_off breaks (ap work.is_complete bytes ∙ going)
+                (g.O.Outs.slots c.pieces.outs) (rw bytes (so_far.feeds.outputs before (own, at)))
                 (c.abandon.ensures.sweeps.swept (length before) (so_far.feeds.owns (length before) own))),
             λ ends sound going. absurd (false≢true (sym sound ∙ breaks)),
           ));
@@ -77,7 +77,7 @@ returns-in-Err g c =
           let failed = c.in-Err.ensures.err in
           uses_all (read_failed _ _ _ _ _ _ (so_far.read told) so_far.readable failed)
           (ap (λ (source : Source). source.left.bytes) (changed_source _ _ _ _ so_far.readable failed.1) ∙ (c.in-Err.ensures.break_off told).no_more)
-          so_far.needed (ap (λ (work : Work). work.is_complete so_far.fed) (sym so_far.feeds.same) ∙ going)
+          so_far.needed (ap (λ (those : Work). those.is_complete so_far.fed) (sym so_far.feeds.same) ∙ going)
           (rw (ap (λ (source : Source). source.reached) (changed_source _ _ _ _ so_far.readable failed.1)) ((so_far.took told).far unread));
       asked = λ within. asked_at_end _ _ _ _ _ so_far.readable c.in-Err.ensures.err (omega arith) (so_far.asked within);
       broke = λ is. broken_now _ _ _ _ so_far.readable c.in-Err.ensures.err;
@@ -89,9 +89,11 @@ returns-in-Err g c =
 pub returns-then-n-eq0 : goal.returns-then-n-eq0
 returns-then-n-eq0 g c =
     let so_far = c.pieces.invariant in
-    let going : (g.S.Stage.terms.work c.pieces.engine.stage).is_complete so_far.fed ≡ false = sym
-    (c.done.ensures.complete so_far.fed so_far.feeds.holds) ∙ c.pieces-test.true in
-    let nothing : take c.in-Ok.n c.read_part.new.buffer ≡ [] = ap (λ k. take k c.read_part.new.buffer) c.if-n-eq0.true in
+    let going = sym (c.done.ensures.complete so_far.fed so_far.feeds.holds) ∙ c.pieces-test.true in
+    let can = still_readable _ _ _ _ c.in-Ok.n c.in-Ok.ensures.rest so_far.readable in
+    let left = λ (told : g.I.Inputs.told ≡ true).
+    read_none_more _ _ _ _ _ _ c.in-Ok.n (so_far.read told) so_far.readable c.if-n-eq0.true c.in-Ok.ensures.rest in
+    let nothing = ap (λ k. take k c.read_part.new.buffer) c.if-n-eq0.true in
     let at_end = ended_now _ _ c.in-Ok.n _ _ so_far.readable c.in-Ok.ensures.rest c.if-n-eq0.true c.piece_size-size.ensures.some in
     let far : g.I.Inputs.told ≡ true → IsUnread (source_at (g.I.Inputs.sources c.args.inputs.now) c.args.slot) →
     (source_at (g.I.Inputs.sources c.read_part.new.inputs) c.args.slot).reached ≤ length so_far.fed
@@ -101,16 +103,16 @@ returns-then-n-eq0 g c =
           of_read g.I.Inputs.told _ so_far.fed false _ _
           (λ told. let at_end = (c.in-Ok.ensures.bytes told).ended c.if-n-eq0.true (omega arith) in let all =
           read_to_end _ _ _ _ (so_far.read told) at_end.0 at_end.1 in (all.1, all.0))
-          (λ content. came_sound g.I.Inputs.told _ c.args.slot (still_readable _ _ _ _ c.in-Ok.n c.in-Ok.ensures.rest so_far.readable))
+          (λ content. came_sound g.I.Inputs.told _ c.args.slot can)
           (λ content is bytes sound came. (
-            ended _ g.met.S.Stage.lawful _ _ so_far.feeds own at (sound, going, bytes) (to_end sound bytes) (alike_itself)
+            ended so_far.feeds g.met.S.Stage.lawful _ (own, at) (sound, going, bytes) (to_end sound bytes) (alike_itself)
                 (rw so_far.feeds.same so_far.needed) (
                   record {
                     came = came;
                     sound = sound_at (g.I.Inputs.sources c.read_part.new.inputs) c.args.slot
-                        (still_readable _ _ _ _ c.in-Ok.n c.in-Ok.ensures.rest so_far.readable);
+                        can;
                     ended = λ _. at_end;
-                    joined = λ told. is told ∙ read_none_more _ _ _ _ _ _ c.in-Ok.n (so_far.read told) so_far.readable c.if-n-eq0.true c.in-Ok.ensures.rest;
+                    joined = λ told. is told ∙ left told;
                   },
                   λ told unread standard. rw going (omega (arith, far told unread)),
                 )
@@ -118,17 +120,12 @@ returns-then-n-eq0 g c =
             λ ends sound going. at_end,
           ));
       others = keeps_again _ _ _ _ so_far.others (keeps_others _ _ _ _ c.in-Ok.ensures.rest);
-      reads = λ told. (
-        so_far.fed,
-        so_far.needed,
-        read_none_more _ _ _ _ _ _ c.in-Ok.n
-            (so_far.read told) so_far.readable c.if-n-eq0.true c.in-Ok.ensures.rest,
-      );
+      reads = λ told. (so_far.fed, so_far.needed, left told);
       used = λ told ends unread.
           let gave = c.in-Ok.ensures.bytes told in
           let none = (gave.ended c.if-n-eq0.true (omega arith)).0 in
           let after = changed_source _ _ _ _ so_far.readable c.in-Ok.ensures.rest in
-          uses_all (read_none_more _ _ _ _ _ _ c.in-Ok.n (so_far.read told) so_far.readable c.if-n-eq0.true c.in-Ok.ensures.rest)
+          uses_all (left told)
           (ap (λ (source : Source). source.left.bytes) after ∙ ap (drop c.in-Ok.n) none ∙ ap (λ k. drop k []) c.if-n-eq0.true)
           so_far.needed (ap (λ (work : Work). work.is_complete so_far.fed) (sym so_far.feeds.same) ∙ going)
           (far told unread);
@@ -141,27 +138,27 @@ returns-then-n-eq0 g c =
 
 pub pieces-preserved : goal.pieces-preserved
 pieces-preserved g c =
-    let so_far = c.pieces.invariant in record {
+    let so_far = c.pieces.invariant in
+    let going = sym (c.done.ensures.complete so_far.fed so_far.feeds.holds) ∙ c.pieces-test.true in
+    let from_start = ap (λ (work : Work). work.is_complete so_far.fed) (sym so_far.feeds.same) ∙ going in record {
       fed = so_far.fed ++ take c.in-Ok.n c.read_part.new.buffer;
-      feeds = goes_on _ _ (take c.in-Ok.n c.read_part.new.buffer) so_far.feeds c.in-Ok-feed.ensures.passes c.in-Ok-feed.ensures.holds c.in-Ok-feed.ensures.bound;
+      feeds = goes_on so_far.feeds (take c.in-Ok.n c.read_part.new.buffer) c.in-Ok-feed.ensures.passes c.in-Ok-feed.ensures.holds c.in-Ok-feed.ensures.bound;
       readable = still_readable _ _ _ _ c.in-Ok.n c.in-Ok.ensures.rest so_far.readable;
       others = keeps_again _ _ _ _ so_far.others (keeps_others _ _ _ _ c.in-Ok.ensures.rest);
       read = λ told. read_more _ _ _ _ _ _ _ _ _ (so_far.read told) so_far.readable (c.in-Ok.ensures.bytes told) c.in-Ok.ensures.rest;
       took = λ told. takes_more _ (so_far.took told) so_far.readable (c.in-Ok.ensures.bytes told) c.in-Ok.ensures.rest;
       last = λ told. needed_more so_far.fed c.read_part.new.buffer
-          (ap (λ (work : Work). work.is_complete so_far.fed) (sym so_far.feeds.same)
-          ∙ sym (c.done.ensures.complete so_far.fed so_far.feeds.holds) ∙ c.pieces-test.true)
+          from_start
           (omega (arith, ap (λ (source : Source). source.last) (changed_source _ _ _ _ so_far.readable c.in-Ok.ensures.rest), length-take-le c.in-Ok.n _ (c.in-Ok.ensures.bytes told).within));
       few = λ standard n spare. rw (← so_far.feeds.same)
           (c.wanted.ensures.few so_far.fed (take c.in-Ok.n c.read_part.new.buffer) c.feed.new.self.stage n so_far.feeds.holds.within
-          (sym (c.done.ensures.complete so_far.fed so_far.feeds.holds) ∙ c.pieces-test.true)
+          going
           (omega (arith, piece_within c.read_part.new.buffer c.in-Ok.ensures.bound, c.piece_size-size.ensures.few standard))
           c.in-Ok-feed.ensures.passes.same (c.in-Ok-feed.ensures.holds so_far.fed so_far.feeds.holds).within
           (rw so_far.feeds.same spare));
       room = c.read_part.ensures.room ∙ so_far.room;
       needed = needed_more so_far.fed c.read_part.new.buffer
-          (ap (λ (work : Work). work.is_complete so_far.fed) (sym so_far.feeds.same)
-          ∙ sym (c.done.ensures.complete so_far.fed so_far.feeds.holds) ∙ c.pieces-test.true)
+          from_start
           (omega (arith, c.in-Ok.ensures.bound, c.piece_size-size.ensures.within, c.pieces.invariant.room));
       asked = λ within. asked_again _ _ _ _ _ _ so_far.readable c.in-Ok.ensures.rest (omega arith) (so_far.asked within);
       laid = c.read_part.ensures.kept ∙ so_far.laid;
@@ -173,35 +170,37 @@ pieces-preserved g c =
 pub returns-in-Err-feed : goal.returns-in-Err-feed
 returns-in-Err-feed g c =
     let so_far = c.pieces.invariant in
-    let going : (g.S.Stage.terms.work c.pieces.engine.stage).is_complete so_far.fed ≡ false = sym
-    (c.done.ensures.complete so_far.fed so_far.feeds.holds) ∙ c.pieces-test.true in
+    let work = g.S.Stage.terms.work c.pieces.engine.stage in
+    let going = sym (c.done.ensures.complete so_far.fed so_far.feeds.holds) ∙ c.pieces-test.true in
+    let needed = needed_more so_far.fed c.read_part.new.buffer going
+    (omega (arith, c.in-Ok.ensures.bound, c.piece_size-size.ensures.within, so_far.room)) in
+    let can = still_readable _ _ _ _ c.in-Ok.n c.in-Ok.ensures.rest so_far.readable in
+    let more = λ (told : g.I.Inputs.told ≡ true).
+    (read_more _ _ _ _ _ _ _ _ _ (so_far.read told) so_far.readable (c.in-Ok.ensures.bytes told) c.in-Ok.ensures.rest).bytes in
+    let far = λ (told : g.I.Inputs.told ≡ true).
+    (takes_more _ (so_far.took told) so_far.readable (c.in-Ok.ensures.bytes told) c.in-Ok.ensures.rest).far in
     let settles : is_stop (Err c.given_up.result) ≡ false → OfVerdict c.in-Err-feed.fault
-    (IsSettled (g.S.Stage.terms.work c.pieces.engine.stage) (so_far.fed ++ take c.in-Ok.n c.read_part.new.buffer))
-    = λ ends. let (verdict, is, settled) = judges (g.S.Stage.terms.work c.pieces.engine.stage).means _
+    (IsSettled work (so_far.fed ++ take c.in-Ok.n c.read_part.new.buffer))
+    = λ ends. let (verdict, is, settled) = judges work.means _
     (EndsWith g.S.Stage.terms (take c.in-Ok.n c.read_part.new.buffer) c.pieces.engine.stage)
     (ap is_verdict (sym c.given_up.ensures.same) ∙ not-false (is_verdict c.given_up.result) ends) c.in-Err-feed.ensures.passes.met in
     (verdict, is, settled so_far.fed so_far.feeds.holds.within) in record {
       ends = λ before opening own at.
           let within : length (take c.in-Ok.n c.read_part.new.buffer) ≤ length c.args.buffer.now = piece_within c.read_part.new.buffer
           (omega (arith, c.in-Ok.ensures.bound, c.piece_size-size.ensures.within, so_far.room)) in
-          let more = λ (told : g.I.Inputs.told ≡ true).
-          (read_more _ _ _ _ _ _ _ _ _ (so_far.read told) so_far.readable (c.in-Ok.ensures.bytes told) c.in-Ok.ensures.rest).bytes in
           of_more g.I.Inputs.told _ (so_far.fed ++ take c.in-Ok.n c.read_part.new.buffer) _ _ _ more
-          (λ content. came_sound g.I.Inputs.told _ c.args.slot (still_readable _ _ _ _ c.in-Ok.n c.in-Ok.ensures.rest so_far.readable))
+          (λ content. came_sound g.I.Inputs.told _ c.args.slot can)
           (λ content is rest bytes came. (
-            rw c.given_up.ensures.same (stopped_feeding _ g.met.S.Stage.lawful _ c.feed.new.self _
-                (take c.in-Ok.n c.read_part.new.buffer) rest so_far.feeds own at bytes within going (
+            rw c.given_up.ensures.same (stopped_feeding so_far.feeds g.met.S.Stage.lawful c.feed.new.self _
+                (take c.in-Ok.n c.read_part.new.buffer) rest (own, at) bytes within going (
                   record {
                     came = came;
                     sound = sound_at (g.I.Inputs.sources c.read_part.new.inputs) c.args.slot
-                        (still_readable _ _ _ _ c.in-Ok.n c.in-Ok.ensures.rest so_far.readable);
+                        can;
                     ended = λ ends. absurd (cc);
                     joined = λ told. is told ∙ more told;
                   },
-                  λ told unread standard. omega (
-                    arith,
-                    (takes_more _ (so_far.took told) so_far.readable (c.in-Ok.ensures.bytes told) c.in-Ok.ensures.rest).far unread,
-                  ),
+                  λ told unread standard. omega (arith, far told unread),
                 )
                 c.in-Err-feed.ensures.passes c.given_up.ensures.judged c.given_up.ensures.swept),
             λ ends. rw (← so_far.feeds.same) (told_by_complete content (source_at (g.I.Inputs.sources c.read_part.new.inputs) c.args.slot) rest
@@ -210,17 +209,15 @@ returns-in-Err-feed g c =
       others = keeps_again _ _ _ _ so_far.others (keeps_others _ _ _ _ c.in-Ok.ensures.rest);
       reads = λ told. (
         so_far.fed ++ take c.in-Ok.n c.read_part.new.buffer,
-        needed_more so_far.fed c.read_part.new.buffer (ap (λ (work : Work). work.is_complete so_far.fed) (sym so_far.feeds.same) ∙ going)
-            (omega (arith, c.in-Ok.ensures.bound, c.piece_size-size.ensures.within, so_far.room)),
-        (read_more _ _ _ _ _ _ _ _ _ (so_far.read told) so_far.readable (c.in-Ok.ensures.bytes told) c.in-Ok.ensures.rest).bytes,
+        rw (← so_far.feeds.same) needed,
+        more told,
       );
       used = λ told ends unread.
-          let gave = c.in-Ok.ensures.bytes told in
           rw (← so_far.feeds.same)
           (uses_judged
-          (read_more _ _ _ _ _ _ _ _ _ (so_far.read told) so_far.readable gave c.in-Ok.ensures.rest).bytes
-          (needed_more so_far.fed c.read_part.new.buffer going (omega (arith, c.in-Ok.ensures.bound, c.piece_size-size.ensures.within, so_far.room)))
-          (settles ends).2 ((takes_more _ (so_far.took told) so_far.readable gave c.in-Ok.ensures.rest).far unread));
+          (more told)
+          needed
+          (settles ends).2 (far told unread));
       asked = λ within. asked_again _ _ _ _ _ _ so_far.readable c.in-Ok.ensures.rest (omega arith) (so_far.asked within);
       broke = tt;
       laid = c.read_part.ensures.kept ∙ so_far.laid;
@@ -237,10 +234,10 @@ give_back-requires-clause-within g c told =
 pub returns : goal.returns
 returns g c =
     let so_far = c.pieces.invariant in
-    let done : (g.S.Stage.terms.work c.pieces.engine.stage).is_complete so_far.fed ≡ true = sym
-    (c.done.ensures.complete so_far.fed so_far.feeds.holds) ∙ c.pieces-test.false in
+    let work = g.S.Stage.terms.work c.pieces.engine.stage in
+    let done = sym (c.done.ensures.complete so_far.fed so_far.feeds.holds) ∙ c.pieces-test.false in
     let spare = c.unused-unused.ensures so_far.fed so_far.feeds.holds in
-    let few : c.args.slot ≡ 0 → c.unused-unused.result ≤ (g.S.Stage.terms.work c.pieces.engine.stage).ahead = λ standard. rw so_far.feeds.same
+    let few : c.args.slot ≡ 0 → c.unused-unused.result ≤ work.ahead = λ standard. rw so_far.feeds.same
     (so_far.few standard _ (rw so_far.feeds.same at spare)) in
     let back = c.give_back.ensures.rest in record {
       broke = ends_sound _ _ _ (inr refl) c.end-2.ensures;
@@ -251,7 +248,7 @@ returns g c =
           of_more g.I.Inputs.told _ so_far.fed _ _ _ (λ told. (so_far.read told).bytes)
           (λ content. came_sound g.I.Inputs.told (g.I.Inputs.sources c.give_back.new.self) c.args.slot readable)
           (λ content is rest bytes came. (
-            ended _ g.met.S.Stage.lawful _ _ so_far.feeds own at (done, (rest, bytes))
+            ended so_far.feeds g.met.S.Stage.lawful _ (own, at) (done, (rest, bytes))
                 (enough (spare.rest ++ rest) (bytes ∙ ap (λ those. those ++ rest) spare.joined ∙ append_assoc spare.used spare.rest rest) used)
                 (alike_after spare.rest (g.met.S.Stage.lawful _ _ so_far.feeds.holds.within) used spare.joined)
                 (needed_within c.requires.room spare.needed) (

@@ -2,8 +2,8 @@ use Rattle.std.proofs.Common.{ap, Err, inl, inr, refl, rules}
 use Rattle.ports_core.proofs.HandedOn.{handed_on}
 use Rattle.run_core.{
   specs.Feeding.is_stop,
-  proofs.InputLemmas.{of_source_too, shows_something, from_source, part_two, headed, headed_count, stopped_in_header},
-  proofs.InputLemmas.{took_well, took_broken, took_verdict, took_stopped, fed_open, unread_source},
+  proofs.InputLemmas.{of_source_too, shows_something, from_source, headed, stopped_in_header, took_well, took_broken},
+  proofs.InputLemmas.{took_verdict, took_stopped, fed_open, unread_source},
 }
 use Rattle.run_core.proofs.inputs.take_input.Goals as goal
 
@@ -27,12 +27,12 @@ say-requires g c =
 pub returns-in-Ok-Whole-clause-took : goal.returns-in-Ok-Whole-clause-took
 returns-in-Ok-Whole-clause-took g c so_far error opened at =
     let (shown, says, fed) = c.in-Ok-Whole.ensures.fed in
-    (shown, says, of_source_too _ _ _ _ _ _ (λ content fed done. took_well _ _ _ _ _ _ _ _ so_far error _ _ _ _ _ (headed_count g.O.Outs.told _ _ c.in_ok-put_header.ensures.ok) (part_two at) (headed _ at c.in_ok-put_header.ensures.ok) (done refl) (inl c.in-Ok-Whole.field-0-is) fed) fed)
+    (shown, says, of_source_too _ _ _ _ _ _ (λ content fed done. took_well _ _ _ _ _ _ _ _ so_far error _ _ _ _ _ at c.in_ok-put_header.ensures.ok (done refl) (inl c.in-Ok-Whole.field-0-is) fed) fed)
 
 pub returns-in-Ok-Enough-clause-took : goal.returns-in-Ok-Enough-clause-took
 returns-in-Ok-Enough-clause-took g c so_far error opened at =
     let (shown, says, fed) = c.in-Ok-Enough.ensures.fed in
-    (shown, says, of_source_too _ _ _ _ _ _ (λ content fed done. took_well _ _ _ _ _ _ _ _ so_far error _ _ _ _ _ (headed_count g.O.Outs.told _ _ c.in_ok-put_header.ensures.ok) (part_two at) (headed _ at c.in_ok-put_header.ensures.ok) (done refl) (inr c.in-Ok-Enough.field-0-is) fed) fed)
+    (shown, says, of_source_too _ _ _ _ _ _ (λ content fed done. took_well _ _ _ _ _ _ _ _ so_far error _ _ _ _ _ at c.in_ok-put_header.ensures.ok (done refl) (inr c.in-Ok-Enough.field-0-is) fed) fed)
 
 pub returns-in-Ok-Broken-clause-took : goal.returns-in-Ok-Broken-clause-took
 returns-in-Ok-Broken-clause-took g c so_far error opened at =
@@ -41,7 +41,7 @@ returns-in-Ok-Broken-clause-took g c so_far error opened at =
       shown,
       says,
       of_source_too _ _ _ _ _ _ (λ content fed done. took_broken _ _ _ _ _ _ _ _ so_far error _ _ _ _ _
-          (headed_count g.O.Outs.told _ _ ok) (part_two at) (headed _ at ok) (done refl) c.in-Ok-Broken.field-0-is fed
+          at ok (done refl) c.in-Ok-Broken.field-0-is fed
           c.say_why.ensures) fed,
     )
 
@@ -50,7 +50,7 @@ returns-in_default g c = record {
   took = λ so_far error opened at. let (shown, says, fed) = c.in-Err.ensures.fed in (
     shown,
     says,
-    of_source_too _ _ _ _ _ _ (λ content fed done. took_stopped _ _ _ _ _ _ _ _ so_far error _ _ _ _ _ (headed_count g.O.Outs.told _ _ c.in_ok-put_header.ensures.ok) (part_two at) (headed _ at c.in_ok-put_header.ensures.ok) c.in_default.not-Verdict fed) fed,
+    of_source_too _ _ _ _ _ _ (λ content fed done. took_stopped _ _ _ _ _ _ _ _ so_far error _ _ _ _ _ at c.in_ok-put_header.ensures.ok c.in_default.not-Verdict fed) fed,
   );
   asked = c.in-Err.ensures.asked;
   others = c.in-Err.ensures.others;
@@ -60,4 +60,4 @@ returns-in_default g c = record {
 pub returns-in-Verdict-clause-took : goal.returns-in-Verdict-clause-took
 returns-in-Verdict-clause-took g c so_far error opened at =
     let (shown, says, fed) = c.in-Err.ensures.fed in
-    (shown, says, of_source_too _ _ _ _ _ _ (λ content fed done. took_verdict _ _ _ _ _ _ _ _ so_far error _ _ _ _ _ (headed_count g.O.Outs.told _ _ c.in_ok-put_header.ensures.ok) (part_two at) (headed _ at c.in_ok-put_header.ensures.ok) (done (ap (λ fault. is_stop (Err fault)) c.in-Verdict.is)) (rw c.in-Verdict.is at fed) (rw (c.speaker.ensures, c.subject-subject.ensures) at c.say.ensures)) fed)
+    (shown, says, of_source_too _ _ _ _ _ _ (λ content fed done. took_verdict _ _ _ _ _ _ _ _ so_far error _ _ _ _ _ at c.in_ok-put_header.ensures.ok (done (ap (λ fault. is_stop (Err fault)) c.in-Verdict.is)) (rw c.in-Verdict.is at fed) (rw (c.speaker.ensures, c.subject-subject.ensures) at c.say.ensures)) fed)

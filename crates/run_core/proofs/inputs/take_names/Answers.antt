@@ -15,7 +15,7 @@ take_name-requires-clause-outputs g c = search (rules, walk_streams, length-map)
 pub loop-left-preserved : goal.loop-left-preserved
 loop-left-preserved g c =
     let walked = walked_at _ _ c.loop-left.left.now c.in-len1-up.len_at_least c.loop-left.invariant.walked in
-    let takes = c.in_ok-progress.ensures.took walked.made.part walked.error (walked_error _ walked) (slots_at (omega arith) walked) in record {
+    let takes = c.in_ok-progress.ensures.took walked.made.part walked.error (walked_error walked) (slots_at walked (omega arith)) in record {
       walked = walk_goes_on walked (rw c.loop-left.invariant.room at c.take_name.ensures.takes) c.in_ok-progress.ensures.opens c.in_ok-progress.ensures.laid (rw c.loop-left.invariant.room at takes);
       untouched = untouched_on _ c.loop-left.left.now _ c.in-len1-up.len_at_least c.loop-left.invariant.untouched c.take_name.ensures.takes.unasked;
       room = c.take_name.auto.buffer ∙ c.loop-left.invariant.room;
@@ -24,9 +24,9 @@ loop-left-preserved g c =
 pub returns-in_err-progress : goal.returns-in_err-progress
 returns-in_err-progress g c =
     let walked = walked_at _ _ c.loop-left.left.now c.in-len1-up.len_at_least c.loop-left.invariant.walked in
-    let takes = c.in_err-progress.ensures.took walked.made.part walked.error (walked_error _ walked) (slots_at (omega arith) walked) in
+    let takes = c.in_err-progress.ensures.took walked.made.part walked.error (walked_error walked) (slots_at walked (omega arith)) in
     let leaves = rw c.loop-left.invariant.room at c.take_name.ensures.takes in record {
-      took = rw (handed_on _ _ c.from_residual.ensures.1) (walk_stops _ c.in_err-progress.field-0.0 walked leaves (rw c.loop-left.invariant.room at takes));
+      took = rw (handed_on _ _ c.from_residual.ensures.1) (walk_stops walked leaves c.in_err-progress.field-0.0 (rw c.loop-left.invariant.room at takes));
       opened = grind (arith, common_steps, count_more);
       asked = leaves.asked walked.asked;
       untouched = (untouched_on _ c.loop-left.left.now (g.I.Inputs.sources c.take_name.new.inputs) c.in-len1-up.len_at_least c.loop-left.invariant.untouched c.take_name.ensures.takes.unasked).same;
@@ -34,7 +34,7 @@ returns-in_err-progress g c =
 
 pub returns : goal.returns
 returns g c = record {
-  took = walk_ends (none_left c.loop-left.left.now c.in_default.len_below) c.loop-left.invariant.walked;
+  took = walk_ends c.loop-left.invariant.walked (none_left c.loop-left.left.now c.in_default.len_below);
   opened = let none = none_left c.loop-left.left.now c.in_default.len_below in let walked = c.loop-left.invariant.walked in grind (arith, common_steps);
   asked = c.loop-left.invariant.walked.asked;
   untouched = c.loop-left.invariant.untouched.same;

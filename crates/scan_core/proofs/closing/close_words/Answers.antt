@@ -14,8 +14,8 @@ loop-at-preserved c =
     let at = c.loop-at.at in
     let now = c.loop-at.words in
     let fits : get_or now at 0 < 2 ^ 64 = search rules in
-    let inside : at < width c.args.nodes.now = (let s = c.requires.size in let t = c.loop-at-test.true in omega arith) in
-    let leads = c.index.ensures ∙ get_or_default _ at _ 0 (let s = c.requires.closures.leads.size in omega arith) in
+    let inside : at < width c.args.nodes.now = omega (arith, c.requires.size, c.loop-at-test.true) in
+    let leads = c.index.ensures ∙ get_or_default _ at _ 0 (omega (arith, c.requires.closures.leads.size)) in
     elim c.if-word-index-ne0.branch [
       | then-word-index-ne0 w ↦
           rw (← w.words-is) at (apart_more c.loop-at.invariant c.requires.closures c.requires.begun inside

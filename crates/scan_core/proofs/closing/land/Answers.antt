@@ -1,7 +1,7 @@
 use Rattle.std.proofs.Common.{rules, ◌<◌, ◌^◌, get_or, refl, ◌∙◌, arith}
 use Rattle.scan_core.{
   specs.inner.Hops.no_hop,
-  proofs.Closings.{landing_more, landing_ends, led_is, not_zero, is_not_zero},
+  proofs.Closings.{landing_more, landing_ends, led_is},
 }
 use Rattle.scan_core.proofs.closing.land.Goals as goal
 
@@ -12,7 +12,7 @@ loop-place-preserved c =
     let s = c.loop-place.invariant in
     let fits : get_or c.loop-place.words (get_or c.args.landings.now c.loop-place.place no_hop).at 0 < 2 ^ 64 = search rules in
     let high : get_or c.loop-place.words (get_or c.args.landings.now c.loop-place.place no_hop).word 0 < 2 ^ 64 = search rules in
-    landing_more s is (led_is is.leads (s.adds.size ∙ c.requires.size) fits high (not_zero) is_not_zero refl) refl
+    landing_more s is (led_is is.leads (s.adds.size ∙ c.requires.size) fits high refl refl) refl
 
 pub returns : goal.returns
 returns c = landing_ends c.loop-place.invariant c.requires.landings (omega arith)

@@ -1,22 +1,15 @@
-use Rattle.std.{
-  proofs.{Common.{◌<◌, ◌^◌, arith, rules, w64, bit_and}, lemmas.Nat.{and_le_l, Bits.bit_at-trailing_zeros}},
-  specs.Int.bit_not,
-}
-use Rattle.scan_core.proofs.Insides.{inside_ends, inside_more, inside_smaller}
+use Rattle.std.{proofs.Common.{arith, rules, w64}, specs.Int.bit_not}
+use Rattle.scan_core.proofs.Insides.{inside_ends, inside_more, inside_smaller, lowest_in}
 use Rattle.scan_core.proofs.closures.inside_of.Goals as goal
 
 pub bits-smaller : goal.bits-smaller
 bits-smaller c =
-    let all : c.bits.all < 2 ^ 64 = search rules in
-    let l = and_le_l c.bits.all (bit_not w64 c.bits.done) in
-    let lowest = bit_at-trailing_zeros w64 (bit_and c.bits.all (bit_not w64 c.bits.done)) (omega arith) (omega arith) in
+    let lowest = lowest_in c.bits.all (bit_not w64 c.bits.done) (search rules) (omega arith) in
     inside_smaller _ lowest.0 (search rules) lowest.1
 
 pub bits-preserved : goal.bits-preserved
 bits-preserved c =
-    let all : c.bits.all < 2 ^ 64 = search rules in
-    let l = and_le_l c.bits.all (bit_not w64 c.bits.done) in
-    let lowest = bit_at-trailing_zeros w64 (bit_and c.bits.all (bit_not w64 c.bits.done)) (omega arith) (omega arith) in
+    let lowest = lowest_in c.bits.all (bit_not w64 c.bits.done) (search rules) (omega arith) in
     inside_more _ c.bits.invariant lowest.0 (search rules) lowest.1 c.targets-all.ensures
 
 pub returns : goal.returns

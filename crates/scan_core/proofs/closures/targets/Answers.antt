@@ -1,11 +1,8 @@
-use Rattle.std.proofs.{Common.{false, sym, ◌∙◌}, lemmas.Bool.false≢true}
-use Rattle.scan_core.proofs.Insides.{both_led, none_led}
+use Rattle.scan_core.proofs.{Enterings.never_led, Insides.{both_led, none_led}}
 use Rattle.scan_core.proofs.closures.targets.Goals as goal
 
 pub returns-then-not-is_open : goal.returns-then-not-is_open
-returns-then-not-is_open c = λ to h. none_led _ _
-    (λ f. false≢true (sym c.if-not-is_open.true ∙ c.is_open.ensures.1
-    ((c.way_of-way.ensures.exact false false _).0 f).0))
+returns-then-not-is_open c = λ to h. none_led _ _ (never_led c.branch_of-branch.ensures c.is_open.ensures c.if-not-is_open.true)
 
 pub returns : goal.returns
-returns c = λ to h. both_led _ _ _ c.way_of-way.ensures (c.is_open.ensures.0 c.if-not-is_open.false) (c.bit_in.ensures to h) (c.bit_in-2.ensures to h)
+returns c = λ to h. both_led _ _ _ c.branch_of-branch.ensures (c.is_open.ensures.0 c.if-not-is_open.false) (c.bit_in.ensures to h) (c.bit_in-2.ensures to h)

@@ -1,12 +1,12 @@
-use Rattle.std.proofs.{Common.{rules, ◌≡◌, ◌-◌, length, refl, ap, ◌∙◌, arith}, lemmas.List.at_drop_all}
+use Rattle.std.proofs.{Common.{rules, ◌≡◌, length, refl, ap, ◌∙◌, arith}, lemmas.List.at_drop_all}
 use Rattle.scan_core.{specs.inner.Compiling.depth_in, proofs.Compiled.{bounded_at, compiled, ordered, way_more}}
 use Rattle.scan_core.proofs.compile.compile.Goals as goal
 
 pub loop-place-init : goal.loop-place-init
 loop-place-init c = let first = c.new-compiling.result in record {
   begun = search rules;
-  depth = let d = ap depth_in c.new-compiling.ensures.passing in omega arith;
-  way = (
+  depth = omega (arith, ap depth_in c.new-compiling.ensures.passing);
+  branch = (
     first,
     record { nodes = c.new-compiling.ensures.nodes; pending = c.new-compiling.ensures.pending; passing = c.new-compiling.ensures.passing },
     rw (at_drop_all (λ ts. ts) c.tokens-tokens.result.now (length c.tokens-tokens.result.now) (omega arith)) refl,
@@ -18,10 +18,10 @@ take-requires-clause-order c =
     bounded_at _ _ c.tokens-tokens.ensures.order (omega arith) c.index-tokens-place.is
 
 pub loop-place-preserved : goal.loop-place-preserved
-loop-place-preserved c = let w = c.loop-place.invariant.way in record {
+loop-place-preserved c = let w = c.loop-place.invariant.branch in record {
   begun = c.in_ok-take.ensures.begun;
   depth = omega (arith, c.in_ok-take.ensures.depth, c.loop-place.invariant.depth, c.loop-place-test.true);
-  way = (
+  branch = (
     w.0,
     w.1,
     way_more c.tokens-tokens.result.now w.0 c.loop-place.compiling c.take.new.self (omega arith)
@@ -31,7 +31,7 @@ loop-place-preserved c = let w = c.loop-place.invariant.way in record {
 
 pub returns-clause-ok : goal.returns-clause-ok
 returns-clause-ok c =
-    let w = c.loop-place.invariant.way in
+    let w = c.loop-place.invariant.branch in
     let front : c.loop-place.place ≡ 0 = omega arith in
     c.reverse.ensures.items ∙ compiled c.args.expression.now c.loop-place.compiling c.tokens-tokens.ensures.written c.tokens-tokens.ensures.order w.1
     (rw front at w.2)

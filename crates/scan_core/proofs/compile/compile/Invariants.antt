@@ -6,5 +6,5 @@ abbrev pub invariant-loop-place : goal.invariant-loop-place
 invariant-loop-place l = record {
   begun : AreBegun l.compiling;
   depth : depth_in l.compiling.passing + l.place ≤ length l.tokens;
-  way : (first : Compiling) × IsNow [] [] None first × TakesAll first (drop l.place l.tokens) l.compiling;
+  branch : (first : Compiling) × IsNow [] [] None first × TakesAll first (drop l.place l.tokens) l.compiling;
 }

@@ -10,4 +10,4 @@ loop-number-preserved c = let added = c.in_ok-add_hops.ensures in record {
 
 pub returns-clause-met : goal.returns-clause-met
 returns-clause-met c = λ number to f. c.loop-number.invariant.met number to
-    (let l = at_least c.args.nodes.now number f.0 f.1 in let t = c.loop-number-test.false in omega arith) f
+    (omega (arith, at_least c.args.nodes.now number f.0 f.1, c.loop-number-test.false)) f

@@ -1,4 +1,4 @@
-use Rattle.std.proofs.Common.{rules, ◌≡◌, ◌<◌, length, refl, sym, ◌∙◌, arith, eqb-true}
+use Rattle.std.proofs.Common.{rules, ◌≡◌, length, refl, sym, ◌∙◌, arith, eqb-true}
 use Rattle.scan_core.proofs.{
   Shiftings.{inner, final},
   Searchings.{entered_here, front_is, search_more, search_found, search_ends, search_fits},
@@ -7,14 +7,12 @@ use Rattle.scan_core.proofs.search.search.Goals as goal
 
 pub overflow_add-steps : goal.overflow_add-steps
 overflow_add-steps c =
-    let n : length c.args.nodes.now < 9223372036854775808 = search rules in
-    let f = search_fits _ c.loop-place.invariant c.positions.ensures n (omega arith) in
+    let f = search_fits _ c.loop-place.invariant c.positions.ensures (search rules) (omega arith) in
     search (rules, f)
 
 pub overflow_add-steps-2 : goal.overflow_add-steps-2
 overflow_add-steps-2 c =
-    let n : length c.args.nodes.now < 9223372036854775808 = search rules in
-    let f = search_fits _ c.loop-place.invariant c.positions-2.ensures n (omega arith) in
+    let f = search_fits _ c.loop-place.invariant c.positions-2.ensures (search rules) (omega arith) in
     search (rules, f)
 
 pub spread-requires-clause-front : goal.spread-requires-clause-front
@@ -25,19 +23,17 @@ spread-requires-2-clause-front c = λ t. let z = eqb-true _ 0 (sym c.is_empty.en
     front_is c.loop-place.invariant c.requires.closures.base (omega arith)
 
 pub returns-then-has-clause-outcome : goal.returns-then-has-clause-outcome
-returns-then-has-clause-outcome c =
-    let here = entered_here c.loop-place.invariant (inner c.loop-place-test.true refl) c.spread.ensures in
-    search_found _ c.loop-place.invariant here c.loop-place-test.true c.positions.ensures (c.has.ensures.0 c.if-has.true)
+returns-then-has-clause-outcome c = search_found _ c.loop-place.invariant c.positions.ensures
+    (entered_here c.loop-place.invariant (inner c.loop-place-test.true refl) c.spread.ensures) c.loop-place-test.true (c.has.ensures.0 c.if-has.true)
 
 pub loop-place-preserved : goal.loop-place-preserved
 loop-place-preserved c =
     let here = entered_here c.loop-place.invariant (inner c.loop-place-test.true refl) c.spread.ensures in
-    search_more _ c.requires.closures.base c.loop-place.invariant here c.loop-place-test.true refl c.positions.ensures
+    search_more _ c.loop-place.invariant c.positions.ensures here c.requires.closures.base c.loop-place-test.true refl
     c.if-has.false c.has.ensures (c.pass.ensures.size ∙ c.spread.ensures.size ∙ c.loop-place.invariant.size)
     (rw c.deref-in-loop-place-2.ensures.value at c.pass.ensures.exact)
 
 pub returns-clause-outcome : goal.returns-clause-outcome
 returns-clause-outcome c =
     let e : c.loop-place.place ≡ length c.args.line.now = omega arith in
-    let here = entered_here c.loop-place.invariant (final e c.is_empty.ensures) c.spread-2.ensures in
-    search_ends _ c.loop-place.invariant here e c.positions-2.ensures c.has-2.ensures
+    search_ends _ c.loop-place.invariant c.positions-2.ensures (entered_here c.loop-place.invariant (final e c.is_empty.ensures) c.spread-2.ensures) e c.has-2.ensures

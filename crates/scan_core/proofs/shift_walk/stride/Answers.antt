@@ -19,7 +19,7 @@ loop-done-preserved c =
     let b : slice_index c.args.line.now (c.args.from + c.loop-done.done) < 256 = search (rules, c.type_inv.line) in
     record {
       small = omega arith;
-      at = λ before a. at_moved _ (omega arith) (omega arith) (at_more _ _ _ (c.loop-done.invariant.at before a)
+      at = λ before a. at_moved _ (omega arith) (omega arith) (at_more _ (c.loop-done.invariant.at before a) _ _
           (omega arith) b c.index-in-loop-done.ensures refl c.index.ensures);
     }
 

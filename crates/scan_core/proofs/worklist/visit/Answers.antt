@@ -1,5 +1,5 @@
 use Rattle.std.proofs.{Common.{sym, ◌∙◌}, lemmas.Bool.false≢true}
-use Rattle.scan_core.{specs.inner.{Sets.Flows, Words.IsIn}, proofs.Insides.{grows_none, grows_by}}
+use Rattle.scan_core.{proofs.Insides.{grows_none, grows_by}}
 use Rattle.scan_core.proofs.worklist.visit.Goals as goal
 
 pub returns-then-not-has : goal.returns-then-not-has

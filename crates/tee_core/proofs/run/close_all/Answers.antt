@@ -5,23 +5,23 @@ use Rattle.tee_core.proofs.{
 use Rattle.tee_core.proofs.run.close_all.Goals as goal
 
 pub close-requires : goal.close-requires
-close-requires g c = λ live. let (mode, pieces, messages, copies) = c.requires.copies in copies_ready _ _ mode _ _ c.requires.tee copies
+close-requires g c = λ live. let (mode, pieces, messages, copies) = c.requires.copies in copies_ready copies c.requires.tee
 
 pub tell_broken-requires-clause-streams : goal.tell_broken-requires-clause-streams
 tell_broken-requires-clause-streams g c =
     let (mode, pieces, messages, copies) = c.requires.copies in
     let closes = c.close.ensures.closes c.requires.tee.live in
-    rw (length-map c.args.job.now.names.now _) at (mid_streams _ _ mode _ _ copies closes.count (closes.others 1 (λ file. error_no_output c.requires.tee (inr file))))
+    rw (length-map c.args.job.now.names.now _) at (mid_streams copies closes.count (closes.others 1 (λ file. error_no_output c.requires.tee (inr file))))
 
 pub tell_broken-requires-clause-known : goal.tell_broken-requires-clause-known
 tell_broken-requires-clause-known g c =
     let (mode, pieces, messages, copies) = c.requires.copies in
-    cc (known_many _ _ mode _ _ copies, length-map c.args.job.now.names.now _)
+    cc (known_many copies, length-map c.args.job.now.names.now _)
 
 pub returns : goal.returns
 returns g c = record {
   closed = λ mode pieces fault copies.
       let closes = c.close.ensures.closes c.requires.tee.live in
-      closing_said _ _ mode _ _ copies
-      (closed_next _ _ mode _ _ c.requires.tee copies closes c.tell_broken.ensures.seen) c.tell_broken.ensures.said;
+      closing_said copies
+      (closed_next copies c.requires.tee closes c.tell_broken.ensures.seen) c.tell_broken.ensures.said;
 }

@@ -20,22 +20,22 @@ tell_input-requires g c =
     let (mode, opens) = c.requires.opened in
     let copied = c.copy_pieces-fault.ensures.copies mode
     (starts _ _ opens (length-names _ c.requires.unknown) c.tell_broken.ensures.said c.tell_broken.ensures.seen) in
-    (_, copies_streams _ _ mode _ _ copied.2.0.copies)
+    (_, copies_streams copied.2.0.copies)
 
 pub close_all-requires-clause-copies : goal.close_all-requires-clause-copies
 close_all-requires-clause-copies g c =
     let (mode, opens) = c.requires.opened in
     let copied = c.copy_pieces-fault.ensures.copies mode
     (starts _ _ opens (length-names _ c.requires.unknown) c.tell_broken.ensures.said c.tell_broken.ensures.seen) in
-    (mode, copied.2.0.pieces, said_of_input c.copy_pieces-fault.result, copies_said _ _ mode _ _ copied.2.0.copies c.tell_input.ensures.told)
+    (mode, copied.2.0.pieces, said_of_input c.copy_pieces-fault.result, copies_said copied.2.0.copies c.tell_input.ensures.told)
 
 pub returns-clause-copied : goal.returns-clause-copied
 returns-clause-copied g c mode opens =
     let (content, is, (read, breaks)) = c.copy_pieces-fault.ensures.copies mode
     (starts _ _ opens (length-names _ c.requires.unknown) c.tell_broken.ensures.said c.tell_broken.ensures.seen) in
-    let said = copies_said _ _ mode _ _ read.copies c.tell_input.ensures.told in
+    let said = copies_said read.copies c.tell_input.ensures.told in
     let closed = c.close_all.ensures.closed mode read.pieces c.copy_pieces-fault.result said in
-    (content, is, (ends_copied _ c.status_for.ensures read.read closed, breaks))
+    (content, is, (ends_copied c.status_for.ensures read.read closed, breaks))
 
 pub tell_broken-requires-clause-known : goal.tell_broken-requires-clause-known
 tell_broken-requires-clause-known g c = grind (arith, common_steps)

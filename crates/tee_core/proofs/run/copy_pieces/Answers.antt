@@ -66,7 +66,7 @@ pub returns-in-Err-clause-copies : goal.returns-in-Err-clause-copies
 returns-in-Err-clause-copies g c mode at =
     let so_far = c.pieces.invariant in
     let (content, is, bytes, ended, leaves, breaks) = seen_broken _ _ _ _ _ _ so_far.read so_far.readable c.in-Err.ensures.break_off c.in-Err.ensures.err.1 in
-    let copied = reads_copied _ so_far.joined (sym c.is_done.ensures ∙ c.pieces-test.true) so_far.sized
+    let copied = reads_copied so_far.joined (sym c.is_done.ensures ∙ c.pieces-test.true) so_far.sized
     (omega arith) (inl (ap Some c.in-Err.ensures.err.0)) (λ none. absurd (cc))
     (λ told vain. absurd (false≢true vain))
     (reads_once so_far.pieces so_far.joined so_far.sized (omega arith) so_far.reads
@@ -83,7 +83,7 @@ returns-then-n-eq0-clause-copies g c mode at =
     let (content, is, bytes, ended, leaves, breaks) =
     seen_ended _ _ _ _ _ _ so_far.read so_far.readable c.in-Ok.ensures.bytes c.if-n-eq0.true
     (omega arith) c.in-Ok.ensures.rest in
-    let copied = reads_copied _ so_far.joined (sym c.is_done.ensures ∙ c.pieces-test.true) so_far.sized (omega arith)
+    let copied = reads_copied so_far.joined (sym c.is_done.ensures ∙ c.pieces-test.true) so_far.sized (omega arith)
     (inr (sound_at (g.I.Inputs.sources c.read.new.self) 0
     (still_readable _ _ _ _ c.in-Ok.n c.in-Ok.ensures.rest so_far.readable)))
     (λ none left. ended_now _ _ c.in-Ok.n _ _ so_far.readable c.in-Ok.ensures.rest c.if-n-eq0.true (omega arith))
@@ -100,7 +100,7 @@ returns-in_default-clause-copies g c mode at =
     let so_far = c.pieces.invariant in
     let (content, rest, is, bytes, leaves, breaks) = seen_more _ _ _ _ _ _ so_far.read so_far.readable c.in-Ok.ensures.bytes c.in-Ok.ensures.rest in
     let long : length (so_far.came ++ take c.in-Ok.n c.read.new.buffer) ≡ c.pieces.fed + c.in-Ok.n = sym (counted_more so_far.came c.read.new.buffer c.in-Ok.n so_far.counted (omega (arith, c.in-Ok.ensures.bound, c.read.auto.buffer)) refl) in
-    let copied = reads_copied _ so_far.joined (sym c.is_done.ensures ∙ c.pieces-test.true) so_far.sized (omega arith)
+    let copied = reads_copied so_far.joined (sym c.is_done.ensures ∙ c.pieces-test.true) so_far.sized (omega arith)
     (inr (sound_at (g.I.Inputs.sources c.read.new.self) 0
     (still_readable _ _ _ _ c.in-Ok.n c.in-Ok.ensures.rest so_far.readable))) (λ none. absurd (cc))
     (λ told vain. absurd (false≢true vain)) (reads_once so_far.pieces so_far.joined so_far.sized
@@ -116,7 +116,7 @@ pub returns-clause-copies : goal.returns-clause-copies
 returns-clause-copies g c mode at =
     let so_far = c.pieces.invariant in
     let (content, rest, is, bytes, leaves, breaks) = seen_so_far _ _ _ _ so_far.read so_far.readable in
-    let copied = reads_copied _ so_far.joined (sym c.is_done.ensures ∙ c.pieces-test.false) so_far.sized (omega arith)
+    let copied = reads_copied so_far.joined (sym c.is_done.ensures ∙ c.pieces-test.false) so_far.sized (omega arith)
     (inr (sound_at (g.I.Inputs.sources c.pieces.inputs) 0 so_far.readable))
     (λ none left. absurd (false≢true (sym left))) (λ told vain. so_far.last told) (omega arith)
     (to_broken_output _ rest bytes leaves) (so_far.copies mode at) in

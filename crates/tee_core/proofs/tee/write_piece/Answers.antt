@@ -7,8 +7,8 @@ returns-then-broken g c = record { turned = left_out g.O.Outs.told (cc); few = s
 
 pub returns-in-Ok : goal.returns-in-Ok
 returns-in-Ok g c =
-    record { turned = written_whole g.O.Outs.told c.requires (cc) c.in-Ok.ensures.whole; few = search rules }
+    record { turned = written_whole c.requires (cc) g.O.Outs.told c.in-Ok.ensures.whole; few = search rules }
 
 pub returns-in-Err : goal.returns-in-Err
 returns-in-Err g c =
-    record { turned = written_short g.O.Outs.told c.requires (cc) c.in-Err.ensures.cut; few = search rules }
+    record { turned = written_short c.requires (cc) g.O.Outs.told c.in-Err.ensures.cut; few = search rules }

@@ -10,8 +10,7 @@ use Rattle.split_core.{
 }
 use Rattle.tools_core.{
   specs.Promises.{AreChunks, AreDealt, AreLinePieces, ArePieces, AreUncut, output_of, text_at},
-  proofs.SplitPromises.{chunk_as_shown, cut_as_shown, flat_alike, by_way, byte_pieces, dealt_lines},
-  proofs.SplitPromises.is_split,
+  proofs.SplitPromises.{chunk_as_shown, cut_as_shown, flat_alike, by_way, byte_pieces, dealt_lines, is_split},
   proofs.SplitPromises.{line_byte_pieces, line_ends, line_pieces, one_line_list, turn_is, turn_lines},
   proofs.SplitPromises.{whole_line_files, wrote_alone},
 }

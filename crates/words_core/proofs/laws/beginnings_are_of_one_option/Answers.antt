@@ -1,6 +1,6 @@
 use Rattle.std.{
-  proofs.Common.{◌≡◌, sym, refl, arith, ℕ, zero, suc, Bool, true, false, eqb, if◌then◌else◌, List, [], ◌∷◌, ◌++◌, drop},
-  proofs.Common.length,
+  proofs.Common.{◌≡◌, sym, refl, arith, ℕ, zero, suc, Bool, true, false, eqb, if◌then◌else◌, List, [], ◌∷◌, ◌++◌},
+  proofs.Common.{drop, length},
   proofs.lemmas.{Bool.Decides.Decides-eqb, List.Elements.Contains-append_right, Slice.Eq.starts_is},
   specs.List.{Contains, starts_with},
 }
@@ -25,8 +25,7 @@ begins start (name ∷ names) is = begins_by start name names (starts_with eqb n
 found : (start : List ℕ) (names : List (List ℕ)) → HasBeginning start names → begins_one start names ≡ true
 found start [] (rest, (place, within, is)) = absurd (omega arith)
 found start (name ∷ names) (rest, (zero, within, is)) = rw ((starts_is Decides-eqb name start (starts_with eqb name start) refl).1 rest is) refl
-found start (name ∷ names) (rest, (suc place, within, is)) =
-    either (λ test. test ≡ true) (starts_with eqb name start) true (begins_one start names) refl (found start names (rest, (place, omega arith, is)))
+found start (name ∷ names) (rest, (suc place, within, is)) = either (λ test. test ≡ true) _ _ _ refl (found start names (rest, (place, omega arith, is)))
 
 pub returns-clause-begins : goal.returns-clause-begins
 returns-clause-begins c row start = (begins start row.names, found start row.names)

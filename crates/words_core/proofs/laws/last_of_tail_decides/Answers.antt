@@ -1,19 +1,15 @@
 use Rattle.std.proofs.Common.{false, refl}
 use Rattle.words_core.{
-  specs.{
-    EndsWords.ten_lines,
-    TailWords.{retry_by, tail_by, unfollowed},
-    Laws.{counts_looks, counts_pause, names_process, retries, says_followed},
-  },
+  specs.{EndsWords.ten_lines, TailWords.{retry_by, tail_by, unfollowed}, Laws.retries},
   proofs.ChoiceLemmas.{last_decides, retry-sets, so_where_given, tail-sets},
 }
 use Rattle.words_core.proofs.laws.last_of_tail_decides.Goals as goal
 
 pub returns : goal.returns
 returns c = record {
-  followed = λ names. last_decides tail_by (λ asked. asked.followed) says_followed (λ a o c. (tail-sets a o c).0) (unfollowed (ten_lines names));
-  looks = λ names. last_decides tail_by (λ asked. asked.looks) counts_looks (λ a o c. (tail-sets a o c).1) (unfollowed (ten_lines names));
-  pause = λ names. last_decides tail_by (λ asked. asked.pause) counts_pause (λ a o c. (tail-sets a o c).2) (unfollowed (ten_lines names));
-  process = λ names. last_decides tail_by (λ asked. asked.process) names_process (λ a o c. (tail-sets a o c).3) (unfollowed (ten_lines names));
+  followed = λ names. last_decides tail_by (λ asked. asked.followed) (λ a o c. (tail-sets a o c).0) (unfollowed (ten_lines names));
+  looks = λ names. last_decides tail_by (λ asked. asked.looks) (λ a o c. (tail-sets a o c).1) (unfollowed (ten_lines names));
+  pause = λ names. last_decides tail_by (λ asked. asked.pause) (λ a o c. (tail-sets a o c).2) (unfollowed (ten_lines names));
+  process = λ names. last_decides tail_by (λ asked. asked.process) (λ a o c. (tail-sets a o c).3) (unfollowed (ten_lines names));
   retry = so_where_given retry_by (λ retry. retry) retries retry-sets false refl;
 }

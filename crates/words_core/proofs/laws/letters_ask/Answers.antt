@@ -4,8 +4,8 @@ use Rattle.std.{
     List.{append-nil, take-append-drop, Elements.{All-from_recursion, recursion_from_All}, Sums.take_while-cons},
   },
   proofs.Common.{◌≡◌, ◌≢◌, ◌<◌, ◌⊎◌, suc, ◌&&◌, ◌||◌, inl, inr, refl, sym, ap, arith, rules, ℕ, Bool, true, false},
-  proofs.Common.{if◌then◌else◌, List, [], ◌∷◌, ◌++◌, length, codes, Option, Some, None},
-  specs.{Prelude.{⊤, IfSome, filter, nat_lt}, Char.is_ascii_digit, List.{list_all, prefix_len}},
+  proofs.Common.{if◌then◌else◌, List, [], ◌∷◌, length, codes, Option, Some, None},
+  specs.{Prelude.{IfSome, filter, nat_lt}, Char.is_ascii_digit, List.{list_all, prefix_len}},
 }
 use Rattle.seg_core.specs.{
   Count.{after_digits, is_number, leading_digits},
@@ -14,15 +14,14 @@ use Rattle.seg_core.specs.{
 use Rattle.words_core.{
   specs.declared.{
     settings.Headers.TheVariants.{Always, Never},
-    table.{Letters.TheVariants.{OfHead, OfTail}, Takes.Takes},
+    table.{Letters.TheVariants.{OfHead, OfTail}},
     choice.Choice.Choice,
     value.Followed.TheVariants.Descriptor,
   },
-  specs.Laws.{HasLetters, IsNumberWithLetters, of_lines, of_unit},
+  specs.Laws.{AreSwitches, HasLetters, IsNumberWithLetters, of_lines, of_unit},
   specs.Lettered.{are_known, are_of_tail, is_known, is_lettered, is_switch, is_unit, letter_named, unit_of},
-  specs.Lettered.without_digits,
   specs.Table.{OptionRow, alone, head_table, is_among, tail_table},
-  proofs.LetteredLemmas.{AreOthers, HasParts, IsOther, begins_with_unit, letters_ask, no_digit, no_digit_first, parts},
+  proofs.LetteredLemmas.{AreOthers, IsOther, begins_with_unit, letters_ask, parted},
 }
 use Rattle.words_core.specs.declared.choice.Choice.TheVariants as choice
 use Rattle.words_core.specs.declared.table.Takes.TheVariants as takes
@@ -32,17 +31,28 @@ use Rattle.words_core.proofs.laws.letters_ask.Goals as goal
 -- letters of options, or these and one that says what is counted
 
 module _ (rows : List OptionRow) where
-  record WithUnit (letters : List ℕ) : Type 0 where
-    before : List ℕ
-    letter : ℕ
-    after : List ℕ
-    unit : Measured × ℕ
-    says : unit_of letter ≡ Some unit
-    letters_are : letters ≡ before ++ letter ∷ after
-    others : AreOthers rows (before ++ after)
-
   abbrev HasShape : List ℕ → Type 0
-  HasShape letters = AreOthers rows letters ⊎ WithUnit letters
+  HasShape letters = (options : List ℕ) × (unit : Measured × ℕ) × HasLetters rows letters [] options unit
+
+  are_switches : (letters : List ℕ) → AreOthers rows letters → AreSwitches rows letters
+  are_switches = All-from_recursion (IsOther rows)
+
+  of_others : (letters : List ℕ) → AreOthers rows letters → HasShape letters
+  of_others letters are = (letters, (Lines, 1), of_lines refl refl (are_switches letters are))
+
+  of_first : (letter : ℕ) (letters : List ℕ) {unit : Measured × ℕ} → unit_of letter ≡ Some unit
+      → AreOthers rows letters → HasShape (letter ∷ letters)
+  of_first letter letters {unit} says are = (letters, unit, of_unit [] letter letters says refl refl refl (are_switches letters are))
+
+  of_more : (letter : ℕ) (letters : List ℕ) → IsOther rows letter → HasShape letters → HasShape (letter ∷ letters)
+  of_more letter letters is (options, unit, of_lines same all are) =
+      (letter ∷ options, unit, of_lines (ap (λ rest. letter ∷ rest) same) refl (are_switches (letter ∷ options) (is, recursion_from_All (IsOther rows) options are)))
+  of_more letter letters is (options, unit, of_unit before one after says same options_are all are) = (
+    letter ∷ options,
+    unit,
+    of_unit (letter ∷ before) one after says (ap (λ rest. letter ∷ rest) same) (ap (λ rest. letter ∷ rest) options_are) refl
+        (are_switches (letter ∷ options) (is, recursion_from_All (IsOther rows) options are)),
+  )
 
   leading_with : (byte : ℕ) (text : List ℕ) (test : Bool) → is_ascii_digit byte ≡ test
       → list_all is_ascii_digit (leading_digits text) ≡ true
@@ -56,14 +66,13 @@ module _ (rows : List OptionRow) where
 
   whole : (text : List ℕ) → HasShape (after_digits text)
       → (options : List ℕ) × (unit : Measured × ℕ) × HasLetters rows text (leading_digits text) options unit
-  whole text (inl others) =
-      (after_digits text, (Lines, 1), of_lines (sym (take-append-drop (prefix_len is_ascii_digit text) text)) (leading_are text) (All-from_recursion (IsOther rows) (after_digits text) others))
-  whole text (inr with) =
-      let is : text ≡ leading_digits text ++ (with.before ++ with.letter ∷ with.after) = rw with.letters_are at (sym (take-append-drop (prefix_len is_ascii_digit text) text)) in
-      (with.before ++ with.after, with.unit, of_unit with.before with.letter with.after with.says is refl (leading_are text) (All-from_recursion (IsOther rows) (with.before ++ with.after) with.others))
+  whole text (options, unit, of_lines is all are) =
+      (options, unit, of_lines (rw is at (sym (take-append-drop (prefix_len is_ascii_digit text) text))) (leading_are text) are)
+  whole text (options, unit, of_unit before letter after says is options_are all are) =
+      (options, unit, of_unit before letter after says (rw is at (sym (take-append-drop (prefix_len is_ascii_digit text) text))) options_are (leading_are text) are)
 
   is_number_with : (text : List ℕ) → HasShape (after_digits text) → IsNumberWithLetters rows text
-  is_number_with text has = let found = whole text has in (leading_digits text, found.0, found.1, found.2)
+  is_number_with text has = let (options, unit, is) = whole text has in (leading_digits text, options, unit, is)
 
   -- letters that are known
 
@@ -93,23 +102,11 @@ module _ (rows : List OptionRow) where
         → is_known rows letter ≡ true → are_known rows letters ≡ true → length (filter is_unit (letter ∷ letters)) < 2
         → (length (filter is_unit letters) < 2 → HasShape letters) → HasShape (letter ∷ letters)
     one_more letter letters (Some unit) is known are few more =
-        let fewer : suc (length (filter is_unit letters)) < 2 = rw is at few in
-        inr (record { before = []; letter = letter; after = letters; unit = unit; says = is; letters_are = refl; others = no_more letters are (omega arith) })
-    one_more letter letters None is known are few more = elim (more (rw is at few)) [
-      | inl others ↦ inl (known_other letter is known, others)
-      | inr with ↦ inr (record {
-        before = letter ∷ with.before;
-        letter = with.letter;
-        after = with.after;
-        unit = with.unit;
-        says = with.says;
-        letters_are = ap (λ rest. letter ∷ rest) with.letters_are;
-        others = (known_other letter is known, with.others);
-      })
-    ]
+        let fewer : suc (length (filter is_unit letters)) < 2 = rw is at few in of_first letter letters is (no_more letters are (omega arith))
+    one_more letter letters None is known are few more = of_more letter letters (known_other letter is known) (more (rw is at few))
 
     shape : (letters : List ℕ) → are_known rows letters ≡ true → length (filter is_unit letters) < 2 → HasShape letters
-    shape [] known few = inl tt
+    shape [] known few = of_others [] tt
     shape (letter ∷ letters) known few =
         let parts = both (is_known rows letter) (are_known rows letters) known in
         one_more letter letters (unit_of letter) refl parts.0 parts.1 few (shape letters parts.1)
@@ -125,41 +122,17 @@ head_switch letter is =
 
 -- and such letters are known
 
-abbrev NeverOptional : Takes → Type 0
-NeverOptional (takes.Optional choice kind) = ⊥
-NeverOptional takes = ⊤
-
-head_never : (letter : ℕ) → IfSome (letter_named head_table letter) NeverOptional
-head_never letter = search rules
-
-switch_by : (takes : Takes) {choice : Choice} → alone takes ≡ Some choice → NeverOptional takes
-    → is_switch (Some takes) ≡ true
-switch_by (takes.Nothing choice) is never = refl
-switch_by (takes.Optional choice kind) is never = absurd never
-switch_by other is never = absurd (cc)
+head_alone : (letter : ℕ)
+    → IfSome (letter_named head_table letter) (λ takes. (choice : Choice) → alone takes ≡ Some choice
+    → is_switch (Some takes) ≡ true)
+head_alone letter = search rules
 
 head_known : (letter : ℕ) → IsOther head_table letter → is_known head_table letter ≡ true
-head_known letter is =
-    let never : NeverOptional is.3.takes = rw is.3.named at (head_never letter) in
-    rw (is.0, is.3.named) (switch_by is.3.takes is.3.alone never)
+head_known letter is = rw (is.0, is.3.named) ((rw is.3.named at (head_alone letter)) _ is.3.alone)
 
 all_known : (letters : List ℕ) → AreOthers head_table letters → are_known head_table letters ≡ true
 all_known [] are = refl
 all_known (letter ∷ letters) are = rw (head_known letter are.0) (all_known letters are.1)
-
-no_units : (letters : List ℕ) → AreOthers head_table letters → length (filter is_unit letters) ≡ 0
-no_units [] are = refl
-no_units (letter ∷ letters) are = rw are.0.0 (no_units letters are.1)
-
-known_with : (before : List ℕ) (letter : ℕ) (after : List ℕ) {unit : Measured × ℕ} → unit_of letter ≡ Some unit
-    → AreOthers head_table (before ++ after) → are_known head_table (before ++ letter ∷ after) ≡ true
-known_with [] letter after says are = rw says (all_known after are)
-known_with (one ∷ before) letter after says are = rw (head_known one are.0) (known_with before letter after says are.1)
-
-one_unit : (before : List ℕ) (letter : ℕ) (after : List ℕ) {unit : Measured × ℕ} → unit_of letter ≡ Some unit
-    → AreOthers head_table (before ++ after) → length (filter is_unit (before ++ letter ∷ after)) ≡ 1
-one_unit [] letter after says are = rw (says, no_units after are) refl
-one_unit (one ∷ before) letter after says are = rw are.0.0 (one_unit before letter after says are.1)
 
 some_digits : (digits : List ℕ) → digits ≢ [] → nat_lt 0 (length digits) ≡ true
 some_digits [] some = absurd (some refl)
@@ -168,43 +141,33 @@ some_digits (digit ∷ digits) some = lt-ltb 0 (length (digit ∷ digits)) (omeg
 no_nil : (digits : List ℕ) → nat_lt 0 (length digits) ≡ true → digits ≢ []
 no_nil digits some none = absurd (let never : false ≡ true = rw none at some in cc)
 
-head_lettered : (text digits letters : List ℕ) {count : ℕ} → HasParts text digits letters → digits ≢ []
-    → length (filter is_unit letters) ≡ count → count < 2 → are_known head_table letters ≡ true
-    → is_lettered head_table OfHead text ≡ true
-head_lettered text digits letters {count} is some units few known =
-    rw (is.0, is.1, some_digits digits some, units, lt-ltb count 2 few, known) refl
-
 head_is : (text digits options : List ℕ) {unit : Measured × ℕ} → digits ≢ []
     → HasLetters head_table text digits options unit → is_lettered head_table OfHead text ≡ true
-head_is text digits options some (of_lines is all are) =
-    let others = recursion_from_All (IsOther head_table) options are in
-    head_lettered text digits options (rw is (parts digits options all (no_digit head_table options others))) some (no_units options others) (omega arith) (all_known options others)
-head_is text digits options some (of_unit before letter after says is options_are all are) =
-    let others : AreOthers head_table (before ++ after) = rw options_are at (recursion_from_All (IsOther head_table) options are) in
-    head_lettered text digits (before ++ letter ∷ after) (rw is (parts digits (before ++ letter ∷ after) all (no_digit_first head_table before letter after says others))) some
-    (one_unit before letter after says others) (omega arith) (known_with before letter after says others)
+head_is text digits options some has =
+    let (others, letters, units, few, is, say) = parted head_table text digits options has in
+    rw (is.0, is.1, some_digits digits some, say.4, lt-ltb units 2 few, say.3) (all_known options others)
 
 f_switch : IsOther tail_table 102
 f_switch = (refl, refl, choice.Follow Descriptor, record { takes = takes.Optional (choice.Follow Descriptor) kind.Follow; named = refl; alone = refl; ascii = omega arith; no_hyphen = omega arith })
 
 with_f : (letter : ℕ) {unit : Measured × ℕ} → unit_of letter ≡ Some unit → HasShape tail_table (letter ∷ 102 ∷ [])
-with_f letter {unit} says = inr (record { before = []; letter = letter; after = 102 ∷ []; unit = unit; says = says; letters_are = refl; others = (f_switch, tt) })
+with_f letter says = of_first tail_table letter (102 ∷ []) says (f_switch, tt)
 
 without_f : (letter : ℕ) {unit : Measured × ℕ} → unit_of letter ≡ Some unit → HasShape tail_table (letter ∷ [])
-without_f letter {unit} says = inr (record { before = []; letter = letter; after = []; unit = unit; says = says; letters_are = refl; others = tt })
+without_f letter says = of_first tail_table letter [] says tt
 
 tail_shape : (text : List ℕ) → is_lettered tail_table OfTail text ≡ true → IsNumberWithLetters tail_table text
 tail_shape text is =
-    let among = (and_parts (are_of_tail (after_digits text)) (nat_lt 0 (length (leading_digits text)) || is_among without_digits text) is).0 in
+    let among = (and_parts (are_of_tail (after_digits text)) _ is).0 in
     is_number_with tail_table text (begins_with_unit (HasShape tail_table)
     (codes "f" ∷ codes "b" ∷ codes "bf" ∷ codes "c" ∷ codes "cf" ∷ codes "l" ∷ codes "lf" ∷ []) (after_digits text) among
-    (inl (f_switch, tt), (without_f 98 refl, (with_f 98 refl, (without_f 99 refl, (with_f 99 refl, (without_f 108 refl, (with_f 108 refl, tt))))))))
+    (of_others tail_table (102 ∷ []) (f_switch, tt), (without_f 98 refl, (with_f 98 refl, (without_f 99 refl, (with_f 99 refl, (without_f 108 refl, (with_f 108 refl, tt))))))))
 
 start_shape : (text : List ℕ) (number lettered : Bool) → is_number text ≡ number
     → is_lettered tail_table OfTail text ≡ lettered
     → (number || (lettered || is_among (codes "c" ∷ codes "cf" ∷ []) text)) ≡ true → IsNumberWithLetters tail_table text
 start_shape text true lettered number of_tail is =
-    (text, [], (Lines, 1), of_lines (sym (append-nil text)) (and_parts (nat_lt 0 (length text)) (list_all is_ascii_digit text) number).1 (All-from_recursion (IsOther tail_table) [] tt))
+    (text, [], (Lines, 1), of_lines (sym (append-nil text)) (and_parts (nat_lt 0 (length text)) _ number).1 (All-from_recursion (IsOther tail_table) [] tt))
 start_shape text false true number of_tail is = tail_shape text of_tail
 start_shape text false false number of_tail is =
     begins_with_unit (IsNumberWithLetters tail_table) (codes "c" ∷ codes "cf" ∷ []) text is
@@ -216,8 +179,8 @@ returns-clause-asks c = letters_ask
 head_shape : (text : List ℕ) → is_lettered head_table OfHead text ≡ true
     → (digits options : List ℕ) × (unit : Measured × ℕ) × (digits ≢ []) × HasLetters head_table text digits options unit
 head_shape text is =
-    let counted = and_parts (nat_lt 0 (length (leading_digits text)) && nat_lt (length (filter is_unit (after_digits text))) 2) (are_known head_table (after_digits text)) is in
-    let both = and_parts (nat_lt 0 (length (leading_digits text))) (nat_lt (length (filter is_unit (after_digits text))) 2) counted.0 in
+    let counted = and_parts (nat_lt 0 (length (leading_digits text)) && nat_lt (length (filter is_unit (after_digits text))) 2) _ is in
+    let both = and_parts (nat_lt 0 (length (leading_digits text))) _ counted.0 in
     let few : length (filter is_unit (after_digits text)) < 2 = grind (arith, nat_tests) in
     let found = whole head_table text (shape head_table head_switch (after_digits text) counted.1 few) in
     (leading_digits text, found.0, found.1, no_nil (leading_digits text) both.0, found.2)

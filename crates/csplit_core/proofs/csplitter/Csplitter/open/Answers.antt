@@ -4,10 +4,7 @@ use Rattle.ports_core.{
   specs.{Part.{OutputsAt, StoppedBetween, nothing}, Slot.Slot},
   proofs.{HandedOn.fault_is, PartLemmas.stopped_in_turn, ShareLemmas.nothing_told},
 }
-use Rattle.csplit_core.{
-  specs.{Output.sizes_wanted, Csplit.settled_by, Input.newline},
-  proofs.StageLemmas.none_stands,
-}
+use Rattle.csplit_core.{specs.{Output.sizes_wanted, Csplit.settled_by, Input.newline}, proofs.StageLemmas.none_stands}
 use Rattle.csplit_core.proofs.csplitter.Csplitter.open.Goals as goal
 
 pub returns-clause-holds : goal.returns-clause-holds

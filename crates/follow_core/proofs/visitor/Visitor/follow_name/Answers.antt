@@ -2,11 +2,10 @@ use Rattle.std.proofs.{Common.{◌∙◌, ap, arith, refl, sym, None, Some}, lem
 use Rattle.watch_core.specs.{declared.watch.Broken.TheVariants.{Look, Open}, Snapshot.latest}
 use Rattle.follow_core.{
   proofs.{
-    CallGivesLemmas.{broke_at, broke_first, due_by, goes_after, noted_found, opened_there},
-    CallGivesLemmas.{opens_same, stops_early},
+    CallGivesLemmas.{broke_at, broke_first, due_by, goes_after, noted_found, opened_there, opens_same, stops_early},
     CatchLemmas.{all_held, change_led, change_seen, held_notes, leads_opened, leads_same},
   },
-  specs.{inner.Giving.found_before, Look.{sound, unled, unopened}, Event.{notes_in}},
+  specs.{inner.Giving.found_before, Look.{sound, unled, unopened}, Event.notes_in},
 }
 use Rattle.follow_core.proofs.visitor.Visitor.follow_name.Goals as goal
 

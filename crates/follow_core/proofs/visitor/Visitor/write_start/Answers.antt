@@ -2,9 +2,7 @@ use Rattle.std.proofs.{Common.{◌≡◌, ap, arith, refl, ◌∷◌, []}, lemma
 use Rattle.watch_core.specs.declared.watch.Broken.TheVariants.{Len, Read}
 use Rattle.follow_core.{
   specs.{inner.Giving.{found_before, stop_in}, Look.{unmeasured, unsought, unread}, Event.{gives, all_but}},
-  proofs.{
-    CallGivesLemmas.{ends_can, is_held, found_as, due_by, broke_first, broke_at, if_so},
-  },
+  proofs.{CallGivesLemmas.{ends_can, is_held, found_as, due_by, broke_first, broke_at, if_so}},
 }
 use Rattle.follow_core.proofs.visitor.Visitor.write_start.Goals as goal
 use Rattle.watch_core.specs.{Snapshot.latest, Watched.watched_at}

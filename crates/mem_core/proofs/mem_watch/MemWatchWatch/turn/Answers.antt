@@ -1,5 +1,8 @@
 use Rattle.std.proofs.Common.{◌+◌, ◌≤◌, arith, ap, ◌∙◌, refl, length}
-use Rattle.mem_core.{specs.MemWatchState.world_at, proofs.MemWatchLemmas.{holds_more, same_again, still_shows, turned}}
+use Rattle.mem_core.{
+  specs.MemWatchState.world_at,
+  proofs.MemWatchLemmas.{holds_more, same_again, still_shows, turned},
+}
 use Rattle.mem_core.proofs.mem_watch.MemWatchWatch.turn.Goals as goal
 
 pub returns-then-turns-len-clause-ok : goal.returns-then-turns-len-clause-ok

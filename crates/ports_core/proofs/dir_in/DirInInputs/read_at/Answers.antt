@@ -4,4 +4,5 @@ use Rattle.ports_core.proofs.dir_in.DirInInputs.read_at.Goals as goal
 
 pub returns-clause-rest : goal.returns-clause-rest
 returns-clause-rest g c =
-    file_changes (looks _) c.self.view_is (let next : c.args.slot ≡ suc (c.args.slot - 1) = omega arith in next) c.requires c.index_mut.ensures.value c.read_at-2.ensures
+    file_changes (looks _) c.self.view_is (let next : c.args.slot ≡ suc (c.args.slot - 1) = omega arith in
+    next) c.requires c.index_mut.ensures.value c.read_at-2.ensures

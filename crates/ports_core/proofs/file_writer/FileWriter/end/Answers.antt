@@ -1,15 +1,16 @@
-use Rattle.std.proofs.Common.{refl}
 use Rattle.ports_core.proofs.{
   HandedOn.handed_on,
-  FileBegunLemmas.{close_not, due_made, end_none, end_told, skipped_made, tells_write},
+  FileBegunLemmas.{close_not, end_told, tells_write, ended_none},
+  FileWriterLemmas.goes_still,
 }
 use Rattle.ports_core.proofs.file_writer.FileWriter.end.Goals as goal
+use Rattle.std.proofs.Common.{arith}
 
 pub returns-in-Skipped-clause-goes : goal.returns-in-Skipped-clause-goes
-returns-in-Skipped-clause-goes g c = end_none c.in-Skipped.is (skipped_made _ c.in-Skipped.is) c.requires
+returns-in-Skipped-clause-goes g c = grind (arith, goes_still, ended_none)
 
 pub returns-in-Due-clause-goes : goal.returns-in-Due-clause-goes
-returns-in-Due-clause-goes g c = end_none refl (due_made _ c.in-Due.is) c.requires
+returns-in-Due-clause-goes g c = grind (arith, goes_still, ended_none)
 
 pub returns-in_err-close-in-File-clause-goes : goal.returns-in_err-close-in-File-clause-goes
 returns-in_err-close-in-File-clause-goes g c = rw (handed_on _ _ c.from_residual.ensures.1)

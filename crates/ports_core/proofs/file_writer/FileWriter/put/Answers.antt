@@ -1,13 +1,13 @@
 use Rattle.ports_core.proofs.{
   HandedOn.handed_on,
-  FileWriterLemmas.{put_file, put_nothing, put_skipped},
+  FileWriterLemmas.{put_file, goes_still},
   FileBegunLemmas.{first_bytes, goes_made, goes_unmade},
 }
 use Rattle.std.proofs.{Common.arith, lemmas.Grind.common_steps}
 use Rattle.ports_core.proofs.file_writer.FileWriter.put.Goals as goal
 
 pub returns-in-Skipped-clause-goes : goal.returns-in-Skipped-clause-goes
-returns-in-Skipped-clause-goes g c = put_skipped c.args.bytes.now c.in-Skipped.is c.requires.ready
+returns-in-Skipped-clause-goes g c = grind (arith, goes_still)
 
 pub returns-in_err-slot-in-Due-clause-goes : goal.returns-in_err-slot-in-Due-clause-goes
 returns-in_err-slot-in-Due-clause-goes g c = rw (handed_on _ _ c.from_residual.ensures.1)
@@ -21,7 +21,7 @@ pub returns-in-File-clause-goes : goal.returns-in-File-clause-goes
 returns-in-File-clause-goes g c = put_file c.args.bytes.now c.in-File.is c.requires.ready c.append-in-File.ensures
 
 pub returns-then-is_empty-clause-goes : goal.returns-then-is_empty-clause-goes
-returns-then-is_empty-clause-goes g c = put_nothing (grind (arith, common_steps)) c.requires.ready
+returns-then-is_empty-clause-goes g c = grind (arith, common_steps)
 
 pub append-requires-clause-writable : goal.append-requires-clause-writable
 append-requires-clause-writable g c = grind (arith, common_steps)

@@ -1,6 +1,6 @@
 use Rattle.std.proofs.Common.{arith}
-use Rattle.ports_core.{specs.Name.alphabet_of, proofs.FormLemmas.below_more}
+use Rattle.ports_core.{proofs.FormLemmas.below_more}
 use Rattle.ports_core.proofs.form.Form.digits.Goals as goal
 
 pub returns-clause-enough : goal.returns-clause-enough
-returns-clause-enough c = below_more (alphabet_of c.args.self.base) (rw c.alphabet.ensures at c.digit_count.ensures.enough) (omega arith)
+returns-clause-enough c = below_more _ (rw c.alphabet.ensures at c.digit_count.ensures.enough) (omega arith)

@@ -1,9 +1,9 @@
-use Rattle.std.proofs.{Common.arith, lemmas.{Grind.common_steps, Result.IfOk-weaker}}
-use Rattle.ports_core.proofs.FormLemmas.{blanks_after, blanks_before}
+use Rattle.std.proofs.{Common.{arith, append_assoc, length-append}, lemmas.Result.IfOk-weaker}
 use Rattle.ports_core.proofs.form.Form.push.Goals as goal
+use Rattle.ports_core.proofs.FormLemmas.{after, before, length_written}
 
 pub returns-in_ok-push_copies-in-BlanksBefore : goal.returns-in_ok-push_copies-in-BlanksBefore
-returns-in_ok-push_copies-in-BlanksBefore c = grind (arith, common_steps, IfOk-weaker, blanks_before)
+returns-in_ok-push_copies-in-BlanksBefore c = grind (arith, IfOk-weaker, append_assoc, before, length-append, length_written)
 
 pub returns-in_ok-push_marked-in-BlanksAfter : goal.returns-in_ok-push_marked-in-BlanksAfter
-returns-in_ok-push_marked-in-BlanksAfter c = grind (arith, common_steps, IfOk-weaker, blanks_after)
+returns-in_ok-push_marked-in-BlanksAfter c = grind (arith, IfOk-weaker, length-append, length_written, append_assoc, after)

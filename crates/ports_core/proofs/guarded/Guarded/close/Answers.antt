@@ -1,9 +1,11 @@
-use Rattle.std.proofs.Common.{refl, sym, ◌∙◌}
-use Rattle.ports_core.{specs.Engine.over, proofs.GuardLemmas.{finish_refused, finishes_caused}}
+use Rattle.std.proofs.Common.{refl, sym, ◌∙◌, rules}
+use Rattle.ports_core.specs.Engine.{over}
+use Rattle.ports_core.proofs.GuardLemmas.{finish_refused, caused}
 use Rattle.ports_core.proofs.guarded.Guarded.close.Goals as goal
 
 pub returns-then-replace-clause-finishes : goal.returns-then-replace-clause-finishes
-returns-then-replace-clause-finishes g c = rw (← c.self.view_is) (finish_refused g.S.Stage.terms g.O.Outs.told _ _ (g.met.S.Stage.lawful _) (over (sym c.replace.ensures.value ∙ c.if-replace.true) refl))
+returns-then-replace-clause-finishes g c = rw (← c.self.view_is) (finish_refused _ _ _ _ (g.met.S.Stage.lawful _)
+    (over (sym c.replace.ensures.value ∙ c.if-replace.true) refl))
 
 pub returns-clause-finishes : goal.returns-clause-finishes
-returns-clause-finishes g c = rw (← c.self.view_is) (finishes_caused (sym c.replace.ensures.value ∙ c.if-replace.false) c.finish.ensures)
+returns-clause-finishes g c = rw (← c.self.view_is) (search (rules, caused))

@@ -1,7 +1,4 @@
-use Rattle.std.proofs.{
-  Common.{refl, subst, sym, ◌∙◌, arith},
-  lemmas.{Grind.common_steps, Result.{IfErr-weaker, IfOk-weaker}},
-}
+use Rattle.std.proofs.{Common.{refl, subst, sym, ◌∙◌, arith}, lemmas.{Result.{IfErr-weaker}}}
 use Rattle.ports_core.{
   proofs.{HandedOn.fault_is, OpenLemmas.{opens_none, told_so, untold}, SlotLemmas.length-changed_at},
   specs.Names.{OpensNone, no_memory, no_name},
@@ -16,14 +13,15 @@ pub returns-in_default-clause-err : goal.returns-in_default-clause-err
 returns-in_default-clause-err g c = no_name c.in_ok-name.ensures.few (rw c.in_default.is at c.in_ok-name.ensures.none) refl
 
 pub returns-in_err-tell_opening-clause-err : goal.returns-in_err-tell_opening-clause-err
-returns-in_err-tell_opening-clause-err g c = fault_is _ _ _ c.from_residual-in_err-tell_opening.ensures.1
-    (untold _ _ _ _ _ (c.as_str.ensures.value ∙ rw c.in-Some.is at c.in_ok-name.ensures.name) c.in_ok-name.ensures.few (rw c.in-Some.is at c.in_ok-name.ensures.left) c.in_err-tell_opening.ensures)
+returns-in_err-tell_opening-clause-err g c = grind (arith, fault_is, untold)
 
 pub returns-clause-slot : goal.returns-clause-slot
-returns-clause-slot g c = grind (arith, common_steps, IfOk-weaker, length-changed_at)
+returns-clause-slot g c = grind (arith, length-changed_at)
 
 pub returns-clause-err : goal.returns-clause-err
 returns-clause-err g c =
     let named = c.as_str-2.ensures.value ∙ rw c.in-Some.is at c.in_ok-name.ensures.name in
-    IfErr-weaker _ _ _ (λ fault fails. opens_none g.O.Outs.told c.args.tells c.args.self.now (g.O.Outs.slots c.args.outs.now) named c.in_ok-name.ensures.few (rw c.in-Some.is at c.in_ok-name.ensures.left) (rw c.in-Some.is at c.in_ok-name.ensures.drew)
-    (told_so g.O.Outs.told c.args.tells c.args.self.now (g.O.Outs.slots c.args.outs.now) _ (c.as_str.ensures.value ∙ rw c.in-Some.is at c.in_ok-name.ensures.name) c.in_ok-tell_opening.ensures) fails) c.open.ensures.err
+    IfErr-weaker _ _ _ (λ fault fails. opens_none _ _ _ _ named c.in_ok-name.ensures.few
+    (rw c.in-Some.is at c.in_ok-name.ensures.left) (rw c.in-Some.is at c.in_ok-name.ensures.drew)
+    (told_so _ _ c.args.self.now _ _ (c.as_str.ensures.value
+    ∙ rw c.in-Some.is at c.in_ok-name.ensures.name) c.in_ok-tell_opening.ensures) fails) c.open.ensures.err

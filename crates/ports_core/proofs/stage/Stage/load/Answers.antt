@@ -1,6 +1,6 @@
-use Rattle.std.proofs.{Common.arith, lemmas.Grind.common_steps}
+use Rattle.std.proofs.{Common.arith}
 use Rattle.ports_core.proofs.LoadLemmas.{loads_none}
 use Rattle.ports_core.proofs.stage.Stage.load.Goals as goal
 
 pub returns-clause-loads : goal.returns-clause-loads
-returns-clause-loads g c = grind (arith, common_steps, loads_none)
+returns-clause-loads g c = grind (arith, loads_none)

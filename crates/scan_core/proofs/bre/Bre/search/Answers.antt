@@ -5,17 +5,12 @@ use Rattle.scan_core.proofs.bre.Bre.search.Goals as goal
 
 pub slice_bounds-search-end : goal.slice_bounds-search-end
 slice_bounds-search-end c =
-    let e = enough_room _ c.self.invariant.1 in
-    let l = ap length c.self.invariant.0 in
-    let p = ap positions_of c.self.view_is in
-    omega arith
+    omega (arith, enough_room _ c.self.invariant.1, ap length c.self.invariant.0, ap positions_of c.self.view_is)
 
 pub slice_bounds-search-end-2 : goal.slice_bounds-search-end-2
 slice_bounds-search-end-2 c =
-    let e = enough_room _ c.self.invariant.1 in
-    let l = ap length c.self.invariant.0 in
-    let p = ap positions_of c.self.view_is in
-    let h : c.len.result / 64 + 1 ≤ length c.args.words.now = omega arith in
+    let h : c.len.result / 64 + 1 ≤ length c.args.words.now =
+    omega (arith, enough_room _ c.self.invariant.1, ap length c.self.invariant.0, ap positions_of c.self.view_is) in
     search (rules, h)
 
 pub search-requires-clause-code : goal.search-requires-clause-code
@@ -23,8 +18,6 @@ search-requires-clause-code c = rw (← (c.deref.ensures.value ∙ c.self.invari
 
 pub search-requires-clause-room : goal.search-requires-clause-room
 search-requires-clause-room c =
-    let e = enough_room _ c.self.invariant.1 in
-    let l = ap length c.self.invariant.0 in
-    let p = ap positions_of c.self.view_is in
-    let h : c.len.result / 64 + 1 ≤ length c.args.words.now = omega arith in
+    let h : c.len.result / 64 + 1 ≤ length c.args.words.now =
+    omega (arith, enough_room _ c.self.invariant.1, ap length c.self.invariant.0, ap positions_of c.self.view_is) in
     search (rules, length-take, h)

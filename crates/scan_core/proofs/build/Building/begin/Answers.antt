@@ -15,7 +15,7 @@ returns-clause-ok c =
     false≢true (sym c.if-has.false ∙ c.has.ensures.1 (rw (← (c.deref.ensures.value ∙ whole)) at h)) in
     record {
       built = rw (← c.new.ensures.items) at (front_built _ size c.begin.ensures.exact none sets);
-      room = let l = ap length sets in omega arith;
+      room = omega (arith, ap length sets);
       size = ap length whole ∙ size;
       order = omega arith;
     }

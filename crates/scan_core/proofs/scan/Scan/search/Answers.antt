@@ -1,4 +1,4 @@
-use Rattle.std.proofs.{Common.{◌+◌, arith}, lemmas.Grind.common_steps}
+use Rattle.std.proofs.{Common.{arith}, lemmas.Grind.common_steps}
 use Rattle.scan_core.proofs.Codes.{found_contains, bound_of}
 use Rattle.scan_core.proofs.scan.Scan.search.Goals as goal
 

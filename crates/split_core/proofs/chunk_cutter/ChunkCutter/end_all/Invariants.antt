@@ -6,4 +6,4 @@ abbrev pub invariant-places : goal.invariant-places
 invariant-places g l = Ending g.O.Outs.told (seen_cutter l.fn.self) l.fn.size (g.O.Outs.slots l.fn.outs) (g.O.Outs.slots l.outs) (seen_cutter l.self)
 
 abbrev pub decreases-places : goal.decreases-places
-decreases-places g l = l.self.chunks.count - l.self.target.place
+decreases-places g l = l.self.chunks.count - l.self.sink.place

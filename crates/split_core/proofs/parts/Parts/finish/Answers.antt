@@ -10,10 +10,7 @@ use Rattle.ports_core.{
   },
 }
 use Rattle.std.proofs.Common.{◌≡◌, refl, ap, sym, inl, ◌∙◌}
-use Rattle.split_core.{
-  specs.PartsState.PartsState,
-  proofs.PartsLemmas.{closed_so, finishes_none, some_broke},
-}
+use Rattle.split_core.{specs.PartsState.PartsState, proofs.PartsLemmas.{closed_so, finishes_none, some_broke}}
 use Rattle.split_core.proofs.parts.Parts.finish.Goals as goal
 
 pub returns-then-not-is_open : goal.returns-then-not-is_open

@@ -1,6 +1,6 @@
 use Rattle.std.proofs.{Common.{◌∙◌, ap, arith}, lemmas.{Grind.common_steps, Bool.lt-ltb}}
 use Rattle.split_core.{
-  specs.ChunkerState.{TargetState, course_of, in_files, in_output, work_on},
+  specs.ChunkerState.{SinkState, course_of, in_files, in_output, work_on},
   proofs.FreshLemmas.settled_none,
 }
 use Rattle.split_core.proofs.splitter.Splitter.open.Goals as goal
@@ -20,8 +20,8 @@ returns-in-Cut-Parts-clause-does g c = grind (arith, common_steps, c.open-parts.
 
 pub returns-in-Chunks-clause-does : goal.returns-in-Chunks-clause-does
 returns-in-Chunks-clause-does g c = rw (c.in-Chunks.is, c.new-in-Chunks.ensures) (c.open-chunker.ensures.does
-    ∙ ap (λ (target : TargetState). work_on (course_of target.aim) c.in-Chunks.chunks c.args.said) c.files-target.ensures)
+    ∙ ap (λ (sink : SinkState). work_on (course_of sink.aim) c.in-Chunks.chunks c.args.said) c.files-sink.ensures)
 
 pub returns-in-Chunk-clause-does : goal.returns-in-Chunk-clause-does
 returns-in-Chunk-clause-does g c = rw (c.in-Chunk.is, c.new-in-Chunk.ensures) (c.open-chunker-in-Chunk.ensures.does
-    ∙ ap (λ (target : TargetState). work_on (course_of target.aim) c.in-Chunk.chunks c.args.said) c.output.ensures)
+    ∙ ap (λ (sink : SinkState). work_on (course_of sink.aim) c.in-Chunk.chunks c.args.said) c.output.ensures)

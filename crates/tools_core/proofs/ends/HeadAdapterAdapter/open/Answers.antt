@@ -3,10 +3,7 @@ use Rattle.run_core.{proofs.InputLemmas.shows_something}
 use Rattle.seg_core.specs.declared.unit.Unit.TheVariants.{Bytes}
 use Rattle.ends_core.specs.Shown.{place_of}
 use Rattle.words_core.specs.EndsWords.{EndsAsked}
-use Rattle.tools_core.{
-  specs.Tasks.is_minus,
-  proofs.AdapterLemmas.{head_by, head_begins, no_memory_for, opened_still},
-}
+use Rattle.tools_core.{specs.Tasks.is_minus, proofs.AdapterLemmas.{head_by, head_begins, no_memory_for, opened_still}}
 use Rattle.tools_core.proofs.ends.HeadAdapterAdapter.open.Goals as goal
 
 pub returns-then-not-is_minus-clause-opens : goal.returns-then-not-is_minus-clause-opens

@@ -3,10 +3,7 @@ use Rattle.run_core.{proofs.InputLemmas.shows_something}
 use Rattle.seg_core.specs.declared.unit.Unit.TheVariants.{Bytes}
 use Rattle.ends_core.specs.Shown.{place_of}
 use Rattle.words_core.specs.EndsWords.{EndsAsked}
-use Rattle.tools_core.{
-  specs.Tasks.is_plus,
-  proofs.AdapterLemmas.{tail_by, tail_starts, no_memory_for, opened_still},
-}
+use Rattle.tools_core.{specs.Tasks.is_plus, proofs.AdapterLemmas.{tail_by, tail_starts, no_memory_for, opened_still}}
 use Rattle.tools_core.proofs.ends.TailAdapterAdapter.open.Goals as goal
 
 pub returns-then-is_plus-clause-opens : goal.returns-then-is_plus-clause-opens

@@ -2,10 +2,9 @@
 use Rattle.std.proofs.Common.{rules}
 use Rattle.std.proofs.lemmas.Grind.{common_steps}
 use Rattle.std.proofs.{
-  lemmas.{Bool.{false≢true}, List.{append-nil, length-append}},
-  Common.{◌≡◌, ℕ, ◌+◌, ◌≤◌, zero, suc, Bool, true, false, List, [], ◌∷◌, ◌++◌, length, get_or, cond},
-  Common.eqb,
-  Common.{Option, Some, None, Result, Ok, Err, IfSome, IfNone, IfErr, IsTrue, inl, refl, sym, ◌∙◌, ap, subst, arith},
+  lemmas.{Bool.false≢true, List.{append-nil, length-append}},
+  Common.{◌≡◌, ℕ, ◌+◌, ◌≤◌, zero, suc, Bool, true, false, List, [], ◌∷◌, ◌++◌, length, get_or, cond, eqb, Option},
+  Common.{Some, None, Result, Ok, Err, IfSome, IfNone, IfErr, IsTrue, inl, refl, sym, ◌∙◌, ap, subst, arith},
 }
 use Rattle.ports_core.specs.{
   Draft.{Draft, Manner, draft_part, made_of, manner_by, output_of, with_bytes, with_next},
@@ -14,7 +13,7 @@ use Rattle.ports_core.specs.{
   Slot.{Slot, is_writable},
   Write.BrokeAfter,
   inner.Write.Wrote,
-  Turn.{IsThere, StoppedInTurn, fault_in},
+  InTurn.{IsThere, StoppedInTurn, fault_in},
   declared.fault.Fault.{Fault, TheVariants.{Verdict, Write}},
   declared.verdict.Verdict.TheVariants.Suffixes,
   declared.file_writer.{
@@ -24,8 +23,7 @@ use Rattle.ports_core.specs.{
   },
 }
 use Rattle.ports_core.proofs.{
-  FileWriterLemmas.{in_any, leaves_again, reaches_again, reaches_as, stops_wider, where_well},
-  FileWriterLemmas.where_short,
+  FileWriterLemmas.{in_any, leaves_again, reaches_again, reaches_as, stops_wider, where_well, where_short},
   PartLemmas.{out_begins, out_cut, out_more, part_begins_itself, part_trans, turn_between},
   PartSteps.there_from,
   ShareLemmas.{bytes_begin, next_begins},
@@ -33,13 +31,12 @@ use Rattle.ports_core.proofs.{
 use Rattle.split_core.specs.{
   ChunkWork.{draft_by, kept},
   Chunks.pieces_in,
-  ChunkerState.{AimState, Course, IsAimed, TargetState, course_of, filing_by, in_files, in_output, to_files},
-  ChunkerState.{part_on, to_output, whole_on},
+  ChunkerState.{AimState, Course, IsAimed, SinkState, course_of, filing_by, in_files, in_output, to_files, part_on},
+  ChunkerState.{to_output, whole_on},
   Parts.CutUp,
   Split.{Filing, TellsNoSizes, manner_of},
-  inner.Sends.{AtAim, Brings, Changes, EndsAll, Files, Gives, GoesOn, IsOf, Stays, begun_by, empties_by, ends_by},
-  inner.Sends.manner_on,
-  inner.Sends.{output_on, with_full, with_rest},
+  inner.Brings.{AtAim, Brings, Changes, EndsAll, Files, Gives, CarriesOn, IsOf, Stays, begun_by, empties_by, ends_by},
+  inner.Brings.{manner_on, output_on, with_full, with_rest},
   laws.ChunkWorkLaws.length-kept,
 }
 use Rattle.split_core.proofs.FilesLemmas.{named_before}
@@ -185,7 +182,7 @@ module _ {told : Bool} {writer next : WriterState} {elide : Bool} {change : Draf
   }
 
   -- all chunks have names
-  has_names : (place : ℕ) (cut : CutUp) → GoesOn (record { place = place; aim = to_files writer elide }) cut
+  has_names : (place : ℕ) (cut : CutUp) → CarriesOn (record { place = place; aim = to_files writer elide }) cut
       → IfSome fault (λ why. why ≡ Verdict Suffixes → ⊥)
   has_names place cut has = where_short fault files.named (λ none.
       let less : length (kept elide cut.full) ≤ place = omega (arith, length-kept elide cut.full) in
@@ -386,7 +383,7 @@ module _ {on : Course} {old mid new : List Slot} {fault : Option Fault} where
     reaches = λ before at. there_from (output_on on) told _ before _ new fault first.begins (second.reaches before (first.reaches before at));
   }
 
-  pub gives_then : {told : Bool} {one two three : TargetState} {low middle high : CutUp}
+  pub gives_then : {told : Bool} {one two three : SinkState} {low middle high : CutUp}
       → Gives told on one two low middle old mid None → Gives told on two three middle high mid new fault
       → Gives told on one three low high old new fault
   gives_then first second = record { brings = brings_then first.brings second.brings; carries = second.carries }

@@ -7,7 +7,7 @@ use Rattle.ports_core.specs.{
   FileWriter.{KeepsOrBreaks, Leaves, Reaches, Writes, WriterState},
   Part.{Output, Part, OutputsAt, Begins, gets_bytes},
   Slot.{Slot, is_writable},
-  Turn.IsThere,
+  InTurn.IsThere,
   Name.has_name,
   declared.{
     fault.Fault.{Fault, TheVariants.{Verdict, Write}},
@@ -18,7 +18,7 @@ use Rattle.ports_core.specs.{
 use Rattle.split_core.specs.{
   Parts.CutUp,
   Split.manner_of,
-  ChunkerState.{AimState, Carries, Course, in_files, in_output, IsAimed, OwnsAim, TargetState, course_of, part_on},
+  ChunkerState.{AimState, Carries, Course, in_files, in_output, IsAimed, OwnsAim, SinkState, course_of, part_on},
   ChunkerState.whole_on,
 }
 
@@ -74,31 +74,31 @@ pub record Brings (told : Bool) (on : Course) (aim next : AimState) (low high : 
   pub reaches : (before : List Slot) → AtAim told aim before low old
       → IsThere (output_on on) told (AtAim told next before high new) before low high new fault
 
--- The same of what is written of texts that are cut up, and it can have been given the other then.
-pub record Gives (told : Bool) (on : Course) (target next : TargetState) (from to : CutUp) (old new : List Slot)
+-- The same of what is written of two texts that are cut up; then it can have been given the second.
+pub record Gives (told : Bool) (on : Course) (sink next : SinkState) (from to : CutUp) (old new : List Slot)
     (fault : Option Fault) : Type 0 where
-  pub brings : Brings told on target.aim next.aim (part_on on from) (part_on on to) old new fault
+  pub brings : Brings told on sink.aim next.aim (part_on on from) (part_on on to) old new fault
   pub carries : IfNone fault (Carries next to)
 
 -- it can have been given this, and there is a name for the file of the chunk that was begun
-abbrev pub GoesOn : TargetState → CutUp → Type 0
-GoesOn target cut = Carries target cut × HasName (course_of target.aim) target.place
+abbrev pub CarriesOn : SinkState → CutUp → Type 0
+CarriesOn sink cut = Carries sink cut × HasName (course_of sink.aim) sink.place
 
 -- of any text that it can have been given
-pub record Changes (told : Bool) (target : TargetState) (change : CutUp → CutUp) (old new : List Slot)
-    (next : TargetState) (fault : Option Fault) : Type 0 where
-  pub stays : Stays (course_of target.aim) target.aim next.aim old new fault
-  pub gives : (cut : CutUp) → GoesOn target cut
-      → Gives told (course_of target.aim) target next cut (change cut) old new fault
+pub record Changes (told : Bool) (sink : SinkState) (change : CutUp → CutUp) (old new : List Slot)
+    (next : SinkState) (fault : Option Fault) : Type 0 where
+  pub stays : Stays (course_of sink.aim) sink.aim next.aim old new fault
+  pub gives : (cut : CutUp) → CarriesOn sink cut
+      → Gives told (course_of sink.aim) sink next cut (change cut) old new fault
 
 -- and all of it ended
-pub record EndsAll (told : Bool) (target : TargetState) (old new : List Slot)
-    (next : TargetState) (fault : Option Fault)
+pub record EndsAll (told : Bool) (sink : SinkState) (old new : List Slot)
+    (next : SinkState) (fault : Option Fault)
     : Type 0 where
-  pub stays : Stays (course_of target.aim) target.aim next.aim old new fault
-  pub brings : (cut : CutUp) → Carries target cut
-      → Brings told (course_of target.aim) target.aim next.aim (part_on (course_of target.aim) cut)
-      (whole_on (course_of target.aim) cut) old new fault
+  pub stays : Stays (course_of sink.aim) sink.aim next.aim old new fault
+  pub brings : (cut : CutUp) → Carries sink cut
+      → Brings told (course_of sink.aim) sink.aim next.aim (part_on (course_of sink.aim) cut)
+      (whole_on (course_of sink.aim) cut) old new fault
 
 -- The files
 

@@ -1,11 +1,11 @@
 //! Where the numbers of a code lead without a byte.
 
 ghost use Rattle.std.specs.Prelude.{IsTrue, ◌↔◌};
-ghost use Rattle.scan_core.specs.inner.{Sets.IsCode, Ways.{IsWay, Opens}};
+ghost use Rattle.scan_core.specs.inner.{Sets.IsCode, Branches.{IsBranch, Opens}};
 
 use crate::node::Node;
 
-/// At which places of a line a way is open.
+/// At which places of a line a branch is open.
 #[derive(Clone, Copy)]
 pub enum When {
     /// At none.
@@ -20,7 +20,7 @@ pub enum When {
 
 /// Where a number leads without a byte: to two others, which may be the same.
 #[derive(Clone, Copy)]
-pub struct Way {
+pub struct Branch {
     pub when: When,
     pub one: usize,
     pub other: usize,
@@ -28,41 +28,41 @@ pub struct Way {
 
 /// Where a number leads.
 #[inline(always)]
-pub fn way_of(nodes: &[Node], number: usize) -> Way
+pub fn branch_of(nodes: &[Node], number: usize) -> Branch
     requires { IsCode nodes.now }
-    ensures { IsWay nodes.now number result }
+    ensures { IsBranch nodes.now number result }
 {
     if number >= nodes.len() {
-        return Way {
+        return Branch {
             when: When::Never,
             one: 0,
             other: 0,
         };
     }
     match &nodes[number] {
-        Node::Take(_) => Way {
+        Node::Take(_) => Branch {
             when: When::Never,
             one: 0,
             other: 0,
         },
-        Node::First => Way {
+        Node::First => Branch {
             when: When::AtFront,
             one: number + 1,
             other: number + 1,
         },
-        Node::Last => Way {
+        Node::Last => Branch {
             when: When::AtEnd,
             one: number + 1,
             other: number + 1,
         },
-        Node::Choose(skip) => Way {
+        Node::Choose(skip) => Branch {
             when: When::Always,
             one: number + 1,
             other: number + *skip,
         },
         Node::Back(by) => {
             let to = number - *by;
-            Way {
+            Branch {
                 when: When::Always,
                 one: to,
                 other: to,
@@ -71,7 +71,7 @@ pub fn way_of(nodes: &[Node], number: usize) -> Way
     }
 }
 
-/// Whether a way is open at one place: the line's front, its end, or neither.
+/// Whether a branch is open at one place: the line's front, its end, or neither.
 #[inline(always)]
 pub fn is_open(when: When, at_first: bool, at_last: bool) -> bool
     ensures { IsTrue result ↔ Opens when at_first at_last }

@@ -1,11 +1,11 @@
 -- Where the numbers of a code lead without a byte.
 use Rattle.std.specs.Prelude.{◌≡◌, ◌⊎◌, ◌↔◌, ℕ, ◌≤◌, Bool, IsTrue, List, length}
 use Rattle.scan_core.specs.{
-  declared.{node.Node.Node, way.{Way.Way, When.{When, TheVariants.{Never, AtFront, AtEnd, Always}}}},
+  declared.{node.Node.Node, branch.{Branch.Branch, When.{When, TheVariants.{Never, AtFront, AtEnd, Always}}}},
   inner.Sets.Flows,
 }
 
--- a way is open at one place of a line: at its first or at its last, or neither
+-- a branch is open at one place of a line: at its first or at its last, or neither
 abbrev pub Opens : When → Bool → Bool → Type 0
 Opens Never at_first at_last = ⊥
 Opens AtFront at_first at_last = IsTrue at_first
@@ -13,8 +13,8 @@ Opens AtEnd at_first at_last = IsTrue at_last
 Opens Always at_first at_last = Unit {0}
 
 -- all that a number leads to
-pub record IsWay (code : List Node) (number : ℕ) (way : Way) : Type 0 where
-  pub one : way.one ≤ length code
-  pub other : way.other ≤ length code
+pub record IsBranch (code : List Node) (number : ℕ) (branch : Branch) : Type 0 where
+  pub one : branch.one ≤ length code
+  pub other : branch.other ≤ length code
   pub exact : (at_first at_last : Bool) (to : ℕ) → Flows code at_first at_last number to
-      ↔ (Opens way.when at_first at_last × ((to ≡ way.one) ⊎ (to ≡ way.other)))
+      ↔ (Opens branch.when at_first at_last × ((to ≡ branch.one) ⊎ (to ≡ branch.other)))

@@ -3,7 +3,7 @@ use Rattle.scan_core.{
   specs.declared.node.Node.TheVariants.Back,
   proofs.Enterings.{node_here, target_in, way_is, way_nowhere},
 }
-use Rattle.scan_core.proofs.way.way_of.Goals as goal
+use Rattle.scan_core.proofs.branch.branch_of.Goals as goal
 
 pub returns-then-number-nodes : goal.returns-then-number-nodes
 returns-then-number-nodes c = way_nowhere c.if-number-nodes.true

@@ -3,14 +3,14 @@ ghost use Rattle.std.specs.Prelude.{◌≡◌, ◌+◌, ◌<◌, ◌^◌, [], if
 ghost use Rattle.ports_core.specs.{
   FileWriter.{IsReady, IsWrite, seen_writer},
   Slot.is_writable,
-  Turn.fault_in,
+  InTurn.fault_in,
   inner.Write.Wrote,
 };
 ghost use Rattle.split_core.specs.{
   ChunkerState.{IsAimed, course_of, first_on},
   inner.{
-    Seen.{new_files, new_output, is_each_on, is_past_on, seen_target},
-    Sends.{Changes, EndsAll, Files, empties_by, ends_by, with_full, with_rest},
+    Seen.{new_files, new_output, is_each_on, is_past_on, seen_sink},
+    Brings.{Changes, EndsAll, Files, empties_by, ends_by, with_full, with_rest},
   },
 };
 
@@ -29,29 +29,29 @@ pub(crate) enum Aim {
 
 /// Writes one chunk after another.
 #[derive(Drop)]
-pub(crate) struct Target {
+pub(crate) struct ChunkSink {
     /// The place of the chunk that was begun: all before it have ended.
     pub(crate) place: u64,
     pub(crate) aim: Aim,
 }
 
-impl Target {
+impl ChunkSink {
     /// Chunks go to files with these names.
-    pub(crate) fn files(alloc: Global, naming: Naming, elide: bool, tells: Tells) -> Target
-        ensures { seen_target result ≡ new_files naming elide tells }
+    pub(crate) fn files(alloc: Global, naming: Naming, elide: bool, tells: Tells) -> ChunkSink
+        ensures { seen_sink result ≡ new_files naming elide tells }
     {
         let writer = FileWriter::new(alloc, naming, tells, Keeps::Open);
-        Target {
+        ChunkSink {
             place: 0,
             aim: Aim::Files { writer, elide },
         }
     }
 
     /// The chunk at a place goes to standard output.
-    pub(crate) fn output(chunk: u64) -> Target
-        ensures { seen_target result ≡ new_output chunk }
+    pub(crate) fn output(chunk: u64) -> ChunkSink
+        ensures { seen_sink result ≡ new_output chunk }
     {
-        Target {
+        ChunkSink {
             place: 0,
             aim: Aim::Output { chunk },
         }
@@ -59,7 +59,7 @@ impl Target {
 
     /// Whether the one chunk that is written has ended.
     pub(crate) fn is_past(&self) -> bool
-        ensures { result ≡ is_past_on (seen_target self.now) }
+        ensures { result ≡ is_past_on (seen_sink self.now) }
     {
         match self.aim {
             Aim::Files { .. } => false,
@@ -69,7 +69,7 @@ impl Target {
 
     /// Whether each chunk is written.
     pub(crate) fn is_each(&self) -> bool
-        ensures { result ≡ is_each_on (course_of (seen_target self.now).aim) }
+        ensures { result ≡ is_each_on (course_of (seen_sink self.now).aim) }
     {
         matches!(self.aim, Aim::Files { .. })
     }
@@ -77,7 +77,7 @@ impl Target {
     /// The place up to which chunks are alike to it, and at least 1: before the input's size is known, all that stands
     /// before the chunk at that place stays so.
     pub(crate) fn first(&self) -> u64
-        ensures { result ≡ first_on (course_of (seen_target self.now).aim) }
+        ensures { result ≡ first_on (course_of (seen_sink self.now).aim) }
     {
         match self.aim {
             Aim::Files { .. } => 1,
@@ -91,10 +91,10 @@ impl Target {
     ///
     /// Those of `FileWriter::put`; `Write(0)` where standard output broke.
     pub(crate) fn put<O: Outs>(&mut self, bytes: &[u8], outs: &mut O) -> Result<(), Fault>
-        requires { IsAimed (seen_target self.old).aim (O.slots outs.old) }
-        ensures sends { Changes O.told (seen_target self.old) (with_rest bytes.now) (O.slots outs.old)
-            (O.slots outs.new) (seen_target self.new) (fault_in result) }
-        ensures place { (seen_target self.new).place ≡ (seen_target self.old).place }
+        requires { IsAimed (seen_sink self.old).aim (O.slots outs.old) }
+        ensures sends { Changes O.told (seen_sink self.old) (with_rest bytes.now) (O.slots outs.old)
+            (O.slots outs.new) (seen_sink self.new) (fault_in result) }
+        ensures place { (seen_sink self.new).place ≡ (seen_sink self.old).place }
     {
         let place = self.place;
         match &mut self.aim {
@@ -109,11 +109,11 @@ impl Target {
     ///
     /// Those of `FileWriter::next`.
     pub(crate) fn next<O: Outs>(&mut self, outs: &mut O) -> Result<(), Fault>
-        requires ready { IsAimed (seen_target self.old).aim (O.slots outs.old) }
-        requires fits { (seen_target self.old).place + 1 < 2 ^ 64 }
-        ensures sends { Changes O.told (seen_target self.old) with_full (O.slots outs.old) (O.slots outs.new)
-            (seen_target self.new) (fault_in result) }
-        ensures place { (seen_target self.new).place ≡ (seen_target self.old).place + 1 }
+        requires ready { IsAimed (seen_sink self.old).aim (O.slots outs.old) }
+        requires fits { (seen_sink self.old).place + 1 < 2 ^ 64 }
+        ensures sends { Changes O.told (seen_sink self.old) with_full (O.slots outs.old) (O.slots outs.new)
+            (seen_sink self.new) (fault_in result) }
+        ensures place { (seen_sink self.new).place ≡ (seen_sink self.old).place + 1 }
     {
         self.place += 1;
         match &mut self.aim {
@@ -128,11 +128,11 @@ impl Target {
     ///
     /// `Write` where its file broke.
     pub(crate) fn end<O: Outs>(&mut self, outs: &mut O) -> Result<(), Fault>
-        requires { IsAimed (seen_target self.old).aim (O.slots outs.old) }
-        ensures brings { EndsAll O.told (seen_target self.old) (O.slots outs.old) (O.slots outs.new)
-            (seen_target self.new) (fault_in result) }
+        requires { IsAimed (seen_sink self.old).aim (O.slots outs.old) }
+        ensures brings { EndsAll O.told (seen_sink self.old) (O.slots outs.old) (O.slots outs.new)
+            (seen_sink self.new) (fault_in result) }
         ensures broke { IfErr result IsWrite }
-        ensures place { (seen_target self.new).place ≡ (seen_target self.old).place }
+        ensures place { (seen_sink self.new).place ≡ (seen_sink self.old).place }
     {
         match &mut self.aim {
             Aim::Files { writer, .. } => writer.end(outs),

@@ -3,7 +3,7 @@ use Rattle.csplit_core.{
   specs.Plan.{used_up, is_used_up},
   proofs.TryLemmas.{left_is, falls, falls_search, misses_search},
 }
-use Rattle.csplit_core.proofs.progress.Progress.turn.Goals as goal
+use Rattle.csplit_core.proofs.progress.Progress.attempt.Goals as goal
 
 pub returns-in_default-clause-says : goal.returns-in_default-clause-says
 returns-in_default-clause-says c lines seen =

@@ -1,5 +1,5 @@
-use Rattle.split_core.proofs.TargetLemmas.{files_next, output_next}
-use Rattle.split_core.proofs.chunk_target.Target.next.Goals as goal
+use Rattle.split_core.proofs.SinkLemmas.{files_next, output_next}
+use Rattle.split_core.proofs.chunk_sink.ChunkSink.next.Goals as goal
 
 pub returns-in-Files-clause-sends : goal.returns-in-Files-clause-sends
 returns-in-Files-clause-sends g c = rw c.in-Files.is (files_next _ (rw c.in-Files.is at c.requires.ready) c.end_file.ensures)
