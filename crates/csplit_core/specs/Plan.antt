@@ -110,7 +110,7 @@ step_of state operand matched cut = record {
   cut = cut;
 }
 
--- The plan from a state on: each operand cuts in its attempt, and as often as it is to be performed, until one can't. Then
+-- The plan from a state on: each operand cuts in its turn, and as often as it is to be performed, until one can't. Then
 -- it says where the run stands, and why it ends there.
 pub data Runs (suppress : Bool) (lines : List Line) : State → List Step → State → Ending → Type 0 where
   is_used_up : (state : State) → state.operands ≡ [] → Runs suppress lines state [] state used_up

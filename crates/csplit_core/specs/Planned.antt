@@ -24,34 +24,34 @@ abbrev pub first_match : Operand → List Line → ℕ → Option ℕ
 first_match operand lines from = first_among operand from (drop (from - 1) lines)
 
 -- what the next operand does: the run ends, or it makes a step and stands elsewhere
-pub data Attempt : Type 0 where
-  ends : Ending → Attempt
-  goes : Step → State → Attempt
+pub data PlannedAttempt : Type 0 where
+  ends : Ending → PlannedAttempt
+  goes : Step → State → PlannedAttempt
 
 -- the attempt of an operand whose cut is known, where there are `total` lines
-abbrev pub attempt_at : Bool → (total : ℕ) → State → Operand → List Operand → (matched cut : ℕ) → Attempt
+abbrev pub attempt_at : Bool → (total : ℕ) → State → Operand → List Operand → (matched cut : ℕ) → PlannedAttempt
 attempt_at suppress total state operand operands matched cut =
     if nat_lt total cut then ends (above operand state.repetition matched cut)
     else if nat_lt cut state.current then ends (below operand state.repetition)
     else goes (step_of state operand matched cut) (state_after suppress operand operands state.repetition matched cut)
 
-abbrev pub attempt_from : Bool → (total : ℕ) → State → Operand → List Operand → Offset → Option ℕ → Attempt
+abbrev pub attempt_from : Bool → (total : ℕ) → State → Operand → List Operand → Offset → Option ℕ → PlannedAttempt
 attempt_from suppress total state operand operands offset None = ends (missed operand state.repetition)
 attempt_from suppress total state operand operands offset (Some line) =
     attempt_at suppress total state operand operands line (moved offset line)
 
-abbrev pub attempt_to : Bool → List Line → State → Operand → List Operand → Target → Attempt
+abbrev pub attempt_to : Bool → List Line → State → Operand → List Operand → Target → PlannedAttempt
 attempt_to suppress lines state operand operands (Number n) =
     attempt_at suppress (length lines) state operand operands state.matched (n * (state.repetition + 1))
 attempt_to suppress lines state operand operands (Search pattern kept offset) =
     attempt_from suppress (length lines) state operand operands offset
     (first_match operand lines (search_line suppress state))
 
-abbrev pub attempt_of : Bool → List Line → State → List Operand → Attempt
+abbrev pub attempt_of : Bool → List Line → State → List Operand → PlannedAttempt
 attempt_of suppress lines state [] = ends used_up
 attempt_of suppress lines state (operand ∷ operands) = attempt_to suppress lines state operand operands operand.target
 
-abbrev pub attempt : Bool → List Line → State → Attempt
+abbrev pub attempt : Bool → List Line → State → PlannedAttempt
 attempt suppress lines state = attempt_of suppress lines state state.operands
 
 abbrev pub ended : State → Ending → Plan

@@ -27,7 +27,7 @@ pub record WillMove (operands : List Operand) (total : ℕ) (progress : Progress
   pub matched_within : matched ≤ total
   pub above : total < line
 
--- an attempt that cuts nothing is how the plan ends
+-- how the plan ends where an attempt cuts nothing
 abbrev pub AimsAt : Attempt → Ending → Type 0
 AimsAt UsedUp used_up = Unit {0}
 AimsAt Missed (missed operand repetition) = Unit {0}

@@ -31,7 +31,7 @@ use seg_core::line_reach::Reach;
 use seg_core::line_window::LineWindow;
 use std::alloc::Global;
 
-/// A cut: the line that the last pattern matched, and the line of the cut.
+/// Where an operand cuts: the line that the last pattern matched, and the line of the cut.
 #[derive(Clone, Copy)]
 pub struct CutPoint {
     /// The line that the last pattern matched, 0 where none was performed.

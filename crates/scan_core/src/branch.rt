@@ -26,7 +26,7 @@ pub struct Branch {
     pub other: usize,
 }
 
-/// Where a number leads.
+/// Where a number leads without a byte.
 #[inline(always)]
 pub fn branch_of(nodes: &[Node], number: usize) -> Branch
     requires { IsCode nodes.now }

@@ -70,7 +70,7 @@ fn follow_all(words: &mut [u64], nodes: &[Node], closures: &Closures) -> u64
     over
 }
 
-/// Enters what all landings lead to, without a branch.
+/// Enters what all landings lead to, without a jump.
 #[inline(always)]
 fn land(words: &mut [u64], nodes: &[Node], base: &[u64], landings: &[Hop])
     requires size { length words.old ≡ width nodes.now }

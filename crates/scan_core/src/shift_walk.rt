@@ -1,4 +1,4 @@
-//! Walking along a line with a table of words: no read waits for the one before it, and no branch depends on a byte.
+//! Walking along a line with a table of words: no read waits for the one before it, and no jump depends on a byte.
 
 ghost use Rattle.std.specs.Prelude.{◌<◌, ◌≤◌, ◌+◌, ℕ, length};
 ghost use Rattle.scan_core.specs.{inner.Shifts.{IsAt, IsShiftTable, IsSized}, Table.IsOutcome};

@@ -26,6 +26,7 @@ pub data AimState : Type 0 where
   -- the one at this place to standard output
   to_output : ℕ → AimState
 
+-- what writes one chunk after another
 pub record SinkState : Type 0 where
   -- the place of the chunk that was begun
   pub place : ℕ
@@ -64,8 +65,7 @@ way_on (in_files filing elide) chunks said =
     chunks_work (record { chunks = chunks; elide = elide; filing = filing }) said
 way_on (in_output chunk) chunks said = chunk_work chunk chunks said
 
--- The same, said of any course: what is decided is written, and in the end the whole. (These fields are those that the
--- works of both courses have.)
+-- The same work, with what both courses share said of any course: what is decided is written, and in the end the whole.
 abbrev pub work_on : Course → Chunks → Option ℕ → Work
 work_on on chunks said = record (way_on on chunks said) {
   settled = λ x. part_on on (decided chunks (first_on on) said x);

@@ -112,7 +112,7 @@ BeginInChunks delim n input pieces = (place i : ℕ) → place < n → i < line_
     → IsInChunk n (length input) place (length (first_lines delim i input))
     → IsInPiece pieces place (length (first_lines delim i input))
 
--- what isn't decided yet: without a size all after `before_chunk`
+-- what isn't decided yet: nothing where the size was said, and else all after `before_chunk`
 abbrev pub undecided : Chunks → ℕ → Option ℕ → List ℕ → List ℕ
 undecided chunks first None x = drop (length (before_chunk chunks (length x) first x)) x
 undecided chunks first (Some size) x = []

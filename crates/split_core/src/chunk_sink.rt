@@ -92,7 +92,7 @@ impl ChunkSink {
     /// Those of `FileWriter::put`; `Write(0)` where standard output broke.
     pub(crate) fn put<O: Outs>(&mut self, bytes: &[u8], outs: &mut O) -> Result<(), Fault>
         requires { IsAimed (seen_sink self.old).aim (O.slots outs.old) }
-        ensures sends { Changes O.told (seen_sink self.old) (with_rest bytes.now) (O.slots outs.old)
+        ensures changes { Changes O.told (seen_sink self.old) (with_rest bytes.now) (O.slots outs.old)
             (O.slots outs.new) (seen_sink self.new) (fault_in result) }
         ensures place { (seen_sink self.new).place ≡ (seen_sink self.old).place }
     {
@@ -111,7 +111,7 @@ impl ChunkSink {
     pub(crate) fn next<O: Outs>(&mut self, outs: &mut O) -> Result<(), Fault>
         requires ready { IsAimed (seen_sink self.old).aim (O.slots outs.old) }
         requires fits { (seen_sink self.old).place + 1 < 2 ^ 64 }
-        ensures sends { Changes O.told (seen_sink self.old) with_full (O.slots outs.old) (O.slots outs.new)
+        ensures changes { Changes O.told (seen_sink self.old) with_full (O.slots outs.old) (O.slots outs.new)
             (seen_sink self.new) (fault_in result) }
         ensures place { (seen_sink self.new).place ≡ (seen_sink self.old).place + 1 }
     {

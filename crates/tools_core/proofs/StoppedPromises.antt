@@ -48,7 +48,7 @@ use Rattle.tools_core.specs.{
   About.{TellsText, no_text, text_cut, text_whole},
   Outcome.{refuser, speaker, word_of},
   Tasks.{by, names_of, speaker_of, tool_of},
-  Promises.{BrokeAt, Completes, Does, HasGone, HasLong, IsCalled, IsCopied, IsGone, IsSilent, IsUnread, IsStopped},
+  Promises.{BrokeAt, Completes, Does, HasGone, HasLong, IsCalled, IsCopied, IsGone, IsSilent, LostReader, IsStopped},
   Promises.{IsTask, IsUnstopped, Ran, Run, SaysLines, SaysWhy, StopsRun, Tells, TellsMet, WhyBroken, broken_off},
   Promises.{failing, named, removes_files},
 }
@@ -211,7 +211,7 @@ silent_by run task asked of own gone is = (grind (arith, common_steps), gone, is
 record IsQuietly (run : Run) (asked : Settings) : Type 0 where
   pub silent : IsSilent run asked
   pub broke : (place : ℕ) → (place ≡ 1 → ⊥) → (slot_at run.outputs place).is_broken ≡ true
-      → IsUnread run place ⊎ (IsToldOf run asked place ⊎ IsStuck (removes_files asked) run.outputs place)
+      → LostReader run place ⊎ (IsToldOf run asked place ⊎ IsStuck (removes_files asked) run.outputs place)
 
 -- nothing stopped it, or something did, or nothing is said
 abbrev Unless : Run → Settings → Type 0 → Type 0
@@ -516,7 +516,7 @@ why_broken (inr (removes, closed, gone)) = search rules
 -- where no fault stopped the run, only files that were to be removed are broken
 pub is_broken : (run : Run) (asked : Settings) (place : ℕ) → Ran run asked → (place ≡ 1 → ⊥)
     → (slot_at run.outputs place).is_broken ≡ true → ((run.status ≡ 1) × WhyBroken run asked place)
-    ⊎ (IsSilent run asked × (IsUnread run place ⊎ WhyBroken run asked place))
+    ⊎ (IsSilent run asked × (LostReader run place ⊎ WhyBroken run asked place))
 is_broken run asked place ran differs broken = elim (ran_so ran) [
   | inl whole ↦
       let all = completes_left whole in

@@ -40,7 +40,7 @@ use Rattle.tee_core.specs.{
 use Rattle.words_core.specs.{TeeWords.TeeAsked, declared.settings.Settings.{Settings, TheVariants.Tee}}
 use Rattle.tools_core.{
   specs.{
-    Promises.{BeginsAs, BrokeAt, EndsWithBreak, HasGone, HasUpTo, IsCalled, IsUnread, OneIs, Ran, Run, SaysLines},
+    Promises.{BeginsAs, BrokeAt, EndsWithBreak, HasGone, HasUpTo, IsCalled, LostReader, OneIs, Ran, Run, SaysLines},
     Promises.{StopsRun, Tells, TellsMet, failing},
     Tasks.speaker_of,
   },
@@ -273,9 +273,10 @@ module _ (run : Run) (asked : TeeAsked) {mode : Mode} {pieces names : List (List
 
   -- an output that is broken lost its reader, or was told
   pub tee_broke : (place : ℕ) → (place ≡ 1 → ⊥) → (slot_at run.outputs place).is_broken ≡ true
-      → IsUnread run place ⊎ IsToldAt place
+      → LostReader run place ⊎ IsToldAt place
   tee_broke place differs broken = by (broke_at (first ∷ broke) (number_of place)) refl where
-    by : (when : Option Break) → broke_at (first ∷ broke) (number_of place) ≡ when → IsUnread run place ⊎ IsToldAt place
+    by : (when : Option Break) → broke_at (first ∷ broke) (number_of place) ≡ when
+        → LostReader run place ⊎ IsToldAt place
     by None is = absurd (false≢true (sym (rw is at (left_at_place place differs)) ∙ broken))
     by (Some one) is =
         let here = has_broken place differs is in

@@ -470,12 +470,12 @@ pub record IsChunkAsShown (run : Run) (asked : SplitAsked) (place : ℕ) (chunks
   pub failed : has_ended chunks (length shown) bytes place ≡ false → run.status ≡ 1
 
 -- the output at this place broke, if it did, since nobody reads it any more
-abbrev pub IsUnread : Run → ℕ → Type 0
-IsUnread run place = (slot_at run.outputs place).reason ≡ reason.Gone
+abbrev pub LostReader : Run → ℕ → Type 0
+LostReader run place = (slot_at run.outputs place).reason ≡ reason.Gone
 
 -- an output broke since nobody reads it any more
 abbrev pub HasGone : Run → Type 0
-HasGone run = (place : ℕ) × (place ≡ 1 → ⊥) × ((slot_at run.outputs place).is_broken ≡ true) × IsUnread run place
+HasGone run = (place : ℕ) × (place ≡ 1 → ⊥) × ((slot_at run.outputs place).is_broken ≡ true) × LostReader run place
 
 -- A reader may be gone of which nothing is said, by a tool's own name: the status tells it. `tee` may go on without it,
 -- where its words or how it was called ask for that.

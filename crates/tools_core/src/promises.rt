@@ -28,7 +28,7 @@ ghost use Rattle.tools_core.specs.{
   Promises.{AreChunks, AreCopies, AreDealt, AreLinePieces, AreListed, AreNumbered, ArePieces, AreSections},
   Promises.{AreUncut, BeginsEach, Completes, CountAlike, Does, AsksToFollow, EndsWithBreak, FindAlike},
   Promises.{Follows, GivesOther, HasInput, HasLong, IsBare, IsChunkAsShown, IsCutAsShown, IsHead, IsOfProgram},
-  Promises.{IsSilent, IsUnread, IsStopped, IsTail, SaysWhy, LeaveAlike, OnlyGrows, Ran, Run, SkipNothing, Splits},
+  Promises.{IsSilent, LostReader, IsStopped, IsTail, SaysWhy, LeaveAlike, OnlyGrows, Ran, Run, SkipNothing, Splits},
   Promises.{WhyBroken, contents_of, files_of, lines_telling, makes_files, output_of, showing, text_at},
   Tasks.is_plus,
 };
@@ -188,10 +188,11 @@ pub fn csplit_loses_nothing()
 /// Nothing after a fault but a beginning. Whatever a run met over its inputs, standard output and each file have a beginning of
 /// what they have after a run that no fault stopped, which is asked for the same, over the same inputs. There is such a run,
 /// unless operands of `csplit` are wrong or an input has more than any tool takes. A run whose status is 1 told a fault that it
-/// met, as far as standard error takes lines, and each line tells one. So it did where standard output or a file broke: that it
-/// can't be written, or not be opened, is told by its name, unless its reader is gone and the run may be silent on that. That a file of
-/// `csplit` couldn't be removed need not be told, nor then what broke it before; each other file of that run is gone, or broken
-/// too.
+/// met, as far as standard error takes lines, and each line tells one. So it did where standard output or a file broke: its
+/// status is 1, and a line with the output's name says that it can't be opened or written. Where the run may be silent on a
+/// gone reader, the status may be another, and an output need not be told that lost its reader; any other is told all the
+/// same. That a file of `csplit` couldn't be removed need not be told, nor then what broke it before; each other file of that
+/// run is gone, or broken too.
 pub fn faults_leave_a_beginning()
     ensures begins { (run well : Run) (asked : Settings) → Ran run asked → Completes well asked → FindAlike run well
         → BeginsEach run well }
@@ -200,7 +201,7 @@ pub fn faults_leave_a_beginning()
     ensures says { (run : Run) (asked : Settings) → Ran run asked → run.status ≡ 1 → SaysWhy run asked }
     ensures broken { (run : Run) (asked : Settings) (place : ℕ) → Ran run asked → (place ≡ 1 → ⊥)
         → (slot_at run.outputs place).is_broken ≡ true → ((run.status ≡ 1) × WhyBroken run asked place)
-        ⊎ (IsSilent run asked × (IsUnread run place ⊎ WhyBroken run asked place)) }
+        ⊎ (IsSilent run asked × (LostReader run place ⊎ WhyBroken run asked place)) }
 {}
 
 /// `tail -f` tells all, once. Of one file that only grows, where no header is written, it writes the last lines or bytes that

@@ -59,7 +59,7 @@ pub record GoesPast (suppress : Bool) (lines : List Line) (state : State) (match
   pub from : state.current ≤ cut
   pub within : cut ≤ length lines
 
--- what an attempt says of the plan: it ends here, or has one more step
+-- an attempt agrees with the plan: it ends here, or has one more step
 abbrev pub AgreesWithPlan : Bool → List Line → State → Attempt → Type 0
 AgreesWithPlan suppress lines state (Cuts matched line) = GoesPast suppress lines state matched line
 AgreesWithPlan suppress lines state attempt = EndsHere suppress lines state attempt

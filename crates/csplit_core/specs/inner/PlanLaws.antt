@@ -6,7 +6,7 @@ use Rattle.std.specs.{
 use Rattle.csplit_core.specs.{
   Operand.{Operand, Line, Target, Number, Search, is_kept, most_held},
   Plan.{IsFirst, MatchesNone, State, Step, Ending, Runs, used_up, missed, above, below, CutsAt, Misses},
-  Planned.{Plan, Attempt, ends, goes, attempt, ended, with_step, plan_within, plan},
+  Planned.{Plan, PlannedAttempt, ends, goes, attempt, ended, with_step, plan_within, plan},
   Section.{Section, settled_end},
 }
 
@@ -15,7 +15,7 @@ MatchesAs operand lines from None = MatchesNone operand lines from
 MatchesAs operand lines from (Some line) = IsFirst operand lines from line
 
 -- the steps after an attempt
-abbrev pub after : ℕ → Bool → List Line → State → Attempt → Plan
+abbrev pub after : ℕ → Bool → List Line → State → PlannedAttempt → Plan
 after bound suppress lines state attempt = elim attempt [
   | ends ending ↦ ended state ending
   | goes step next ↦ with_step step (plan_within bound suppress lines next)

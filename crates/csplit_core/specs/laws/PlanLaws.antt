@@ -9,7 +9,7 @@ use Rattle.csplit_core.specs.{
   Operand.{Operand, Line, is_match, Offset, Target, Number, Search, has_more},
   Plan.{State, search_line, start, Step, Ending, used_up, missed, above, below, CutsAt, Misses, line_after},
   Plan.{operands_after, repetition_after, state_after, step_of, Runs, is_used_up, misses, is_above, is_below, cuts},
-  Planned.{first_among, first_match, ends, goes, attempt, Attempt, attempt_at, attempt_from, attempt_to, attempt_of},
+  Planned.{first_among, first_match, ends, goes, attempt, PlannedAttempt, attempt_at, attempt_from, attempt_to, attempt_of},
   Planned.{ended, with_step, plan_within, plan},
   inner.PlanLaws.{MatchesAs, after, left_of, needed_by, needed, so, RunsAs},
   Measure.Moves,
@@ -167,40 +167,40 @@ computed {suppress} {lines} all end (cuts state operand operands matched cut ste
     (length lines) state = search (rules, fewer) in omega arith)
     (omega (arith, line_some suppress cut)))
 
--- What an attempt says of the plan: it ends here, or any plan goes on after one more step, and there is less to do.
-abbrev Attempted : Bool → List Line → State → Attempt → Type 0
+-- An attempt agrees with the plan: it ends here, or any plan goes on after one more step, and there is less to do.
+abbrev Attempted : Bool → List Line → State → PlannedAttempt → Type 0
 Attempted suppress lines state (ends ending) = Runs suppress lines state [] state ending
 Attempted suppress lines state (goes step next) = (needed (length lines) next < needed (length lines) state)
     × (1 ≤ next.current) × ((steps : List Step) (last : State) (ending : Ending)
     → Runs suppress lines next steps last ending → Runs suppress lines state (step ∷ steps) last ending)
 
 module _ (suppress : Bool) (lines : List Line) (state : State) (some : 1 ≤ state.current) where
-  turned_at : {operand : Operand} {operands : List Operand} → state.operands ≡ operand ∷ operands → (matched cut : ℕ)
+  attempted_at : {operand : Operand} {operands : List Operand} → state.operands ≡ operand ∷ operands → (matched cut : ℕ)
       → CutsAt suppress lines state operand operand.target matched cut → (far low : Bool)
       → nat_lt (length lines) cut ≡ far → nat_lt cut state.current ≡ low → Attempted suppress lines state
       (cond far (ends (above operand state.repetition matched cut)) (cond low (ends (below operand state.repetition))
       (goes (step_of state operand matched cut) (state_after suppress operand operands state.repetition matched cut))))
-  turned_at is matched cut at far low far_is low_is =
+  attempted_at is matched cut at far low far_is low_is =
       search (rules, is_above, is_below, cuts, fewer, line_some, from_less, from_not_less)
 
-  turned_from : {operand : Operand} {operands : List Operand} → state.operands ≡ operand ∷ operands
+  attempted_from : {operand : Operand} {operands : List Operand} → state.operands ≡ operand ∷ operands
       → {pattern' : Pattern} {kept : Bool} (offset : Offset) → operand.target ≡ Search pattern' kept offset
       → (matched : Option ℕ) → MatchesAs operand lines (search_line suppress state) matched
       → Attempted suppress lines state (attempt_from suppress (length lines) state operand operands offset matched)
-  turned_from is offset target None none = misses state _ _ is
+  attempted_from is offset target None none = misses state _ _ is
       (search rules)
-  turned_from is offset target (Some matched) first = search (rules, turned_at)
+  attempted_from is offset target (Some matched) first = search (rules, attempted_at)
 
-  turned_to : {operand : Operand} {operands : List Operand} → state.operands ≡ operand ∷ operands → (target : Target)
+  attempted_to : {operand : Operand} {operands : List Operand} → state.operands ≡ operand ∷ operands → (target : Target)
       → operand.target ≡ target
       → Attempted suppress lines state (attempt_to suppress lines state operand operands target)
-  turned_to is (Number n) target = search (rules, turned_at)
-  turned_to is (Search pattern' kept offset) target = search (rules, turned_from, first_match_as, search_some)
+  attempted_to is (Number n) target = search (rules, attempted_at)
+  attempted_to is (Search pattern' kept offset) target = search (rules, attempted_from, first_match_as, search_some)
 
-  turned_of : (operands : List Operand) → state.operands ≡ operands
+  attempted_of : (operands : List Operand) → state.operands ≡ operands
       → Attempted suppress lines state (attempt_of suppress lines state operands)
-  turned_of [] is = is_used_up state is
-  turned_of (operand ∷ operands) is = turned_to is operand.target refl
+  attempted_of [] is = is_used_up state is
+  attempted_of (operand ∷ operands) is = attempted_to is operand.target refl
 
 none_by : (suppress : Bool) (lines : List Line) (state : State) (operands : List Operand) → state.operands ≡ operands
     → needed_by (length lines) state operands ≤ 0 → RunsAs suppress lines state (ended state used_up)
@@ -215,7 +215,7 @@ runs (suc bound) suppress lines state enough some =
     → RunsAs suppress lines state (after bound suppress lines state attempt)) [
       | ends ending ↦ λ is. is
       | goes step next ↦ λ is. is.2 _ _ _ (runs bound suppress lines next (omega arith) is.1)
-    ]) (search (rules, turned_of))
+    ]) (search (rules, attempted_of))
 
 pub runs_on : (suppress : Bool) (lines : List Line) (state : State) → 1 ≤ state.current
     → RunsAs suppress lines state (plan_within (needed (length lines) state) suppress lines state)

@@ -14,7 +14,7 @@ abbrev pub begun : Option ℕ → List Node → List Node
 begun None nodes = Back 0 ∷ nodes
 begun (Some high) nodes = nodes
 
--- a duplication's item may stand from its place on among `size` nodes, and its bounds are in order
+-- a duplication's item has begun: it may stand from its place on among `size` nodes, and its bounds are in order
 abbrev pub HasBegun : Option ℕ → ℕ → ℕ → ℕ → Type 0
 HasBegun None low start size = start < size
 HasBegun (Some high) low start size = (start ≤ size) × (low ≤ high) × (0 < high)

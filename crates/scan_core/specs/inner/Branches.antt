@@ -12,7 +12,7 @@ Opens AtFront at_first at_last = IsTrue at_first
 Opens AtEnd at_first at_last = IsTrue at_last
 Opens Always at_first at_last = Unit {0}
 
--- all that a number leads to
+-- the branch of a number is all that it leads to
 pub record IsBranch (code : List Node) (number : ℕ) (branch : Branch) : Type 0 where
   pub one : branch.one ≤ length code
   pub other : branch.other ≤ length code

@@ -74,7 +74,7 @@ pub record Brings (told : Bool) (on : Course) (aim next : AimState) (low high : 
   pub reaches : (before : List Slot) → AtAim told aim before low old
       → IsThere (output_on on) told (AtAim told next before high new) before low high new fault
 
--- The same of what is written of two texts that are cut up; then it can have been given the second.
+-- The same of what is written of two texts that are cut up; without a fault it can have been given the second then.
 pub record Gives (told : Bool) (on : Course) (sink next : SinkState) (from to : CutUp) (old new : List Slot)
     (fault : Option Fault) : Type 0 where
   pub brings : Brings told on sink.aim next.aim (part_on on from) (part_on on to) old new fault

@@ -1,5 +1,5 @@
--- What each limit cuts off, and what the next bytes of a piece do to the part that was begun. Laws that a trait cites go
--- by these, and so does all else that is proved of parts: none of it has a case for a limit.
+-- What each limit cuts off, and what the next bytes of a piece do to the part that was begun. Laws that a trait cites
+-- go by these, and so does what is proved of parts under any limit: none of it has a case for one.
 use Rattle.std.{
   proofs.{
     Common.{Bool, List, [], ap, append_assoc, arith, drop, false, inl, inr, length, length-append, length-drop, max},

@@ -8,12 +8,12 @@ places-init g c = ends_none c.requires.ready
 
 pub places-preserved : goal.places-preserved
 places-preserved g c = ends_next c.requires.whole c.places.invariant (omega arith)
-    (omega arith) refl refl refl c.in_ok-next.ensures.place c.in_ok-next.ensures.sends
+    (omega arith) refl refl refl c.in_ok-next.ensures.place c.in_ok-next.ensures.changes
 
 pub returns-in_err-next : goal.returns-in_err-next
 returns-in_err-next g c = rw (handed_on _ _ c.from_residual.ensures.1)
     (ends_stopped c.requires.whole c.places.invariant (omega arith)
-    (omega arith) refl refl refl c.in_err-next.ensures.sends)
+    (omega arith) refl refl refl c.in_err-next.ensures.changes)
 
 pub returns-else-chunk_start-self : goal.returns-else-chunk_start-self
 returns-else-chunk_start-self g c = ends_so c.requires.whole c.places.invariant
