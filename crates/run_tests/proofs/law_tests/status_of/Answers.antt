@@ -19,6 +19,6 @@ returns c asked read only =
     weaker c.ran.result _ (λ status. (slot_at c.ran.new.outs 0).is_broken ≡ true → status ≡ 1)
     (λ status (one, ran, has, called, words, outs, is) broken. elim (c.faults_leave_a_beginning.ensures.broken one (Head asked) 0 ran (λ at. omega (arith, at)) (ap (λ slots. (slot_at slots 0).is_broken) outs ∙ broken)) [
       | inl failed ↦ sym is ∙ failed.0
-      | inr silent ↦ absurd (not_both one.calling called silent.0)
+      | inr silent ↦ absurd (not_both one.calling called silent.0.0)
     ])
     (c.ran.ensures (Head asked) read only refl)
