@@ -100,7 +100,8 @@ abbrev pub first_progress : Progress
 first_progress = record { done = 0; repetition = 0; current = 1; matched = 0 }
 
 abbrev SaysFirst : Bool → List Operand → Attempt → Type 0
-SaysFirst suppress operands attempt = (lines : List Line) → AreSeen suppress lines 0 (start operands) false → AgreesWithPlan suppress lines (start operands) attempt
+SaysFirst suppress operands attempt = (lines : List Line) → AreSeen suppress lines 0 (start operands) false →
+    AgreesWithPlan suppress lines (start operands) attempt
 
 first_ends : {suppress : Bool} (operands : List Operand) {attempt : Attempt} → SaysFirst suppress operands attempt
     → MovesOn operands 0 first_progress attempt → EndsHere suppress [] (start operands) attempt

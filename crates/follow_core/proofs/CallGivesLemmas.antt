@@ -19,7 +19,7 @@ use Rattle.follow_core.specs.{
   Telling.Tells,
   Printing.{PrinterState, broke as short_broke, no_room},
   declared.{notice.Notice.Notice, visitor.Stop.{Stop, TheVariants.{Broke, Over}}},
-  inner.Giving.{IsFront, ArePut, BrokeAt, Came, CanGoOn, Copies, GivesDue, Follows, IfBroke, Keeps, HoldsMany, Noted},
+  inner.Giving.{IsFront, ArePut, FromThere, BrokeAt, Came, CanGoOn, Copies, GivesDue, Follows, IfBroke, Keeps, HoldsMany, Noted},
   inner.Giving.{Puts, WereFound, fault_by, found_all, found_before, found_begun, over_by},
   inner.Visits.KeepsOthers,
   Standing.IsLong,
@@ -347,6 +347,13 @@ pub some_read : (contents : List ℕ) {at len n : ℕ} {old new : List ℕ} → 
     → 0 < length old → GaveFrom contents at old new n → ⊥
 some_read contents {at} size below none room gave = grind (arith, common_steps, length-drop)
 
+-- what was copied is what a read gave of the open file, from there on
+abbrev read_there : {snapshot : Snapshot} (known : Watched) {from : ℕ} (at : ℕ) {bytes : List ℕ}
+    → AreRead snapshot known.name known.opened from bytes at
+    → IsRead (FromThere known.opened from) snapshot known.name bytes
+read_there known {from} at read =
+    record { file = known.opened; from = from; end = at; begins = (refl, refl); read = read }
+
 module _ {told_in told : Bool} {snapshot : Snapshot} {name : List ℕ} {from place : ℕ} {watched : List Watched}
     {printer : PrinterState} {slots : List Slot} where
   pub copies_all : (at : ℕ) {watched_new : List Watched} {after : PrinterState} {slots_new : List Slot}
@@ -365,13 +372,7 @@ module _ {told_in told : Bool} {snapshot : Snapshot} {name : List ℕ} {from pla
       are = λ t. ap (λ bytes. gives bytes ∷ []) (copied.puts.are ∙ copied.are t ∙ all t);
       found = found_all (
         record {
-          is = record {
-            file = (watched_at watched place).opened;
-            from = from;
-            end = at;
-            begins = (refl, refl);
-            read = rw copied.puts.are copied.read;
-          };
+          is = read_there (watched_at watched place) at (rw copied.puts.are copied.read);
           ends = grind (arith, common_steps);
         },
         tt,
@@ -396,13 +397,7 @@ module _ {told_in told : Bool} {snapshot : Snapshot} {name : List ℕ} {from pla
       are = λ t. grind (arith, common_steps, length-drop, copied.puts.are, copied.are t);
       found = found_before can (
         record {
-          is = record {
-            file = (watched_at watched place).opened;
-            from = from;
-            end = at;
-            begins = (refl, refl);
-            read = rw copied.puts.are copied.read;
-          };
+          is = read_there (watched_at watched place) at (rw copied.puts.are copied.read);
           ends = inr (inr refl);
         },
         tt,
@@ -422,13 +417,7 @@ module _ {told_in told : Bool} {snapshot : Snapshot} {name : List ℕ} {from pla
       events = gives copied.puts.bytes ∷ [];
       are = λ t. begins_bytes (longer copied.puts.bytes (at - from) copied.puts.are (copied.are t));
       found = found_begun (gives copied.bytes ∷ []) (begins_bytes copied.puts.are) (
-        record {
-          file = (watched_at watched place).opened;
-          from = from;
-          end = at;
-          begins = (refl, refl);
-          read = copied.read;
-        },
+        read_there (watched_at watched place) at copied.read,
         tt,
       );
       came = one_event copied.puts.came;

@@ -80,7 +80,8 @@ turns_on watch worlds same =
     let next : watch.turns + 1 ≡ suc watch.turns = omega arith in
     rw (next) (seen_same watch.forgives watch.within worlds watch.worlds (suc watch.turns) same
     ∙ ap (λ n. seen watch ++ waiting watch.within (shown watch.forgives (world_at watch.worlds n)) ∷ [])
-    (let count : length (seen watch) ≡ watch.turns = length-seen watch.forgives watch.within watch.worlds watch.turns in let more : suc watch.turns ≡ length (seen watch) + 1 = omega arith in more))
+    (let count : length (seen watch) ≡ watch.turns = length-seen watch.forgives watch.within watch.worlds
+    watch.turns in let more : suc watch.turns ≡ length (seen watch) + 1 = omega arith in more))
 
 -- what is seen of files whether that is forgiven or not
 

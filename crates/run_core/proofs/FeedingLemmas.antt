@@ -237,7 +237,8 @@ module _ {S : Type 0} (terms : Terms S) where
       → EndsSo terms told start fed old new result
       → FedAs told before (terms.work start.stage) opening most empty (λ call. Unit {0}) new result
   closed_at_start laws told {start} {old = old} {fed = fed} holds bound begun got ends =
-      let begins : Feeds terms told start start [] old old = record { same = refl; holds = holds; owns = λ first own. own; outputs = λ before begun. begun.1; bound = bound } in
+      let begins : Feeds terms told start start [] old old = record
+      { same = refl; holds = holds; owns = λ first own. own; outputs = λ before begun. begun.1; bound = bound } in
       ended begins laws (λ call. Unit {0}) begun got (got_all fed got) (alike_itself) (inl refl) tt ends
 
   -- an input that ended, or was enough, didn't break off

@@ -190,7 +190,8 @@ exact_both {a} {b} e f = let size = length-append a b in record {
   complete = λ from to k.
       let p = e.complete from k.0 k.1 in
       let q = f.complete k.0 to k.2 in
-      let first = walk_in a (a ++ b) _ 0 (λ n node h. at_at (a ++ b) node (omega arith) (at-left a b n node h)) p.0 0 from (length a) k.0 (omega arith) (omega arith) p.1 in
+      let first = walk_in a (a ++ b) _ 0 (λ n node h. at_at (a ++ b) node (omega arith) (at-left a b n node h))
+      p.0 0 from (length a) k.0 (omega arith) (omega arith) p.1 in
       walk_on (a ++ b) _ _ (length a) k.0 first (walk_in b (a ++ b) _ (length a) (at-right a b) q.0 0 k.0 (length b) to (omega arith) size q.1);
 }
 
@@ -309,7 +310,8 @@ module _ {code : List Node} {line : List ℕ} {Kind : ℕ → ℕ → Type 0} (e
           let p = e.complete from to k in
           let inside = walk_in code (starred code) line 1 (λ n node h. at-right (Choose (length code + 2) ∷ []) (code ++ Back (length code + 1) ∷ []) n node
           (at-left code (Back (length code + 1) ∷ []) n node h)) p.0 0 from (length code) to refl refl p.1 in
-          let last = at_at (starred code) (Back (length code + 1)) (omega arith) (at-right (Choose (length code + 2) ∷ code) (Back (length code + 1) ∷ []) 0 _ refl) in
+          let last = at_at (starred code) (Back (length code + 1)) (omega arith)
+          (at-right (Choose (length code + 2) ∷ code) (Back (length code + 1) ∷ []) 0 _ refl) in
           path_on (starred code) (1, (1, from, (Choose (length code + 2), refl, (inl refl, refl)), (refl, refl)))
           (path_on (starred code) (p.0, inside) (1, (0, to, (Back (length code + 1), last, (omega arith, refl)), (refl, refl))))
 

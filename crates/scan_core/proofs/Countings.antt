@@ -225,7 +225,13 @@ sum_bits (suc count) {weight} {word} counts rest small exact =
     let r = sum_bits count (counts / 2) rest half (λ bit l. sym (bit_at-suc counts bit) ∙ exact (suc bit) (omega arith)) in
     let step = ones_step (bit_and word counts) in
     let shr : bit_and word counts / 2 ≡ bit_and (word / 2) (counts / 2) = and_shr word counts 1 in
-    omega (arith, ap count_ones shr, weight_bit word counts (exact 0 (omega arith)), sum_same (λ n. weight (suc (count + n))) (λ n. weight (suc count + n)) (λ n. ap weight (omega arith)) rest)
+    omega (
+      arith,
+      ap count_ones shr,
+      weight_bit word counts (exact 0 (omega arith)),
+      sum_same
+          (λ n. weight (suc (count + n))) (λ n. weight (suc count + n)) (λ n. ap weight (omega arith)) rest,
+    )
   where
     halved : (k n : ℕ) → n < 2 ^ suc k → n / 2 < 2 ^ k
     halved k n h = omega arith

@@ -103,7 +103,12 @@ one_of (inr a) = a
 
 pub way_is : {code : List Node} {number : ℕ} (node : Node) → IsCode code → At code number node
     → IsBranch code number (way_at node number)
-way_is (Take bytes) c here = record { one = omega arith; other = omega arith; exact = λ at_first at_last to. (λ f. absurd (flows_of _ _ here f), λ o. absurd o.0) }
+way_is (Take bytes) c here = record {
+  one = omega arith;
+  other = omega arith;
+  exact =
+      λ at_first at_last to. (λ f. absurd (flows_of _ _ here f), λ o. absurd o.0);
+}
 way_is {code} First c here = let l = at_least code _ First here in record {
   one = omega arith;
   other = omega arith;

@@ -208,7 +208,18 @@ pub building_more : {code : List Node} {most place read : ℕ} {old new : Buildi
     → IsBuilding code most (place + 1) new
 building_more {code} {place} {old} {new} l es ew er =
     let b = l.so_far.built in
-    rw es (record { built = record { some = b.some; front = b.front; going = b.going; told = each_more b.told l.tells er }; room = l.so_far.room; size = ap (λ w. length w.items) ew ∙ l.so_far.size; order = omega arith })
+    rw es (record {
+      built = record {
+        some = b.some;
+        front = b.front;
+        going = b.going;
+        told = each_more b.told
+            l.tells er;
+      };
+      room = l.so_far.room;
+      size = ap (λ w. length w.items) ew ∙ l.so_far.size;
+      order = omega arith;
+    })
 
 -- a set that a line's front has
 pub front_built : {code : List Node} (words : List ℕ) {sets : List (List Bool)} → length words ≡ width code

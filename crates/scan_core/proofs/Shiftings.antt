@@ -244,7 +244,8 @@ walked_stay {code} {sets} (suc more) {place} {state} t w h b s =
     let before = walked_stay more t w (omega (arith, h)) b (λ k l u. s k l (omega (arith, u))) in
     let e : place + suc more ≡ suc (place + more) = omega arith in
     rw e (walked_more before (omega arith) t (b (place + more) (omega arith))
-    (sym (s (place + more) (omega arith) (omega arith))) (omega (arith, w.known, t.most)) (omega (arith, mul-suc (positions_among code (set_at sets state)) more)))
+    (sym (s (place + more) (omega arith) (omega arith))) (omega (arith, w.known, t.most))
+    (omega (arith, mul-suc (positions_among code (set_at sets state)) more)))
 
 -- what is entered after a byte is entered also where the line ends there
 entered_there : (code : List Node) {line : List ℕ} {place number : ℕ} → place < length line
@@ -457,14 +458,15 @@ module _ {code : List Node} {table : Table} {line : List ℕ} {place state steps
           o.stop (λ l. absurd (omega arith)),
           state_over (more_steps _ (a.over same)) (omega (arith, w.stop (ap (λ n. 6 * n) same))),
         )
-    | inl below ↦ let light = weight_small t w refl below in elim (cases_lt (entry table.rows.items state (slice_index line place)) (length table.states.items)) [
-      | inl less ↦ (
-        entry table.rows.items state (slice_index line place),
-        o.next below less,
-        state_going b below less (w.exact state below refl) light,
-      )
-      | inr more ↦ (length table.states.items, o.stop (λ l. more), state_over (state_ends (w.exact state below refl) c b below more) light)
-    ]
+    | inl below ↦ let light = weight_small t w refl below in elim
+        (cases_lt (entry table.rows.items state (slice_index line place)) (length table.states.items)) [
+          | inl less ↦ (
+            entry table.rows.items state (slice_index line place),
+            o.next below less,
+            state_going b below less (w.exact state below refl) light,
+          )
+          | inr more ↦ (length table.states.items, o.stop (λ l. more), state_over (state_ends (w.exact state below refl) c b below more) light)
+        ]
   ]
 
 pub at_moved : {code : List Node} {shifts : ShiftTable} {line : List ℕ} {place place' : ℕ} (word : ℕ) {steps steps' : ℕ}

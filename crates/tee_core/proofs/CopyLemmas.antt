@@ -159,7 +159,8 @@ module _ {told : Bool} {calling : Calling} {on_broken : OnBroken} {fault : Fault
       → Telling told calling on_broken fault names before (n + 1) old new (set known n standing)
   tells_next other {new} {name} {standing} names_many many within named sees says quiet =
       record {
-        said = rw step (cond_both (tells on_broken (get_or known n other) standing) (message_of fault name ∷ []) [] (λ more. SaysTo told calling (messages ++ more) old new)
+        said = rw step (cond_both (tells on_broken (get_or known n other) standing)
+            (message_of fault name ∷ []) [] (λ more. SaysTo told calling (messages ++ more) old new)
             (λ is. let (why, said) = says is in says_too told calling messages (message_of fault name) now new has so_far.said said)
             (λ is. rw (append-nil messages, quiet is) so_far.said));
         seen = seen_next n before (standings_of old) within (standings_are ∙ sym many) so_far.seen (sees ∙ here);
@@ -564,7 +565,8 @@ piece_said {on_broken = on_broken} {names} {pieces} piece some copies next says 
       ∙ sym (append-nil _) ∙ ap (λ call. said_before on_broken (suc call) (output_names names) (next.first ∷ next.broke) ++ []) one_more_call) at
       (said_after copies next says);
   known_are = (stood next.marked).3;
-  goes_on = ap (λ call. is_done on_broken (standings_before call (next.first ∷ next.broke))) (sym one_more_call) ∙ ap (is_done on_broken) ((stood next.marked).1 ∙ sym copies.known_are) ∙ some;
+  goes_on = ap (λ call. is_done on_broken (standings_before call (next.first ∷ next.broke)))
+      (sym one_more_call) ∙ ap (is_done on_broken) ((stood next.marked).1 ∙ sym copies.known_are) ∙ some;
   are_known = ap (λ call. standings_before (suc call) (next.first ∷ next.broke)) (sym one_more_call) ∙ (stood next.marked).2;
 } where
   one_more_call : suc (length pieces) ≡ length (pieces ++ piece ∷ [])
@@ -585,7 +587,9 @@ copies_said {told} {calling} {on_broken = on_broken} {names} {pieces} {messages}
   output_has = copies.output_has;
   files_have = copies.files_have;
   said = rw (append-nil _) at
-      (says_after told (tee_called calling) (said_before on_broken (suc (length pieces)) (output_names names) (copies.first ∷ copies.broke) ++ []) messages standard_error copies.error says.0 copies.said (rw (ap (λ those. slot_at those 1) copies.are) at says.1));
+      (says_after told (tee_called calling) (said_before on_broken (suc (length pieces)) (output_names names)
+      (copies.first ∷ copies.broke) ++ []) messages standard_error copies.error says.0 copies.said
+      (rw (ap (λ those. slot_at those 1) copies.are) at says.1));
   known_are = copies.known_are;
   goes_on = copies.goes_on;
   are_known = copies.are_known;

@@ -150,7 +150,8 @@ module _ (before after : List Chosen) (word : ℕ) where
       → asked_by by asked with_it ≡ asked_by by asked (before ++ after)
   left_out {A} by asked same =
       let step : A → Chosen → A = λ asked option. by asked option.choice in
-      fold-append step asked before (it ∷ after) ∙ ap (λ those. asked_by by those after) (same (asked_by by asked before)) ∙ sym (fold-append step asked before after)
+      fold-append step asked before (it ∷ after) ∙ ap (λ those. asked_by by those after)
+      (same (asked_by by asked before)) ∙ sym (fold-append step asked before after)
 
   no_way : filter is_way with_it ≡ filter is_way (before ++ after)
   no_way = grind (arith, common_steps)

@@ -162,7 +162,8 @@ module _ (rows : List OptionRow) where
 
   say_more : (letter : ℕ) (letters options : List ℕ) {unit : Measured × ℕ} {units : ℕ} → IsOther letter
       → Say letters options unit units → Say (letter ∷ letters) (letter ∷ options) unit units
-  say_more letter letters options is (digit, unit, same, known, units) = (rw is.1 refl, rw is.0 unit, λ place. rw (same place) refl, rw known refl, rw is.0 units)
+  say_more letter letters options is (digit, unit, same, known, units) =
+      (rw is.1 refl, rw is.0 unit, λ place. rw (same place) refl, rw known refl, rw is.0 units)
 
   say_lines : (letters : List ℕ) → AreOthers letters → Say letters letters (Lines, 1) 0
   say_lines [] are = (refl, refl, λ place. refl, refl, refl)

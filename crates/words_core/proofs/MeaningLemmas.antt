@@ -222,14 +222,17 @@ module _ (rows : List OptionRow) (place : ℕ) where
   mixed-gives (byte ∷ []) = (λ _. tt, inr refl, tt)
   mixed-gives (byte ∷ next ∷ rest) =
       let word : List ℕ = byte ∷ next ∷ rest in
-      either (GivesItself rows place word) (byte == 45) _ _ (either (GivesItself rows place word) (next == 45) _ _ (dashed-gives word rest) (cluster-gives word (next ∷ rest))) (λ _. tt, inr refl, tt)
+      either (GivesItself rows place word) (byte == 45) _ _ (either (GivesItself rows place word) (next == 45)
+      _ _ (dashed-gives word rest) (cluster-gives word (next ∷ rest))) (λ _. tt, inr refl, tt)
 
   pub meaning-gives : (state : State) (word : List ℕ) → GivesItself rows place word (meaning_of rows state place word)
   unfolding foremost
   meaning-gives (First calling kind letters) [] = (λ _. tt, inr refl, tt)
   meaning-gives (First calling kind letters) (byte ∷ text) =
       let word : List ℕ = byte ∷ text in
-      either (GivesItself rows place word) (byte == 45 && is_number text) _ _ (valued-gives word kind place text) (either (GivesItself rows place word) (byte == 45 && is_lettered rows letters text) _ _ (numbered-gives word Plain text)
+      either (GivesItself rows place word) (byte == 45 && is_number text) _ _
+      (valued-gives word kind place text) (either (GivesItself rows place word)
+      (byte == 45 && is_lettered rows letters text) _ _ (numbered-gives word Plain text)
       (either (GivesItself rows place word) (byte == 43 && is_start calling rows letters text) _ _ (numbered-gives word Plus text) (mixed-gives word)))
   meaning-gives Reading word = mixed-gives word
   meaning-gives (Awaiting kind option) word = valued-gives word kind option word

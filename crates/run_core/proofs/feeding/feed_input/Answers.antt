@@ -149,7 +149,13 @@ pieces-preserved g c =
       took = λ told. takes_more _ (so_far.took told) so_far.readable (c.in-Ok.ensures.bytes told) c.in-Ok.ensures.rest;
       last = λ told. needed_more so_far.fed c.read_part.new.buffer
           from_start
-          (omega (arith, ap (λ (source : Source). source.last) (changed_source _ _ _ _ so_far.readable c.in-Ok.ensures.rest), length-take-le c.in-Ok.n _ (c.in-Ok.ensures.bytes told).within));
+          (omega (
+            arith,
+            ap (λ (source : Source). source.last)
+                (changed_source _ _ _ _ so_far.readable c.in-Ok.ensures.rest),
+            length-take-le c.in-Ok.n _
+                (c.in-Ok.ensures.bytes told).within,
+          ));
       few = λ standard n spare. rw (← so_far.feeds.same)
           (c.wanted.ensures.few so_far.fed (take c.in-Ok.n c.read_part.new.buffer) c.feed.new.self.stage n so_far.feeds.holds.within
           going

@@ -26,13 +26,21 @@ say-requires g c =
 
 pub returns-in-Ok-Whole-clause-took : goal.returns-in-Ok-Whole-clause-took
 returns-in-Ok-Whole-clause-took g c so_far error opened at =
-    let (shown, says, fed) = c.in-Ok-Whole.ensures.fed in
-    (shown, says, of_source_too _ _ _ _ _ _ (λ content fed done. took_well _ _ _ _ _ _ _ _ so_far error _ _ _ _ _ at c.in_ok-put_header.ensures.ok (done refl) (inl c.in-Ok-Whole.field-0-is) fed) fed)
+    let (shown, says, fed) = c.in-Ok-Whole.ensures.fed in (
+      shown,
+      says,
+      of_source_too _ _ _ _ _ _ (λ content fed done. took_well _ _ _ _ _ _ _ _ so_far error _ _ _ _
+          _ at c.in_ok-put_header.ensures.ok (done refl) (inl c.in-Ok-Whole.field-0-is) fed) fed,
+    )
 
 pub returns-in-Ok-Enough-clause-took : goal.returns-in-Ok-Enough-clause-took
 returns-in-Ok-Enough-clause-took g c so_far error opened at =
-    let (shown, says, fed) = c.in-Ok-Enough.ensures.fed in
-    (shown, says, of_source_too _ _ _ _ _ _ (λ content fed done. took_well _ _ _ _ _ _ _ _ so_far error _ _ _ _ _ at c.in_ok-put_header.ensures.ok (done refl) (inr c.in-Ok-Enough.field-0-is) fed) fed)
+    let (shown, says, fed) = c.in-Ok-Enough.ensures.fed in (
+      shown,
+      says,
+      of_source_too _ _ _ _ _ _ (λ content fed done. took_well _ _ _ _ _ _ _ _ so_far error _ _ _ _
+          _ at c.in_ok-put_header.ensures.ok (done refl) (inr c.in-Ok-Enough.field-0-is) fed) fed,
+    )
 
 pub returns-in-Ok-Broken-clause-took : goal.returns-in-Ok-Broken-clause-took
 returns-in-Ok-Broken-clause-took g c so_far error opened at =
@@ -50,7 +58,8 @@ returns-in_default g c = record {
   took = λ so_far error opened at. let (shown, says, fed) = c.in-Err.ensures.fed in (
     shown,
     says,
-    of_source_too _ _ _ _ _ _ (λ content fed done. took_stopped _ _ _ _ _ _ _ _ so_far error _ _ _ _ _ at c.in_ok-put_header.ensures.ok c.in_default.not-Verdict fed) fed,
+    of_source_too _ _ _ _ _ _ (λ content fed done. took_stopped _ _ _ _ _ _ _ _ so_far error _ _ _ _ _ at
+        c.in_ok-put_header.ensures.ok c.in_default.not-Verdict fed) fed,
   );
   asked = c.in-Err.ensures.asked;
   others = c.in-Err.ensures.others;
@@ -59,5 +68,10 @@ returns-in_default g c = record {
 
 pub returns-in-Verdict-clause-took : goal.returns-in-Verdict-clause-took
 returns-in-Verdict-clause-took g c so_far error opened at =
-    let (shown, says, fed) = c.in-Err.ensures.fed in
-    (shown, says, of_source_too _ _ _ _ _ _ (λ content fed done. took_verdict _ _ _ _ _ _ _ _ so_far error _ _ _ _ _ at c.in_ok-put_header.ensures.ok (done (ap (λ fault. is_stop (Err fault)) c.in-Verdict.is)) (rw c.in-Verdict.is at fed) (rw (c.speaker.ensures, c.subject-subject.ensures) at c.say.ensures)) fed)
+    let (shown, says, fed) = c.in-Err.ensures.fed in (
+      shown,
+      says,
+      of_source_too _ _ _ _ _ _ (λ content fed done. took_verdict _ _ _ _ _ _ _ _ so_far error _ _
+          _ _ _ at c.in_ok-put_header.ensures.ok (done (ap (λ fault. is_stop (Err fault)) c.in-Verdict.is))
+          (rw c.in-Verdict.is at fed) (rw (c.speaker.ensures, c.subject-subject.ensures) at c.say.ensures)) fed,
+    )

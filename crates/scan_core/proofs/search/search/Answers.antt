@@ -36,4 +36,5 @@ loop-place-preserved c =
 pub returns-clause-outcome : goal.returns-clause-outcome
 returns-clause-outcome c =
     let e : c.loop-place.place ≡ length c.args.line.now = omega arith in
-    search_ends _ c.loop-place.invariant c.positions-2.ensures (entered_here c.loop-place.invariant (final e c.is_empty.ensures) c.spread-2.ensures) e c.has-2.ensures
+    search_ends _ c.loop-place.invariant c.positions-2.ensures
+    (entered_here c.loop-place.invariant (final e c.is_empty.ensures) c.spread-2.ensures) e c.has-2.ensures

@@ -32,7 +32,8 @@ ends : (c : After-index-state-2) → IsOutcome c.args.nodes.now c.args.line.now 
   found = c.index-state-2.result.now.ends;
   steps = c.loop-place.steps + c.stride-strode-2.result.steps + c.index-state-2.result.now.last_positions;
 })
-ends c = at_end _ (c.stride-strode-2.ensures.at c.loop-place.steps c.loop-place.invariant.at) c.if-strode-table.false _ (omega arith) c.requires.some c.index-state-2.ensures
+ends c = at_end _ (c.stride-strode-2.ensures.at c.loop-place.steps c.loop-place.invariant.at)
+    c.if-strode-table.false _ (omega arith) c.requires.some c.index-state-2.ensures
 
 pub loop-place-init : goal.loop-place-init
 loop-place-init c = record { within = omega arith; at = at_starts c.requires.table }

@@ -18,4 +18,5 @@ tell_broken-requires-clause-known g c =
 
 pub returns-clause-copies : goal.returns-clause-copies
 returns-clause-copies g c mode pieces goes copies =
-    piece_said c.args.piece.now goes copies (fed_next copies c.requires.tee (c.feed.ensures.gets c.requires.tee.live) c.tell_broken.ensures.seen) c.tell_broken.ensures.said
+    piece_said c.args.piece.now goes copies (fed_next copies c.requires.tee
+    (c.feed.ensures.gets c.requires.tee.live) c.tell_broken.ensures.seen) c.tell_broken.ensures.said

@@ -45,8 +45,12 @@ module _ (rows : List OptionRow) where
   of_first letter letters {unit} says are = (letters, unit, of_unit [] letter letters says refl refl refl (are_switches letters are))
 
   of_more : (letter : ℕ) (letters : List ℕ) → IsOther rows letter → HasShape letters → HasShape (letter ∷ letters)
-  of_more letter letters is (options, unit, of_lines same all are) =
-      (letter ∷ options, unit, of_lines (ap (λ rest. letter ∷ rest) same) refl (are_switches (letter ∷ options) (is, recursion_from_All (IsOther rows) options are)))
+  of_more letter letters is (options, unit, of_lines same all are) = (
+    letter ∷ options,
+    unit,
+    of_lines (ap (λ rest. letter ∷ rest) same) refl
+        (are_switches (letter ∷ options) (is, recursion_from_All (IsOther rows) options are)),
+  )
   of_more letter letters is (options, unit, of_unit before one after says same options_are all are) = (
     letter ∷ options,
     unit,
@@ -68,8 +72,12 @@ module _ (rows : List OptionRow) where
       → (options : List ℕ) × (unit : Measured × ℕ) × HasLetters rows text (leading_digits text) options unit
   whole text (options, unit, of_lines is all are) =
       (options, unit, of_lines (rw is at (sym (take-append-drop (prefix_len is_ascii_digit text) text))) (leading_are text) are)
-  whole text (options, unit, of_unit before letter after says is options_are all are) =
-      (options, unit, of_unit before letter after says (rw is at (sym (take-append-drop (prefix_len is_ascii_digit text) text))) options_are (leading_are text) are)
+  whole text (options, unit, of_unit before letter after says is options_are all are) = (
+    options,
+    unit,
+    of_unit before letter after says (rw is at
+        (sym (take-append-drop (prefix_len is_ascii_digit text) text))) options_are (leading_are text) are,
+  )
 
   is_number_with : (text : List ℕ) → HasShape (after_digits text) → IsNumberWithLetters rows text
   is_number_with text has = let (options, unit, is) = whole text has in (leading_digits text, options, unit, is)
@@ -160,8 +168,13 @@ tail_shape : (text : List ℕ) → is_lettered tail_table OfTail text ≡ true �
 tail_shape text is =
     let among = (and_parts (are_of_tail (after_digits text)) _ is).0 in
     is_number_with tail_table text (begins_with_unit (HasShape tail_table)
-    (codes "f" ∷ codes "b" ∷ codes "bf" ∷ codes "c" ∷ codes "cf" ∷ codes "l" ∷ codes "lf" ∷ []) (after_digits text) among
-    (of_others tail_table (102 ∷ []) (f_switch, tt), (without_f 98 refl, (with_f 98 refl, (without_f 99 refl, (with_f 99 refl, (without_f 108 refl, (with_f 108 refl, tt))))))))
+    (codes "f" ∷ codes "b" ∷ codes "bf" ∷ codes "c" ∷ codes "cf" ∷ codes "l" ∷ codes "lf" ∷ []) (after_digits text) among (
+      of_others tail_table (102 ∷ []) (f_switch, tt),
+      (
+        without_f 98 refl,
+        (with_f 98 refl, (without_f 99 refl, (with_f 99 refl, (without_f 108 refl, (with_f 108 refl, tt))))),
+      ),
+    ))
 
 start_shape : (text : List ℕ) (number lettered : Bool) → is_number text ≡ number
     → is_lettered tail_table OfTail text ≡ lettered

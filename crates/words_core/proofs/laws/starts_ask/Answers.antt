@@ -32,8 +32,32 @@ letter_asks letter digits {amount} says other alone followed number is most =
     let many : value_of digits * (unit_in (letter ∷ [])).1 ≡ amount = rw says is in
     let none : prefix_len is_ascii_digit (letter ∷ []) ≡ 0 = rw other refl in
     let both : prefix_len is_ascii_digit (letter ∷ 102 ∷ []) ≡ 0 = rw other refl in (
-      λ calling. (rw (letters_last calling digits letter [] 1 amount number other alone many, says, sized_so Plain amount most) refl, rw (append_assoc digits (letter ∷ []) (102 ∷ []), letters_last calling digits letter (102 ∷ []) 1 amount number other followed many, says, sized_so Plain amount most) refl),
-      (rw (letters_start digits (letter ∷ []) 1 amount number none alone many, says, sized_so Plus amount most) refl, rw (append_assoc digits (letter ∷ []) (102 ∷ []), letters_start digits (letter ∷ 102 ∷ []) 1 amount number both followed many, says, sized_so Plus amount most) refl),
+      λ calling. (
+        rw (
+          letters_last calling digits letter [] 1 amount number other alone many,
+          says,
+          sized_so
+              Plain amount most,
+        ) refl,
+        rw (
+          append_assoc digits (letter ∷ []) (102 ∷ []),
+          letters_last calling
+              digits letter (102 ∷ []) 1 amount number other followed many,
+          says,
+          sized_so Plain amount most,
+        ) refl,
+      ),
+      (
+        rw (letters_start digits (letter ∷ []) 1 amount number none alone many, says, sized_so Plus amount most)
+            refl,
+        rw (
+          append_assoc digits (letter ∷ []) (102 ∷ []),
+          letters_start digits (letter ∷ 102 ∷ []) 1
+              amount number both followed many,
+          says,
+          sized_so Plus amount most,
+        ) refl,
+      ),
     )
 
 pub returns-clause-bytes : goal.returns-clause-bytes

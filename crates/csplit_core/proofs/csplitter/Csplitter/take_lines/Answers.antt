@@ -24,7 +24,8 @@ take_line-requires-clause-line g c = grind (arith, common_steps, line_at, first_
 pub returns-in_err-take_line-clause-takes : goal.returns-in_err-take_line-clause-takes
 returns-in_err-take_line-clause-takes g c = rw (handed_on _ _ c.from_residual-in_err-take_line.ensures.1)
     (lines_stop c.next_line.result.0.now c.self.view_is
-    (c.deref.ensures.value ∙ c.in_ok-extend_from_slice.ensures.items) c.next_line.ensures.joined c.next_line.ensures.last c.requires.whole c.in_err-take_line.ensures)
+    (c.deref.ensures.value ∙ c.in_ok-extend_from_slice.ensures.items) c.next_line.ensures.joined
+    c.next_line.ensures.last c.requires.whole c.in_err-take_line.ensures)
 
 pub take-requires-2-clause-whole : goal.take-requires-2-clause-whole
 take-requires-2-clause-whole g c = others_whole c.next_line.result.0.now c.next_line.result.1.now c.next_line.ensures.joined c.requires.whole
