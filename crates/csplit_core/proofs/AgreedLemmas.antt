@@ -509,8 +509,10 @@ module _ (suppress : Bool) (operands : List Operand) (x : List Line) where
       let count : length (take n x) ≡ min n (length x) = length-take n x in record {
         before = take n x;
         are_last = search (rules, take-append-drop, drop-drop);
-        differ = λ i past within. differ_line (i + 1) (search rules) end_waits;
-        decided = search (rules, same_line);
+        differ = λ i past within.
+            let (y, z, can, also, apart) = differ_line (i + 1) (search rules) end_waits in
+            (y, z, place_of suppress operands (x ++ y) (i + 1), can, also, refl, λ same. apart (sym same));
+        decided = λ i less y z at can also is. sym (same_line y z (i + 1) (omega arith) (search rules) (search rules)) ∙ is;
       }
 
   pub waiting_is_undecided : IsUndecided (place_of suppress operands) x (waiting_lines x made)

@@ -36,7 +36,7 @@ place_of suppress operands lines line =
 -- The lines that wait are the last of x, and exactly those on which continuations differ. `places x line` says where
 -- the line of a number goes where the input is x.
 abbrev pub IsUndecided : (List Line → ℕ → Place) → List Line → List Line → Type 0
-IsUndecided places = DifferOn CanCome (λ x i. places x (i + 1))
+IsUndecided places = DifferOn CanCome (λ x i at. places x (i + 1) ≡ at)
 
 abbrev pub is_in : ℕ → Place → Bool
 is_in section (in_section other) = eqb section other

@@ -2,11 +2,11 @@
 use Rattle.std.proofs.{
   lemmas.{
     Grind.common_steps,
-    Bool.{cases_lt, lt-ltb, le-ltb, eq-eqb, ne_eqb},
+    Bool.{cases_lt, cond_both, lt-ltb, le-ltb, eq-eqb, ne_eqb},
     List.{append-nil, drop-append-le, length-replicate},
   },
   Common.{◌≡◌, ◌≢◌, ℕ, ◌+◌, ◌-◌, ◌<◌, ◌≤◌, zero, suc, List, [], ◌∷◌, ◌++◌, length, drop, replicate, Bool},
-  Common.{true, false, cond, inl, inr, refl, sym, ◌∙◌, ap, subst, arith, append_assoc, length-append, rules},
+  Common.{true, false, cond, nat_lt, inl, inr, refl, sym, ◌∙◌, ap, subst, arith, append_assoc, length-append, rules},
   Math.Seq.drop-append_seam,
 }
 use Rattle.seg_core.{
@@ -19,8 +19,8 @@ use Rattle.ports_core.{
     Agreed.{CanCome, IsAgreed, IsUndecided, Spot, spot, spots_from, output_at, ArePlaced},
   },
   proofs.AgreedLemmas.{none_comes, one_comes, copies_come, other, other_differs, other_comes, agreed_now},
-  proofs.AgreedLemmas.{beginning_short, common, spot_in, spot_past, some_spot, nothing_waits, IsStretch},
-  proofs.AgreedLemmas.stretch_placed,
+  proofs.AgreedLemmas.{beginning_short, common, spot_in, spot_past, some_spot, same_spots, spots_differ, spots_few},
+  proofs.AgreedLemmas.{AtMostOne, IsStretch, stretch_placed},
 }
 use Rattle.ends_core.specs.{
   Ends.{size, measure, first_of, last_of, but_last_of, head_of, tail_of, after_of},
@@ -28,7 +28,7 @@ use Rattle.ends_core.specs.{
   laws.EndsLaws.but_last_of-append,
   Head.{head_work, head_waiting},
   Tail.{tail_work, tail_waiting},
-  Place.{head_spots, tail_spots},
+  Place.{head_spots, skipped, tail_spots},
 }
 use Rattle.ends_core.proofs.KeptLemmas.{measure-delimiters, last_is_drop, last_is_small}
 use Rattle.ends_core.specs.laws.WorkLaws as law
@@ -68,6 +68,7 @@ record Cuts (spots_of : List ℕ → ℕ → List Spot) (front_of : List ℕ →
   before : (x : List ℕ) (i : ℕ) → i < length (front_of x) → spots_of x i ≡ early i
   after : (x : List ℕ) (i : ℕ) → length (front_of x) ≤ i → i < length x → spots_of x i ≡ late (length (front_of x)) i
   apart : (k i : ℕ) → early i ≢ late k i
+  few : (x : List ℕ) (i : ℕ) → AtMostOne (spots_of x i)
 
 -- the first n of a text with fewer, which goes on, have all of it
 first_long : (delim : ℕ) (unit : Counted) (n : ℕ) (x y : List ℕ) → measure delim unit x < n
@@ -80,7 +81,7 @@ module _ {spots_of : List ℕ → ℕ → List Spot} (delim : ℕ) (unit : Count
   first_decided cuts x i less y z = search (rules, cases_lt, first_long, first_of-full, length-append)
 
   first_undecided : Cuts spots_of (first_of delim unit n) → {x : List ℕ} → IsUndecided spots_of x []
-  first_undecided cuts {x} = nothing_waits (first_decided cuts x)
+  first_undecided cuts {x} = same_spots spots_of (first_decided cuts x)
 
   last_decided : Cuts spots_of (but_last_of delim unit n) → (x : List ℕ) (i : ℕ)
       → i < length (but_last_of delim unit n x) → (y : List ℕ)
@@ -89,17 +90,15 @@ module _ {spots_of : List ℕ → ℕ → List Spot} (delim : ℕ) (unit : Count
 
   last_undecided : Cuts spots_of (but_last_of delim unit n) → delim < 256 → {x : List ℕ}
       → IsUndecided spots_of x (last_of delim unit n x)
-  last_undecided cuts byte {x} = record {
-    before = but_last_of delim unit n x;
-    are_last = sym (ends_together delim unit n x);
-    differ = λ i past within. ([], replicate (n + 1) delim, none_comes, copies_come (n + 1) delim byte, differ i past within);
-    decided = λ i less y z can also. last_decided cuts x i less y ∙ sym (last_decided cuts x i less z);
-  } where
-    differ : (i : ℕ) → length (but_last_of delim unit n x) ≤ i → i < length x
-        → spots_of (x ++ []) i ≢ spots_of (x ++ replicate (n + 1) delim) i
-    differ i past within same = cuts.apart (length (but_last_of delim unit n x)) i
-        (sym (cuts.before (x ++ replicate (n + 1) delim) i (omega (arith, far delim unit n x))) ∙ sym same ∙ ap (λ all. spots_of all i) (append-nil x)
-        ∙ cuts.after x i past within)
+  last_undecided cuts byte {x} = spots_differ spots_of (but_last_of delim unit n x) cuts.few
+      (sym (ends_together delim unit n x))
+      (λ i past within. ([], replicate (n + 1) delim, none_comes, copies_come (n + 1) delim byte, differ i past within))
+      (λ i less y z can also. last_decided cuts x i less y ∙ sym (last_decided cuts x i less z)) where
+        differ : (i : ℕ) → length (but_last_of delim unit n x) ≤ i → i < length x
+            → spots_of (x ++ []) i ≢ spots_of (x ++ replicate (n + 1) delim) i
+        differ i past within same = cuts.apart (length (but_last_of delim unit n x)) i
+            (sym (cuts.before (x ++ replicate (n + 1) delim) i (omega (arith, far delim unit n x))) ∙ sym same ∙ ap (λ all. spots_of all i) (append-nil x)
+            ∙ cuts.after x i past within)
 
 head_cuts : (delim : ℕ) (unit : Counted) (but_last : Bool) (n : ℕ)
     → Cuts (head_spots delim unit but_last n) (head_of delim unit but_last n)
@@ -109,6 +108,7 @@ head_cuts delim unit but_last n = record {
   before = λ x i less. spot_in 0 i (head_of delim unit but_last n x) [] less;
   after = λ x i past within. spot_past 0 i (head_of delim unit but_last n x) [] past;
   apart = λ k i. some_spot (spot 0 i) [];
+  few = λ x i. spots_few 0 (head_of delim unit but_last n x ∷ []) i;
 }
 
 pub head_undecided : (delim : ℕ) → delim < 256 → (unit : Counted) (but_last : Bool) (n : ℕ) {x : List ℕ}
@@ -150,6 +150,8 @@ tail_cuts delim unit from_nth n = record {
       ∙ spot_in 0 (i - length (tail_first delim unit from_nth n x)) (tail_of delim unit from_nth n x) []
       (omega (arith, tail_long delim unit from_nth n x));
   apart = λ k i is. some_spot (spot 0 (i - k)) [] (sym is);
+  few = λ x i. cond_both (nat_lt i (skipped delim unit from_nth n x)) _ _ AtMostOne (λ less. tt)
+      (λ past. spots_few 0 (tail_of delim unit from_nth n x ∷ []) (i - skipped delim unit from_nth n x));
 }
 
 pub tail_undecided : (delim : ℕ) → delim < 256 → (unit : Counted) (from_nth : Bool) (n : ℕ) {x : List ℕ}

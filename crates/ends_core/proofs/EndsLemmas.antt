@@ -4,7 +4,7 @@ use Rattle.std.proofs.lemmas.{
   Option.none-some,
   Bool.{false≢true, leb-false, cases_lt, le-leb, lt-leb, leb-true},
   List.{take_all, nil_from_length, append-nil, append_cancel_left, take-append-drop, take-append-le, take_at},
-  List.{length-drop, length-take, Elements.All-replicate},
+  List.{drop_all, length-drop, length-take, Elements.All-replicate},
 }
 use Rattle.std.proofs.{
   Common.{◌≡◌, ℕ, ◌+◌, ◌-◌, ◌<◌, ◌≤◌, ◌&&◌, not, List, [], ◌∷◌, ◌++◌, ◌⊎◌, length, Bool, true, false},
@@ -30,11 +30,13 @@ use Rattle.seg_core.{
   },
 }
 use Rattle.ends_core.specs.{
-  declared.{ends.Ends.{Ends, TheVariants.{First, ButLast, FromNth, Last}}, front.Front.Front, kept.Kept.Kept},
+  declared.{ends.Ends.{Ends, TheVariants.{First, ButLast, FromNth, Last, Between}}, front.Front.Front, kept.Kept.Kept},
+  declared.span.Span.Span,
   Ends.{measure, first_of, after_of, last_of},
+  Shown.bytes_between,
   Head.{head_work, IsDone, ahead_of},
   Stage.{Stretch, the_first, the_last, keeps, front_in, work_in, stretch_of, delim_of, unit_of, count_of, left_of},
-  Stage.{waiting_of, waiting, past_in, past_of, may_lack, least_of, missing_of, work, Holds, terms, is_done},
+  Stage.{waiting_of, waiting, past_in, past_of, may_lack, least_in, missing_of, work, Holds, terms, is_done},
   Stage.all_but_last,
   inner.{
     Stage.{EndsBadly, changed, stopped, WritesNothing, passed, due, due_at_end, left_waiting, is_full, unused_of},
@@ -42,7 +44,7 @@ use Rattle.ends_core.specs.{
     Kept.Stops,
   },
   Kept.{held_of, most_of, delim_of as kept_delim, unit_of as kept_unit},
-  laws.WorkLaws.{full_head, enough_came, fewer_came, complete_came},
+  laws.WorkLaws.{full_head, enough_came, fewer_came, bytes_between-append},
   laws.EndsLaws.{ends_together, first_then_after, measure-append, first_of-append, first_of-short, after_of-append},
   laws.EndsLaws.{last_of-append, but_last_of-append, first_of-full},
 }
@@ -59,22 +61,27 @@ same_for : {A : Type 0} (f : Stretch → ℕ → Counted → ℕ → A) {old new
 same_for f same = grind (arith, common_steps)
 
 pub same_work : {old new : Ends} → SameAsked old new → work new ≡ work old
-same_work same =
-    rw (same.least, same_for work_in same) refl
+same_work same = same_for work_in same
 
 -- it writes to standard output alone, and may want memory where the last are kept
 pub on_means : (s : Stretch) (delim : ℕ) (unit : Counted) (n : ℕ) → (work_in s delim unit n).means ≡ on_output (keeps s)
 on_means the_first delim unit n = refl
 on_means s delim unit n = refl
 
+-- of an input between two places as many bytes came in as are counted
+came_all : (span : Span) {x : List ℕ} → Holds (Between span) x → span.came ≡ length x
+came_all span holds = omega (arith, holds.missing, holds.past)
+
 -- it ends well where nothing is missing
 pub well_there : (ends : Ends) (x : List ℕ) → missing_of ends ≡ 0 → Holds ends x → (work ends).verdict x ≡ None
-well_there ends x none holds = enough_came (least_of ends) x (omega arith)
+well_there (Between span) x none holds = enough_came span.end x (omega (arith, came_all span holds))
+well_there ends x none holds = refl
 
 -- and while bytes come it never ends badly
 pub none_settled : (ends : Ends) (x : List ℕ) {verdict : Verdict} → IsSettled (work ends) x verdict → ⊥
-none_settled (First count front) x {verdict} settled =
-    none-some verdict (sym (complete_came front.delim front.unit {n = count} x (omega arith) settled.0) ∙ settled.1)
+none_settled (First _ _) x {verdict} settled = none-some verdict settled.1
+none_settled (Between span) x {verdict} settled =
+    none-some verdict (sym (enough_came span.end x (leb-true span.end (length x) settled.0)) ∙ settled.1)
 none_settled ends x settled = false≢true settled.0
 
 -- with these bytes the output has what is due, whatever it was fed
@@ -87,6 +94,8 @@ went_out (First count _) piece x holds = grind (arith, common_steps, first_of-ap
 went_out (ButLast kept) piece x holds = grind (arith, common_steps, but_last_of-append)
 went_out (FromNth count _) piece x holds = grind (arith, common_steps, after_of-append)
 went_out (Last _) piece x holds = refl
+went_out (Between span) piece x holds =
+    rw (came_all span holds) (ap only_out (sym (bytes_between-append span.from span.end x piece)))
 
 -- and at the end
 pub rest_out : (ends : Ends) → Makes ends (due_at_end ends) (work ends).whole
@@ -132,8 +141,9 @@ left_now ends {x = x} piece same left holds none =
 
 missing_now : (ends : Ends) {next : Ends} {x : List ℕ} (piece : List ℕ) → SameAsked ends next
     → missing_of next ≡ missing_of ends - length piece → Holds ends x
-    → missing_of next ≡ least_of next - length (x ++ piece)
-missing_now ends {x = x} piece same missing holds = omega (arith, length-append x piece)
+    → missing_of next ≡ least_in (stretch_of next) - length (x ++ piece)
+missing_now ends {x = x} piece same missing holds =
+    omega (arith, length-append x piece, holds.missing, ap least_in same.stretch)
 
 none_lacks : (ends : Ends) → keeps (stretch_of ends) ≡ false → may_lack ends ≡ false
 none_lacks (First count _) none = cc
@@ -161,6 +171,8 @@ past_next : (ends : Ends) {x : List ℕ} (piece : List ℕ) → Holds ends x
     → past_of ends + length (unused_of ends piece)
     ≡ past_in (stretch_of ends) (delim_of ends) (unit_of ends) (count_of ends) (x ++ piece)
 past_next (First count _) piece holds = grind (arith, common_steps, after_of-append, past_after)
+past_next (Between span) {x} piece holds =
+    omega (arith, came_all span holds, length-append x piece, length-drop (span.end - span.came) piece)
 past_next ends piece holds = refl
 
 pub takes_in : (ends : Ends) {next : Ends} (piece : List ℕ) → SameAsked ends next
@@ -197,14 +209,21 @@ head_exact : (delim : ℕ) (unit : Counted) (but_last : Bool) (n : ℕ) (x : Lis
 head_exact delim unit but_last n x true byte is = (λ yes y bytes. (full_head delim unit but_last n x y (sym is)).1, λ done. refl)
 head_exact delim unit but_last n x false byte is = (λ yes. absurd (false≢true yes), λ done. absurd (incomplete delim unit but_last n x byte (sym is) done))
 
+between_exact : (end : ℕ) (x : List ℕ) (full : Bool) → full ≡ nat_le end (length x) → IsTrue full ↔ end ≤ length x
+between_exact end x true is = (λ yes. leb-true end (length x) (sym is), λ enough. refl)
+between_exact end x false is =
+    (λ yes. absurd (false≢true yes), λ enough. absurd (false≢true (is ∙ le-leb end (length x) enough)))
+
 pub done_is_exact : (ends : Ends) {x : List ℕ} {full : Bool} → Holds ends x → full ≡ (work ends).is_complete x
     → IsTrue full ↔ is_done ends x
 done_is_exact (First count front) {x} {full} holds is = head_exact front.delim front.unit false count x full holds.byte is
 done_is_exact (ButLast kept) {x} {full} holds is = head_exact (kept_delim kept) (kept_unit kept) true (most_of kept) x full holds.byte is
+done_is_exact (Between span) {x} {full} holds is = between_exact span.end x full is
 done_is_exact ends holds is = grind (arith, common_steps)
 
 pub full_is : (ends : Ends) {x : List ℕ} → Holds ends x → is_full ends ≡ (work ends).is_complete x
 full_is (First count _) holds = grind (arith, common_steps)
+full_is (Between span) holds = ap (nat_le span.end) (came_all span holds)
 full_is ends holds = refl
 
 -- where memory may be wanted, something is kept
@@ -236,15 +255,15 @@ ends_stopped told {kept = kept} {n} {f = f} is all stops =
 
 pub ends_cut : (told : Bool) (ends : Ends) {old new : List Slot} {f : Fault} → EndsBadly told ends old new f
     → CutsOff terms ends (work ends).whole told old new f
-ends_cut told (First _ _) (changed _ same) before x at = judged refl _ at.outputs same
-ends_cut told (ButLast kept) (changed some same) before x at = absurd (omega arith)
-ends_cut told (FromNth _ _) (changed _ same) before x at = judged refl _ at.outputs same
-ends_cut told (Last kept) (changed some same) before x at = absurd (omega arith)
+ends_cut told (Between _) (changed _ same) before x at = judged refl _ at.outputs same
+ends_cut told ends (changed some same) before x at = absurd (omega arith)
 ends_cut told ends (stopped f stops) before x at = cuts_off told ends (due_at_end ends) (rest_out ends) stops before x at
 
 pub ends_met : (told : Bool) (ends : Ends) {old new : List Slot} {f : Fault} → IsTrue (is_writable old 0)
     → EndsBadly told ends old new f → IsMetThere terms ends old new f
-ends_met told ends can (changed some same) = λ x holds. fewer_came (least_of ends) x (omega arith)
+ends_met told (Between span) can (changed some same) =
+    λ x holds. fewer_came span.end x (omega (arith, came_all span holds))
+ends_met told ends can (changed some same) = absurd (omega arith)
 ends_met told ends can (stopped f stops) =
     met told ends (λ means. means.closing) _ (EndsThere terms ends) (λ never. absurd (cc)) can stops
 
@@ -260,27 +279,39 @@ on_ok_each (Err f) also is too three = tt
 -- of nothing nothing is written
 pub silent_none : (ends : Ends) → WritesNothing ends []
 silent_none (FromNth _ front) = (stays front front.unit).0
+silent_none (Between span) = (omega arith, inl refl)
 silent_none ends = refl
 
 pub passed_none : (ends : Ends) → ends ≡ passed ends []
 passed_none (FromNth count front) = ap (FromNth count) (stays front front.unit).1
+passed_none (Between span) = ap (λ came. Between (record span { came = came })) (omega arith)
 passed_none ends = refl
 
 pub passed_front : {told : Bool} {slot count n : ℕ} {ends next : Ends} {front now : Front} {old new : List Source}
     → ends ≡ FromNth n front → next ≡ FromNth n now
     → PassesOver told slot count (λ x. (after_of front.delim front.unit front.left x ≡ [])
-    × (now
-    ≡ record front
-    { left = front.left - measure front.delim front.unit x; missing = front.missing - length x })) old new
+    × (now ≡ record front { left = front.left - measure front.delim front.unit x })) old new
     → PassesOver told slot count (λ x. WritesNothing ends x × (next ≡ passed ends x)) old new
 passed_front is after passes = passes_so _ passes (λ x long keeps. rw (is, after, keeps.1) (keeps.0, refl))
+
+pub passed_span : {told : Bool} {slot count : ℕ} {ends next : Ends} {span now : Span} {old new : List Source}
+    → ends ≡ Between span → next ≡ Between now
+    → PassesOver told slot count (λ x. (length x ≤ span.from) × ((x ≡ []) ⊎ (length x < span.end))
+    × (now ≡ record span { came = span.came + length x })) old new
+    → PassesOver told slot count (λ x. WritesNothing ends x × (next ≡ passed ends x)) old new
+passed_span is after passes =
+    passes_so _ passes (λ x long keeps. rw (is, after, keeps.2) ((keeps.0, keeps.1), refl))
+
+-- none stands between the places that comes before the first
+pub none_before : (from end : ℕ) (x : List ℕ) → length x ≤ from → bytes_between from end x ≡ []
+none_before from end x few = drop_all from (take end x) (omega (arith, length-take end x))
 
 took_in : (ends : Ends) {x : List ℕ} → Holds ends [] → terms.size ends ≡ 0 → WritesNothing ends x
     → TookIn terms ends (passed ends x) x
 took_in (FromNth count front) {x} fresh none silent = record {
   same = refl;
   size = omega arith;
-  holds = takes_in (FromNth count front) x (record { stretch = refl; delim = refl; unit = refl; count = refl; least = refl }) refl refl refl refl
+  holds = takes_in (FromNth count front) x (record { stretch = refl; delim = refl; unit = refl; count = refl }) refl (omega arith) refl refl
       (λ bytes full. refl) [] fresh;
   ready = λ slots is. is;
   owns = λ first slots is. is;
@@ -288,6 +319,19 @@ took_in (FromNth count front) {x} fresh none silent = record {
       ∙ ap (λ bytes. record ((work (FromNth count front)).settled []) { out = ((work (FromNth count front)).settled []).out ++ bytes }) silent
       ∙ ap only_out (append-nil _);
   going = inr refl;
+}
+took_in (Between span) {x} fresh none silent = record {
+  same = refl;
+  size = omega arith;
+  holds = takes_in (Between span) x (record { stretch = refl; delim = refl; unit = refl; count = refl })
+      (omega (arith, length-drop (span.end - span.came) x)) (omega arith) (omega arith) refl (λ bytes full. refl) [] fresh;
+  ready = λ slots is. is;
+  owns = λ first slots is. is;
+  idle = ap only_out (none_before span.from span.end x silent.0 ∙ sym (none_before span.from span.end [] (omega arith)));
+  going = elim silent.1 [
+    | inl empty ↦ inl empty
+    | inr less ↦ inr (lt-leb span.end (length x) less)
+  ];
 }
 took_in ends fresh none silent = rw silent (record {
   same = refl;
@@ -431,6 +475,8 @@ pub spare_here : (ends : Ends) {x : List ℕ} → Holds ends x → IsSpare (work
 spare_here (First count front) {x} holds = spare_so refl
     (subst (IsSpare (head_work front.delim front.unit false count) x) (sym (holds.past ∙ past_after front.delim front.unit count x))
     (first_used front.delim front.unit count))
+spare_here (Between span) {x} holds = spare_so refl
+    (subst (IsSpare (head_work 0 Bytes false span.end) x) (length-drop span.end x ∙ sym holds.past) (first_used 0 Bytes span.end))
 spare_here ends {x} holds = all_used (work ends) x refl
 
 -- a text that goes on from x, cut in two where more stands before the cut than in x: the cut is after x, and what is before
@@ -477,8 +523,15 @@ may_get (First count front) x piece after n holds going within same later spare 
   | inr complete ↦ few_spare front.delim front.unit count x piece spare (holds.left refl)
       (leb-false count (measure front.delim front.unit x) going) (leb-true count (measure front.delim front.unit spare.used) complete) within
 ]
+may_get (Between span) x piece after n holds going within same later spare = elim spare.enough [
+  | inl none ↦ omega (arith, ap length none)
+  | inr complete ↦ few_spare 0 Bytes span.end x piece spare (ap (λ came. span.end - came) (came_all span holds))
+      (leb-false span.end (length x) going) (leb-true span.end (length spare.used) complete) within
+]
 may_get ends x piece after n holds going within same later spare = grind (arith, common_steps)
 
 pub wants_some : (ends : Ends) {x : List ℕ} → Holds ends x → (work ends).is_complete x ≡ false → 0 < wanted_by ends
 wants_some (First count _) holds going = grind (arith, common_steps)
+wants_some (Between span) {x} holds going =
+    omega (arith, leb-false span.end (length x) going, came_all span holds)
 wants_some ends holds going = omega arith

@@ -1,56 +1,140 @@
--- `head` and `tail` of an input that shows its bytes: they are lawful, and where the text that was shown comes, they end as
--- those that know nothing of it do.
+-- `head` and `tail` of an input that shows its bytes: they are lawful and keep nothing back, and where the text that was
+-- shown comes, they end as those that know nothing of it do.
 use Rattle.std.proofs.{
-  Common.{◌≡◌, ℕ, ◌≤◌, suc, List, length, drop, None, true, false, sym, ◌∙◌, ap, arith, length-append},
+  lemmas.{
+    Bool.{cases_lt, le-leb, leb-true, le-ltb, lt-ltb},
+    List.{drop_all, drop-take, length-drop, length-take, take-append-drop, take-append-le},
+  },
+  Common.{◌≡◌, ℕ, ◌-◌, ◌<◌, ◌≤◌, ◌+◌, ◌↔◌, List, [], ◌∷◌, ◌++◌, length, take, drop, nat_lt, None, true, false},
+  Common.{inl, inr, refl, sym, ◌∙◌, ap, arith, cond, length-append},
+  Math.Seq.take-append_seam,
 }
-use Rattle.seg_core.specs.declared.unit.Unit.{Unit as Counted, TheVariants.Bytes}
-use Rattle.ports_core.{specs.{Agreed.ArePlaced, Part.only_out, Work.IsLawful}, proofs.AgreedLemmas.stretch_placed}
+use Rattle.seg_core.specs.declared.unit.Unit.{Unit as Counted}
+use Rattle.ports_core.{specs.{Agreed.{ArePlaced, IsAgreed, IsUndecided, Spot, spot, spots_from}, Part.only_out}, proofs.AgreedLemmas.{IsStretch, agreed_now, common, same_spots, spot_in, spot_past, stretch_placed}}
 use Rattle.ends_core.specs.{
   Ends.{last_of, but_last_of},
   Head.head_work,
   Tail.tail_work,
-  Shown.{changed_below, head_shown, place_of, tail_shown},
-  Place.{head_spots, tail_spots},
-  laws.{EndsLaws.ends_together, WorkLaws.{enough_came, head_lawful_below, tail_lawful_by}},
+  Shown.{between_work, bytes_between, head_shown, place_of, tail_shown},
+  Place.between_spots,
+  laws.{EndsLaws.ends_together, WorkLaws.{between_lawful, enough_came}},
 }
-use Rattle.ends_core.proofs.{KeptLemmas.{but_last_is_take, last_is_drop}, AgreedLemmas.{head_stretch, tail_stretch}}
+use Rattle.ends_core.proofs.KeptLemmas.{but_last_is_take, last_is_drop}
 
-pub head_shown_lawful : (delim : ℕ) (unit : Counted) (n : ℕ) (text : List ℕ) → IsLawful (head_shown delim unit n text)
-head_shown_lawful delim unit n text = head_lawful_below 0 Bytes (place_of delim unit n text) (omega arith)
+module _ (from end : ℕ) where
+  pub between_agreed : (x : List ℕ) → IsAgreed (between_work from end) x ((between_work from end).settled x)
+  between_agreed x = agreed_now (between_work from end) x (common (between_work from end) (between_lawful from end) x) refl
 
-pub tail_shown_lawful : (delim : ℕ) (unit : Counted) (n : ℕ) (text : List ℕ) → IsLawful (tail_shown delim unit n text)
-tail_shown_lawful delim unit n text = tail_lawful_by 0 Bytes true (suc (place_of delim unit n text)) (changed_below (length text))
+  length-bytes_between : (x : List ℕ) → length (bytes_between from end x) ≡ length (take end x) - from
+  length-bytes_between x = length-drop from (take end x)
 
--- as many bytes stand before the last n as those have
-pub place_of-length : (delim : ℕ) (unit : Counted) (n : ℕ) (text : List ℕ)
-    → place_of delim unit n text ≡ length (but_last_of delim unit n text)
-place_of-length delim unit n text =
-    omega (arith, sym (length-append (but_last_of delim unit n text) (last_of delim unit n text)) ∙ ap length (ends_together delim unit n text))
+  -- where a byte goes that came
+  abbrev goes : ℕ → List Spot
+  goes i = cond (nat_lt i from) [] (cond (nat_lt i end) (spot 0 (i - from) ∷ []) [])
 
-pub place_of-le-length : (delim : ℕ) (unit : Counted) (n : ℕ) (text : List ℕ) → place_of delim unit n text ≤ length text
-place_of-le-length delim unit n text = omega arith
+  spots_are : (x : List ℕ) (i : ℕ) → i < length x → between_spots from end x i ≡ goes i
+  spots_are x i came = elim (cases_lt i from) [
+    | inl before ↦ rw (lt-ltb i from before) refl
+    | inr past ↦ rw (le-ltb i from past) (elim (cases_lt i end) [
+      | inl within ↦ rw (lt-ltb i end within)
+          (spot_in 0 (i - from) (bytes_between from end x) [] (omega (arith, length-bytes_between x, length-take end x)))
+      | inr after ↦ rw (le-ltb i end after)
+          (spot_past 0 (i - from) (bytes_between from end x) [] (omega (arith, length-bytes_between x, length-take end x)))
+    ])
+  ]
 
-pub whole-head_shown : (delim : ℕ) (unit : Counted) (n : ℕ) (text : List ℕ)
-    → (head_shown delim unit n text).whole text ≡ (head_work delim unit true n).whole text
-whole-head_shown delim unit n text = ap only_out (rw (place_of-length delim unit n text) (sym (but_last_is_take delim unit n text)))
+  between_decided : (x : List ℕ) (i : ℕ) → i < length x → (y z : List ℕ)
+      → between_spots from end (x ++ y) i ≡ between_spots from end (x ++ z) i
+  between_decided x i came y z =
+      spots_are (x ++ y) i (omega (arith, length-append x y)) ∙ sym (spots_are (x ++ z) i (omega (arith, length-append x z)))
 
-pub whole-tail_shown : (delim : ℕ) (unit : Counted) (n : ℕ) (text : List ℕ)
-    → (tail_shown delim unit n text).whole text ≡ (tail_work delim unit false n).whole text
-whole-tail_shown delim unit n text = ap only_out
-    (ap (λ k. drop k text) (omega (arith, place_of-length delim unit n text)) ∙ sym (last_is_drop delim unit n text))
+  pub between_undecided : (x : List ℕ) → IsUndecided (between_spots from end) x []
+  between_undecided x = same_spots (between_spots from end) (between_decided x)
 
-pub verdict-head_shown : (delim : ℕ) (unit : Counted) (n : ℕ) (text : List ℕ)
-    → (head_shown delim unit n text).verdict text ≡ None
-verdict-head_shown delim unit n text = enough_came (place_of delim unit n text) text (place_of-le-length delim unit n text)
+  bytes_are : (x : List ℕ) → bytes_between from end x ≡ take (end - from) (drop from x)
+  bytes_are x = elim (cases_lt end from) [
+    | inl less ↦
+        let none : end - from ≡ 0 = omega arith in
+        rw none (drop_all from (take end x) (omega (arith, length-take end x)))
+    | inr past ↦
+        let all : end ≡ from + (end - from) = omega arith in
+        ap (λ last. drop from (take last x)) all ∙ drop-take from (end - from) x
+  ]
 
-pub verdict-tail_shown : (delim : ℕ) (unit : Counted) (n : ℕ) (text : List ℕ)
-    → (tail_shown delim unit n text).verdict text ≡ None
-verdict-tail_shown delim unit n text = enough_came (length text) text (omega arith)
+  -- an input that ends before the first of them has none
+  spots_none : (x : List ℕ) (i : ℕ) → length x ≤ from → spots_from 0 (bytes_between from end x ∷ []) i ≡ []
+  spots_none x i few =
+      spot_past 0 i (bytes_between from end x) [] (omega (arith, length-bytes_between x, length-take end x))
 
-pub head_shown-placed : (delim : ℕ) (unit : Counted) (n : ℕ) (text : List ℕ)
-    → ArePlaced (head_shown delim unit n text) (head_spots 0 Bytes false (place_of delim unit n text))
-head_shown-placed delim unit n text = stretch_placed (head_shown delim unit n text) 0 (head_stretch 0 Bytes false (place_of delim unit n text))
+  there : (x : List ℕ) (i : ℕ) → length (take from x) ≤ i
+      → between_spots from end x i ≡ spots_from 0 (bytes_between from end x ∷ []) (i - length (take from x))
+  there x i past = elim (cases_lt (length x) from) [
+    | inl short ↦ elim (cases_lt i from) [
+      | inl before ↦ rw (lt-ltb i from before) (sym (spots_none x (i - length (take from x)) (omega arith)))
+      | inr after ↦ rw (le-ltb i from after)
+          (spots_none x (i - from) (omega arith) ∙ sym (spots_none x (i - length (take from x)) (omega arith)))
+    ]
+    | inr long ↦
+        let all : length (take from x) ≡ from = omega (arith, length-take from x) in
+        rw (all, le-ltb i from (omega arith)) refl
+  ]
 
-pub tail_shown-placed : (delim : ℕ) (unit : Counted) (n : ℕ) (text : List ℕ)
-    → ArePlaced (tail_shown delim unit n text) (tail_spots 0 Bytes true (suc (place_of delim unit n text)))
-tail_shown-placed delim unit n text = stretch_placed (tail_shown delim unit n text) 0 (tail_stretch 0 Bytes true (suc (place_of delim unit n text)))
+  between_stretch : IsStretch (between_work from end).whole (between_spots from end) 0
+      (λ x. bytes_between from end x ∷ [])
+  between_stretch = record {
+    before = take from;
+    rest = drop from;
+    parts = λ x. sym (take-append-drop from x);
+    front = λ x. (
+      drop (end - from) (drop from x),
+      sym (ap (λ bytes. bytes ++ drop (end - from) (drop from x)) (bytes_are x) ∙ take-append-drop (end - from) (drop from x)),
+      tt,
+    );
+    are = λ x. refl;
+    nowhere = λ x i less. rw (lt-ltb i from (omega (arith, length-take from x))) refl;
+    there = there;
+  }
+
+  pub between_placed : ArePlaced (between_work from end) (between_spots from end)
+  between_placed = stretch_placed (between_work from end) 0 between_stretch
+
+  -- the output is complete with the last of them
+  pub between_done : (x : List ℕ) → (between_work from end).is_complete x ≡ true ↔ end ≤ length x
+  between_done x = (leb-true end (length x), le-leb end (length x))
+
+module _ (delim : ℕ) (unit : Counted) (n : ℕ) (text : List ℕ) where
+  -- as many bytes stand before the last n as those have
+  pub place_of-length : place_of delim unit n text ≡ length (but_last_of delim unit n text)
+  place_of-length = omega (
+    arith,
+    sym (length-append (but_last_of delim unit n text) (last_of delim unit n text)) ∙ ap length (ends_together delim unit n text),
+  )
+
+  pub place_of-le-length : place_of delim unit n text ≤ length text
+  place_of-le-length = omega arith
+
+  pub whole-head_shown : (more : List ℕ)
+      → (head_shown delim unit n text).whole (text ++ more) ≡ (head_work delim unit true n).whole text
+  whole-head_shown more = ap only_out
+      (take-append-le (place_of delim unit n text) text more place_of-le-length
+      ∙ rw place_of-length (sym (but_last_is_take delim unit n text)))
+
+  pub whole-tail_shown : (more : List ℕ)
+      → (tail_shown delim unit n text).whole (text ++ more) ≡ (tail_work delim unit false n).whole text
+  whole-tail_shown more = ap only_out
+      (ap (drop (place_of delim unit n text)) (take-append_seam text more)
+      ∙ ap (λ k. drop k text) place_of-length ∙ sym (last_is_drop delim unit n text))
+
+  pub head_shown-enough : (more : List ℕ) → (head_shown delim unit n text).is_complete (text ++ more) ≡ true
+  head_shown-enough more = le-leb (place_of delim unit n text) (length (text ++ more))
+      (omega (arith, place_of-le-length, length-append text more))
+
+  pub tail_shown-enough : (more : List ℕ) → (tail_shown delim unit n text).is_complete (text ++ more) ≡ true
+  tail_shown-enough more = le-leb (length text) (length (text ++ more)) (omega (arith, length-append text more))
+
+  pub verdict-head_shown : (more : List ℕ) → (head_shown delim unit n text).verdict (text ++ more) ≡ None
+  verdict-head_shown more =
+      enough_came (place_of delim unit n text) (text ++ more) (omega (arith, place_of-le-length, length-append text more))
+
+  pub verdict-tail_shown : (more : List ℕ) → (tail_shown delim unit n text).verdict (text ++ more) ≡ None
+  verdict-tail_shown more = enough_came (length text) (text ++ more) (omega (arith, length-append text more))

@@ -2,7 +2,7 @@
 use Rattle.std.specs.Prelude.{ℕ, ◌-◌, nat_lt, Bool, List, [], ◌∷◌, length, if◌then◌else◌}
 use Rattle.ports_core.specs.Agreed.{Spot, spots_from}
 use Rattle.seg_core.specs.declared.unit.Unit.{Unit as Counted}
-use Rattle.ends_core.specs.Ends.{head_of, tail_of}
+use Rattle.ends_core.specs.{Ends.{head_of, tail_of}, Shown.bytes_between}
 
 -- a head is the beginning of its input
 abbrev pub head_spots : ℕ → Counted → Bool → ℕ → List ℕ → ℕ → List Spot
@@ -16,3 +16,8 @@ abbrev pub tail_spots : ℕ → Counted → Bool → ℕ → List ℕ → ℕ �
 tail_spots delim unit from_nth n x i =
     if nat_lt i (skipped delim unit from_nth n x) then []
     else spots_from 0 (tail_of delim unit from_nth n x ∷ []) (i - skipped delim unit from_nth n x)
+
+-- the bytes between two places
+abbrev pub between_spots : ℕ → ℕ → List ℕ → ℕ → List Spot
+between_spots from end x i =
+    if nat_lt i from then [] else spots_from 0 (bytes_between from end x ∷ []) (i - from)

@@ -1,10 +1,16 @@
--- `head` of all but the last, and `tail` of the last, where an input shows its bytes before they are read: they end where
--- those of the text end that was shown. So nothing waits. What comes may be another text.
+-- `head` of all but the last, and `tail` of the last, where an input shows its bytes before they are read: they begin and
+-- end where those of the text do that was shown. So nothing waits. What comes may be another text, or more.
 use Rattle.std.specs.{
-  Prelude.{◌≡◌, ℕ, ◌-◌, zero, suc, nat_lt, Bool, true, false, Option, Some, None, List, length, if◌then◌else◌},
+  Prelude.{◌≡◌, ℕ, ◌-◌, zero, suc, nat_le, nat_lt, Bool, true, false, Option, Some, None, List, []},
+  Prelude.{length, take, drop, if◌then◌else◌},
 }
-use Rattle.seg_core.specs.declared.unit.Unit.{Unit as Counted, TheVariants.Bytes}
-use Rattle.ports_core.specs.{Source.Content, Work.Work, declared.verdict.Verdict.{Verdict, TheVariants.Changed}}
+use Rattle.seg_core.specs.declared.unit.Unit.{Unit as Counted}
+use Rattle.ports_core.specs.{
+  Part.only_out,
+  Source.Content,
+  Work.{Work, on_output},
+  declared.verdict.Verdict.{Verdict, TheVariants.Changed},
+}
 use Rattle.ends_core.specs.{declared.find.Found.Found, Ends.last_of, Head.head_work, Tail.tail_work}
 
 -- an input that ends with fewer than n bytes has changed since it was shown
@@ -16,18 +22,32 @@ changed_below (suc n) x = if nat_lt (length x) (suc n) then Some Changed else No
 abbrev pub place_of : ℕ → Counted → ℕ → List ℕ → ℕ
 place_of delim unit n text = length text - length (last_of delim unit n text)
 
+-- the bytes of an input from one place up to another
+abbrev pub bytes_between : ℕ → ℕ → List ℕ → List ℕ
+bytes_between from end x = drop from (take end x)
+
+-- What is made of an input of which these are asked for, and which showed them all: each is written as it comes. With the
+-- last one the output is complete, whatever comes after it. An input that ends before has changed.
+abbrev pub between_work : ℕ → ℕ → Work
+between_work from end = record {
+  settled = λ x. only_out (bytes_between from end x);
+  whole = λ x. only_out (bytes_between from end x);
+  waiting = λ x. [];
+  is_complete = λ x. nat_le end (length x);
+  verdict = changed_below end;
+  clears = false;
+  means = on_output false;
+  ahead = 0;
+}
+
 -- what a head of all but the last n makes of an input that showed this text: its first bytes, as many as stand before
 -- the last n of what was shown
 abbrev pub head_shown : ℕ → Counted → ℕ → List ℕ → Work
-head_shown delim unit n text = record (head_work 0 Bytes false (place_of delim unit n text)) {
-  verdict = changed_below (place_of delim unit n text);
-}
+head_shown delim unit n text = between_work 0 (place_of delim unit n text)
 
--- and a tail of the last n: all bytes but as many
+-- and a tail of the last n: those from there on, up to the end of what was shown
 abbrev pub tail_shown : ℕ → Counted → ℕ → List ℕ → Work
-tail_shown delim unit n text = record (tail_work 0 Bytes true (suc (place_of delim unit n text))) {
-  verdict = changed_below (length text);
-}
+tail_shown delim unit n text = between_work (place_of delim unit n text) (length text)
 
 -- what a head makes of an input, by the text that this shows, if it shows one
 abbrev pub head_in : ℕ → Counted → Bool → ℕ → Option (List ℕ) → Work

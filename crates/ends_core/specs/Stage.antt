@@ -1,13 +1,13 @@
 -- The one stage of `head` and `tail`, as contracts see it.
-use Rattle.std.specs.Prelude.{◌≡◌, ℕ, ◌+◌, ◌-◌, ◌<◌, ◌≤◌, min, Bool, true, false, List, [], length, IsTrue}
+use Rattle.std.specs.Prelude.{◌≡◌, ℕ, ◌-◌, ◌<◌, ◌≤◌, Bool, true, false, List, [], length, IsTrue}
 use Rattle.ports_core.specs.{Work.Work, Slot.is_writable, Engine.Terms}
 use Rattle.seg_core.specs.declared.unit.Unit.{Unit as Counted, TheVariants.{Lines, Bytes}}
 use Rattle.ends_core.specs.{
-  declared.ends.Ends.{Ends, TheVariants.{First, ButLast, FromNth, Last}},
+  declared.ends.Ends.{Ends, TheVariants.{First, ButLast, FromNth, Last, Between}},
   Ends.{first_of, measure},
   Head.{head_work, IsDone},
   Tail.tail_work,
-  Shown.changed_below,
+  Shown.between_work,
   Kept.{held_of, most_of, may_lack_of, delim_of as kept_delim, unit_of as kept_unit},
 }
 
@@ -17,6 +17,8 @@ pub data Stretch : Type 0 where
   all_but_last : Stretch
   from_the_nth : Stretch
   the_last : Stretch
+  -- the bytes from one place up to another, of an input that showed them
+  between : (from end : ℕ) → Stretch
 
 -- the last are kept
 abbrev pub keeps : Stretch → Bool
@@ -24,13 +26,15 @@ keeps the_first = false
 keeps all_but_last = true
 keeps from_the_nth = false
 keeps the_last = true
+keeps (between from end) = false
 
--- what it makes of an input, where n lines or bytes were asked for: the work of a head, or of a tail
+-- what it makes of an input, where n lines or bytes were asked for
 abbrev pub work_in : Stretch → ℕ → Counted → ℕ → Work
 work_in the_first delim unit n = head_work delim unit false n
 work_in all_but_last delim unit n = head_work delim unit true n
 work_in from_the_nth delim unit n = tail_work delim unit true n
 work_in the_last delim unit n = tail_work delim unit false n
+work_in (between from end) delim unit n = between_work from end
 
 -- how many of the front are written, or passed over
 abbrev pub front_in : Stretch → ℕ → ℕ
@@ -38,18 +42,21 @@ front_in the_first n = n
 front_in all_but_last n = n
 front_in from_the_nth n = n - 1
 front_in the_last n = n
+front_in (between from end) n = from
 
 abbrev pub stretch_of : Ends → Stretch
 stretch_of (First count front) = the_first
 stretch_of (ButLast kept) = all_but_last
 stretch_of (FromNth count front) = from_the_nth
 stretch_of (Last kept) = the_last
+stretch_of (Between span) = between span.from span.end
 
 abbrev pub unit_of : Ends → Counted
 unit_of (First count front) = front.unit
 unit_of (ButLast kept) = kept_unit kept
 unit_of (FromNth count front) = front.unit
 unit_of (Last kept) = kept_unit kept
+unit_of (Between span) = Bytes
 
 -- the byte with which lines end, where it counts lines
 abbrev pub delim_of : Ends → ℕ
@@ -57,6 +64,7 @@ delim_of (First count front) = front.delim
 delim_of (ButLast kept) = kept_delim kept
 delim_of (FromNth count front) = front.delim
 delim_of (Last kept) = kept_delim kept
+delim_of (Between span) = 0
 
 -- how many lines or bytes were asked for
 abbrev pub count_of : Ends → ℕ
@@ -64,6 +72,7 @@ count_of (First count front) = count
 count_of (ButLast kept) = most_of kept
 count_of (FromNth count front) = count
 count_of (Last kept) = most_of kept
+count_of (Between span) = span.end
 
 -- what it was asked for; lines alone have a delimiter
 pub record IsAsked (stretch : Stretch) (unit : Counted) (count delim : ℕ) (ends : Ends) : Type 0 where
@@ -78,34 +87,39 @@ left_of (First count front) = front.left
 left_of (ButLast kept) = 0
 left_of (FromNth count front) = front.left
 left_of (Last kept) = 0
+left_of (Between span) = span.from - span.came
 
--- how many bytes came in after a head
+-- how many bytes came in after the last one that is written
 abbrev pub past_of : Ends → ℕ
 past_of (First count front) = front.past
 past_of (ButLast kept) = 0
 past_of (FromNth count front) = 0
 past_of (Last kept) = 0
+past_of (Between span) = span.came - span.end
 
--- how many bytes the input has, or more, where it didn't change since it showed them; a head asks for no more than it has
-abbrev pub least_of : Ends → ℕ
-least_of (First count front) = min front.least count
-least_of (ButLast kept) = 0
-least_of (FromNth count front) = front.least
-least_of (Last kept) = 0
+-- how many bytes an input has that didn't change since it showed them, or more
+abbrev pub least_in : Stretch → ℕ
+least_in the_first = 0
+least_in all_but_last = 0
+least_in from_the_nth = 0
+least_in the_last = 0
+least_in (between from end) = end
 
 -- how many of these are still to come
 abbrev pub missing_of : Ends → ℕ
-missing_of (First count front) = front.missing
+missing_of (First count front) = 0
 missing_of (ButLast kept) = 0
-missing_of (FromNth count front) = front.missing
+missing_of (FromNth count front) = 0
 missing_of (Last kept) = 0
+missing_of (Between span) = span.end - span.came
 
--- how many bytes of an input stand after a head of its first n
+-- how many bytes of an input stand after the last one that is written
 abbrev pub past_in : Stretch → ℕ → Counted → ℕ → List ℕ → ℕ
 past_in the_first delim unit n x = length x - length (first_of delim unit n x)
 past_in all_but_last delim unit n x = 0
 past_in from_the_nth delim unit n x = 0
 past_in the_last delim unit n x = 0
+past_in (between from end) delim unit n x = length x - end
 
 -- the bytes that wait
 abbrev pub waiting_of : Ends → List ℕ
@@ -113,6 +127,7 @@ waiting_of (First count front) = []
 waiting_of (ButLast kept) = held_of kept
 waiting_of (FromNth count front) = []
 waiting_of (Last kept) = held_of kept
+waiting_of (Between span) = []
 
 -- there may be no memory for more of them
 abbrev pub may_lack : Ends → Bool
@@ -120,12 +135,11 @@ may_lack (First count front) = false
 may_lack (ButLast kept) = may_lack_of kept
 may_lack (FromNth count front) = false
 may_lack (Last kept) = may_lack_of kept
+may_lack (Between span) = false
 
 -- what it makes of its input
 abbrev pub work : Ends → Work
-work ends = record (work_in (stretch_of ends) (delim_of ends) (unit_of ends) (count_of ends)) {
-  verdict = changed_below (least_of ends);
-}
+work ends = work_in (stretch_of ends) (delim_of ends) (unit_of ends) (count_of ends)
 
 abbrev pub waiting : Ends → List ℕ → List ℕ
 waiting ends x = (work ends).waiting x
@@ -138,20 +152,29 @@ pub record Holds (ends : Ends) (x : List ℕ) : Type 0 where
       → left_of ends ≡ front_in (stretch_of ends) (count_of ends) - measure (delim_of ends) (unit_of ends) x
   pub waits : waiting_of ends ≡ waiting ends x
   pub past : past_of ends ≡ past_in (stretch_of ends) (delim_of ends) (unit_of ends) (count_of ends) x
-  pub missing : missing_of ends ≡ least_of ends - length x
+  pub missing : missing_of ends ≡ least_in (stretch_of ends) - length x
   -- where nothing waits no memory can be wanting, nor once as many bytes came in as wait
   pub none : keeps (stretch_of ends) ≡ false → may_lack ends ≡ false
   pub full : unit_of ends ≡ Bytes → count_of ends ≤ length x → may_lack ends ≡ false
 
--- whatever comes after x, a head stays; a tail is never done
+-- whatever comes after x, a head stays; a tail is never done; of bytes between two places all came
 abbrev pub done_in : Stretch → ℕ → Counted → ℕ → List ℕ → Type 0
 done_in the_first delim unit n x = IsDone delim unit false n x
 done_in all_but_last delim unit n x = IsDone delim unit true n x
 done_in from_the_nth delim unit n x = ⊥
 done_in the_last delim unit n x = ⊥
+done_in (between from end) delim unit n x = end ≤ length x
 
 abbrev pub is_done : Ends → List ℕ → Type 0
 is_done ends x = done_in (stretch_of ends) (delim_of ends) (unit_of ends) (count_of ends) x
+
+-- how many bytes it has to count
+abbrev pub size_of : Ends → ℕ
+size_of (First count front) = front.past
+size_of (ButLast kept) = length (held_of kept)
+size_of (FromNth count front) = 0
+size_of (Last kept) = length (held_of kept)
+size_of (Between span) = span.came
 
 -- it writes to standard output alone
 abbrev pub terms : Terms Ends
@@ -159,7 +182,7 @@ terms = record {
   Holds = Holds;
   work = work;
   IsDone = is_done;
-  size = λ ends. length (waiting_of ends) + past_of ends;
+  size = size_of;
   may_lack = λ ends piece. may_lack ends;
   Ready = λ ends slots. IsTrue (is_writable slots 0);
   Owns = λ ends first slots. Unit {0};

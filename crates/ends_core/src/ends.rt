@@ -19,7 +19,7 @@ ghost use Rattle.ends_core.specs.{
     Kept.Writes,
   },
   Stage.{Holds, IsAsked, all_but_last, delim_of, missing_of, terms, from_the_nth, left_of, may_lack, past_of},
-  Stage.{the_first, the_last, unit_of, waiting_of, work},
+  Stage.{size_of, the_first, the_last, unit_of, waiting_of, work},
   laws.WorkLaws.lawful,
 };
 ghost use Rattle.seg_core.specs.declared.unit.Unit.{Unit as Counted};
@@ -27,22 +27,25 @@ ghost use Rattle.seg_core.specs.declared.unit.Unit.{Unit as Counted};
 use crate::Unit;
 use crate::front::{Front, pass_after, pass_front};
 use crate::kept::Kept;
+use crate::span::Span;
 use ports_core::{Fault, Guarded, Inputs, Outs, Stage};
 use std::alloc::Global;
 
-/// Writes a part of an input, each byte as soon as nothing that follows can change that it is written. For the first, and
-/// from the nth on, it takes no memory. For all but the last, and for the last, it takes as much as the last lines or
-/// bytes of what came in, and of bytes no more is asked for once as many came in as are kept.
+/// Writes a part of an input, each byte as soon as nothing that follows can change that it is written. For the first, from
+/// the nth on, and between two places it takes no memory. For all but the last, and for the last, it takes as much as the
+/// last lines or bytes of what came in, and of bytes no more is asked for once as many came in as are kept.
 #[derive(Drop)]
 pub enum Ends {
     /// The first lines or bytes: how many were asked for, and those that are still to come.
     First(u64, Front),
     /// All but the last, which are kept.
     ButLast(Kept),
-    /// All from the nth on: which n that is, at most 2^64, and those that are still to be passed over.
-    FromNth(u128, Front),
+    /// All from the nth on: which n that is, and those that are still to be passed over.
+    FromNth(u64, Front),
     /// The last, which are kept and written at the end.
     Last(Kept),
+    /// The bytes from one place up to another, of an input that showed where its last ones begin and end.
+    Between(Span),
 }
 
 /// `head`: the first lines or bytes of an input, or all but the last (POSIX.1-2017, XCU head; bytes and all but the last
@@ -77,7 +80,7 @@ impl Head {
             let kept = Kept::open(alloc, unit, count, delim)?;
             return Ok(Guarded::new(Ends::ButLast(kept)));
         }
-        let front = Front::new(unit, delim, count, 0);
+        let front = Front::new(unit, delim, count);
         Ok(Guarded::new(Ends::First(count, front)))
     }
 
@@ -89,8 +92,11 @@ impl Head {
             → work result.stage ≡ head_shown delim unit n text }
         ensures bound { result.fed < 2 ^ 63 }
     {
-        let front = Front::new(Unit::Bytes, 0, place, place);
-        Guarded::new(Ends::First(place, front))
+        Guarded::new(Ends::Between(Span {
+            from: 0,
+            end: place,
+            came: 0,
+        }))
     }
 }
 
@@ -116,24 +122,27 @@ impl Tail {
         ensures err { IfErr result (λ fault. (fault ≡ Fault.Memory) × (from_nth ≡ false)) }
     {
         if from_nth {
-            let front = Front::new(unit, delim, count.saturating_sub(1), 0);
-            return Ok(Guarded::new(Ends::FromNth(u128::from(count), front)));
+            let front = Front::new(unit, delim, count.saturating_sub(1));
+            return Ok(Guarded::new(Ends::FromNth(count, front)));
         }
         let kept = Kept::open(alloc, unit, count, delim)?;
         Ok(Guarded::new(Ends::Last(kept)))
     }
 
-    /// An engine that writes all but the first `place` bytes of an input that showed `len` bytes: the last lines or bytes of
-    /// what it showed, of which the first stands after `place` bytes. It takes no memory, and its `close` gives `Changed`
-    /// where fewer than `len` bytes came.
+    /// An engine that writes the bytes of an input from `place` up to `len`: the last lines or bytes of what it showed, which
+    /// were `len` bytes. Whatever comes after these is not written. It takes no memory, and its `close` gives `Changed` where
+    /// fewer came.
     pub fn after(place: u64, len: u64) -> Guarded<Ends>
         ensures holds { HoldsIn Holds result [] }
         ensures does { (delim : ℕ) (unit : Counted) (n : ℕ) (text : List ℕ) → place_of delim unit n text ≡ place
             → length text ≡ len → work result.stage ≡ tail_shown delim unit n text }
         ensures bound { result.fed < 2 ^ 63 }
     {
-        let front = Front::new(Unit::Bytes, 0, place, len);
-        Guarded::new(Ends::FromNth(u128::from(place) + 1, front))
+        Guarded::new(Ends::Between(Span {
+            from: place,
+            end: len,
+            came: 0,
+        }))
     }
 }
 
@@ -148,11 +157,10 @@ impl Stage for Ends {
     /// `Write(0)` where standard output broke, `Memory` where there is no room for what waits.
     #[tactic(auto, using(ports_core::proofs::WriteLemmas::none_written, crate::proofs::KeptLemmas::or_no_room))]
     fn pass<O: Outs>(&mut self, piece: &[u8], outs: &mut O) -> Result<(), Fault>
-        requires fits { length (waiting_of self.old) + past_of self.old + length piece.now < 2 ^ 64 }
+        requires fits { size_of self.old + length piece.now < 2 ^ 64 }
         requires writable { IsTrue (is_writable (O.slots outs.old) 0) }
         ensures same { SameAsked self.old self.new }
-        ensures bound { length (waiting_of self.new) + past_of self.new
-            ≤ length (waiting_of self.old) + past_of self.old + length piece.now }
+        ensures bound { size_of self.new ≤ size_of self.old + length piece.now }
         ensures past { past_of self.new ≡ past_of self.old + length (unused_of self.old piece.now) }
         ensures left { OnOk result (left_of self.new
             ≡ left_of self.old - measure (delim_of self.old) (unit_of self.old) piece.now) }
@@ -167,21 +175,24 @@ impl Stage for Ends {
             Ends::ButLast(kept) => kept.pass(piece, outs),
             Ends::FromNth(_, front) => pass_after(front, piece, outs),
             Ends::Last(kept) => kept.take_in(piece),
+            Ends::Between(span) => span.pass(piece, outs),
         }
     }
 
-    /// Passes over bytes that an input shows, before any piece, and returns how many these are: where all from the nth byte on
-    /// are asked for, those before it.
+    /// Passes over bytes that an input shows, before any piece, and returns how many these are: where all from the nth byte or
+    /// from a place on are asked for, those before it.
     fn load<I: Inputs>(&mut self, slot: usize, most: usize, inputs: &mut I) -> u64
-        requires { IsTrue (is_readable (I.sources inputs.old) slot) }
+        requires input { IsTrue (is_readable (I.sources inputs.old) slot) }
+        requires none { size_of self.old ≡ 0 }
         ensures passes { PassesOver I.told slot result (λ x. WritesNothing self.old x × (self.new ≡ passed self.old x))
             (I.sources inputs.old) (I.sources inputs.new) }
         ensures laid { I.laid inputs.new ≡ I.laid inputs.old }
     {
-        let Ends::FromNth(_, front) = self else {
-            return 0;
-        };
-        front.pass_over(slot, most, inputs)
+        match self {
+            Ends::FromNth(_, front) => front.pass_over(slot, most, inputs),
+            Ends::Between(span) => span.pass_over(slot, most, inputs),
+            Ends::First(_, _) | Ends::ButLast(_) | Ends::Last(_) => 0,
+        }
     }
 
     /// Writes what waits, where the last are asked for.
@@ -192,21 +203,19 @@ impl Stage for Ends {
     fn finish<O: Outs>(&mut self, outs: &mut O) -> Result<(), Fault>
         requires writable { IsTrue (is_writable (O.slots outs.old) 0) }
         ensures same { SameAsked self.old self.new }
-        ensures bound { length (waiting_of self.new) + past_of self.new
-            ≤ length (waiting_of self.old) + past_of self.old }
+        ensures bound { size_of self.new ≤ size_of self.old }
         ensures whole { OnOk result (missing_of self.old ≡ 0) }
         ensures out { OnOk result (O.slots outs.new
             ≡ with_written 0 (told_of O.told (due_at_end self.old)) (O.slots outs.old)) }
         ensures cut { IfErr result (EndsBadly O.told self.old (O.slots outs.old) (O.slots outs.new)) }
     {
         match self {
-            Ends::First(_, front) => front.finish(),
-            Ends::ButLast(_) => Ok(()),
-            Ends::FromNth(_, front) => front.finish(),
+            Ends::First(_, _) | Ends::ButLast(_) | Ends::FromNth(_, _) => Ok(()),
             Ends::Last(kept) => {
                 let all = kept.len();
                 kept.write_front(all, outs)
             }
+            Ends::Between(span) => span.finish(),
         }
     }
 
@@ -220,6 +229,7 @@ impl Stage for Ends {
     {
         match self {
             Ends::First(_, front) => front.left == 0,
+            Ends::Between(span) => span.end <= span.came,
             Ends::ButLast(_) | Ends::FromNth(_, _) | Ends::Last(_) => false,
         }
     }
@@ -228,18 +238,19 @@ impl Stage for Ends {
         ensures { result ≡ length (waiting_of self.now) }
     {
         match self {
-            Ends::First(_, _) | Ends::FromNth(_, _) => 0,
+            Ends::First(_, _) | Ends::FromNth(_, _) | Ends::Between(_) => 0,
             Ends::ButLast(kept) | Ends::Last(kept) => kept.len(),
         }
     }
 
-    /// For a head as many bytes as it still needs, where bytes are counted; where lines are, as many as lines, of which each
-    /// has one at least, but 4,096 where that is more.
+    /// As many bytes as are still needed, where that is known; of a head of lines as many as lines, of which each has one at
+    /// least, but 4,096 where that is more.
     fn wanted(&self) -> u64
         ensures { result ≡ wanted_by self.now }
     {
         match self {
             Ends::First(_, front) => front.wanted(),
+            Ends::Between(span) => span.missing(),
             Ends::ButLast(_) | Ends::FromNth(_, _) | Ends::Last(_) => u64::MAX,
         }
     }
@@ -249,6 +260,7 @@ impl Stage for Ends {
     {
         match self {
             Ends::First(_, front) => front.past,
+            Ends::Between(span) => span.came.saturating_sub(span.end),
             Ends::ButLast(_) | Ends::FromNth(_, _) | Ends::Last(_) => 0,
         }
     }

@@ -1,12 +1,12 @@
 //! Laws of the definitions, with no code: each stands on the contract of a function that does nothing.
 ghost use Rattle.std.specs.{
-  Prelude.{◌≡◌, ◌<◌, ◌≤◌, ◌+◌, ◌-◌, ◌++◌, ◌⊎◌, ℕ, suc, Bool, List, [], length, None, true, false},
+  Prelude.{◌≡◌, ◌<◌, ◌≤◌, ◌+◌, ◌-◌, ◌++◌, ◌⊎◌, ◌↔◌, ℕ, Bool, List, [], length, None, Some, true, false},
 };
 ghost use Rattle.seg_core.specs.Line.{delimiters, ends_with, line_count};
 ghost use Rattle.ends_core.specs.{
   Ends.{after_of, but_last_of, first_of, last_of, measure, size, tail_of},
   Head.{head_waiting, head_work},
-  Place.{head_spots, tail_spots},
+  Place.{between_spots, head_spots, tail_spots},
   Shown.{head_shown, place_of, tail_shown},
   Stage.{Holds, all_but_last, count_of, delim_of, terms, keeps, may_lack, stretch_of, the_last, unit_of, waiting_of},
   Stage.work,
@@ -21,7 +21,7 @@ ghost use Rattle.ports_core.specs.{
 };
 
 use crate::Unit;
-use ports_core::Fault;
+use ports_core::{Fault, Verdict};
 
 /// What a head has of a text x and of y that follows it. Of the first lines or bytes it has those of x, and then
 /// those of y that are still to come. Of all but the last it has all but the last of x, and then all but the last of
@@ -102,27 +102,34 @@ pub fn agreed_is_settled(unit: Unit, delim: u8)
 }
 
 /// The same where the input shows its bytes before they are read. Nothing waits then, whatever it showed and whatever comes.
-/// Where the text comes that it showed, the outputs are in the end those of the tools that know nothing of it, and the work
-/// ends well.
+/// Where the text comes that it showed, the outputs are in the end those that it would have without showing it, whatever
+/// comes after it, and the work ends well. The output of a head is complete once all before the last came, and that of a tail
+/// once as many bytes came as were shown: then no more is read. Where fewer come, the work ends with `Changed`.
 pub fn shown_is_settled(unit: Unit, delim: u8)
     ensures head { (n : ℕ) (text x : List ℕ)
         → IsAgreed (head_shown delim unit n text) x ((head_shown delim unit n text).settled x) }
     ensures head_waits { (n : ℕ) (text x : List ℕ)
-        → IsUndecided (head_spots 0 Unit.Bytes false (place_of delim unit n text)) x [] }
+        → IsUndecided (between_spots 0 (place_of delim unit n text)) x [] }
     ensures head_placed { (n : ℕ) (text : List ℕ)
-        → ArePlaced (head_shown delim unit n text) (head_spots 0 Unit.Bytes false (place_of delim unit n text)) }
-    ensures head_whole { (n : ℕ) (text : List ℕ)
-        → ((head_shown delim unit n text).whole text ≡ (head_work delim unit true n).whole text)
-        × ((head_shown delim unit n text).verdict text ≡ None) }
+        → ArePlaced (head_shown delim unit n text) (between_spots 0 (place_of delim unit n text)) }
+    ensures head_whole { (n : ℕ) (text more : List ℕ)
+        → ((head_shown delim unit n text).whole (text ++ more) ≡ (head_work delim unit true n).whole text)
+        × ((head_shown delim unit n text).verdict (text ++ more) ≡ None) }
     ensures tail { (n : ℕ) (text x : List ℕ)
         → IsAgreed (tail_shown delim unit n text) x ((tail_shown delim unit n text).settled x) }
     ensures tail_waits { (n : ℕ) (text x : List ℕ)
-        → IsUndecided (tail_spots 0 Unit.Bytes true (suc (place_of delim unit n text))) x [] }
+        → IsUndecided (between_spots (place_of delim unit n text) (length text)) x [] }
     ensures tail_placed { (n : ℕ) (text : List ℕ)
-        → ArePlaced (tail_shown delim unit n text) (tail_spots 0 Unit.Bytes true (suc (place_of delim unit n text))) }
-    ensures tail_whole { (n : ℕ) (text : List ℕ)
-        → ((tail_shown delim unit n text).whole text ≡ (tail_work delim unit false n).whole text)
-        × ((tail_shown delim unit n text).verdict text ≡ None) }
+        → ArePlaced (tail_shown delim unit n text) (between_spots (place_of delim unit n text) (length text)) }
+    ensures tail_whole { (n : ℕ) (text more : List ℕ)
+        → ((tail_shown delim unit n text).whole (text ++ more) ≡ (tail_work delim unit false n).whole text)
+        × ((tail_shown delim unit n text).verdict (text ++ more) ≡ None) }
+    ensures done { (n : ℕ) (text x : List ℕ)
+        → ((head_shown delim unit n text).is_complete x ≡ true ↔ place_of delim unit n text ≤ length x)
+        × ((tail_shown delim unit n text).is_complete x ≡ true ↔ length text ≤ length x) }
+    ensures short { (n : ℕ) (text x : List ℕ)
+        → (length x < place_of delim unit n text → (head_shown delim unit n text).verdict x ≡ Some Verdict.Changed)
+        × (length x < length text → (tail_shown delim unit n text).verdict x ≡ Some Verdict.Changed) }
 {
     let _ = (unit, delim);
 }

@@ -1,7 +1,7 @@
 //! Following: looks at files beside names that others watch; and examples of the definitions alone, where each contract says what
 //! they make of some edits with a look after each list.
 ghost use Rattle.std.specs.Prelude.{◌≡◌, [], ◌∷◌, Some, drop, codes, true, false, IfOk};
-ghost use Rattle.watch_core.specs.Edits.{append, truncate, replace, remove, edited_by, empty_world, seen_in};
+ghost use Rattle.watch_core.specs.Edits.{append, bar, truncate, replace, remove, edited_by, empty_world, seen_in};
 ghost use Rattle.mem_core.specs.MemWatchState.{seen};
 ghost use Rattle.follow_core.specs.{Followed.followed, Look.{unopened, unread}, inner.Placing.looks_after};
 ghost use Rattle.ends_core.specs.Ends.{tail_of};
@@ -17,43 +17,43 @@ use watch_core::Watch;
 
 /// `tail -F -n 1 f`: what is appended, a truncation, and a replacement after more was appended.
 fn by_name()
-    ensures { followed (record { first = 0; by_name = true; start = tail_of 10 Unit.Lines false 1; seeks = true }) false (codes "f" ∷ []) (looks_after ((replace (codes "f") (codes "a\nb\n") ∷ []) ∷ (append (codes "f") (codes "c") ∷ []) ∷ (truncate (codes "f") 0 ∷ []) ∷ (append (codes "f") (codes "z\n") ∷ []) ∷ (append (codes "f") (codes "w") ∷ replace (codes "f") (codes "q\n") ∷ []) ∷ []))
+    ensures { followed (record { first = 0; by_name = true; start = tail_of 10 Unit.Lines false 1; seeks = true }) false (codes "f" ∷ []) (looks_after false ((replace (codes "f") (codes "a\nb\n") ∷ []) ∷ (append (codes "f") (codes "c") ∷ []) ∷ (truncate (codes "f") 0 ∷ []) ∷ (append (codes "f") (codes "z\n") ∷ []) ∷ (append (codes "f") (codes "w") ∷ replace (codes "f") (codes "q\n") ∷ []) ∷ []))
         ≡ record { out = codes "b\ncz\nwq\n"; messages = codes "tail: 'f': file truncated\n" ∷ codes "tail: 'f': file replaced\n" ∷ []; has_failed = false } }
 {}
 
 /// `tail -F f`, where the file comes after the first look.
 fn that_appears()
-    ensures { followed (record { first = 0; by_name = true; start = tail_of 10 Unit.Lines false 10; seeks = true }) false (codes "f" ∷ []) (looks_after ([] ∷ (replace (codes "f") (codes "x\n") ∷ []) ∷ []))
+    ensures { followed (record { first = 0; by_name = true; start = tail_of 10 Unit.Lines false 10; seeks = true }) false (codes "f" ∷ []) (looks_after false ([] ∷ (replace (codes "f") (codes "x\n") ∷ []) ∷ []))
         ≡ record { out = codes "x\n"; messages = codes "tail: cannot open 'f'\n" ∷ codes "tail: 'f': file appeared\n" ∷ []; has_failed = true } }
 {}
 
 /// `tail -F f`, where the file is removed and another one comes.
 fn that_comes_again()
-    ensures { followed (record { first = 0; by_name = true; start = tail_of 10 Unit.Lines false 10; seeks = true }) false (codes "f" ∷ []) (looks_after ((replace (codes "f") (codes "a\n") ∷ []) ∷ (remove (codes "f") ∷ []) ∷ (replace (codes "f") (codes "b\n") ∷ []) ∷ []))
+    ensures { followed (record { first = 0; by_name = true; start = tail_of 10 Unit.Lines false 10; seeks = true }) false (codes "f" ∷ []) (looks_after false ((replace (codes "f") (codes "a\n") ∷ []) ∷ (remove (codes "f") ∷ []) ∷ (replace (codes "f") (codes "b\n") ∷ []) ∷ []))
         ≡ record { out = codes "a\nb\n"; messages = codes "tail: 'f': file inaccessible\n" ∷ codes "tail: 'f': file appeared\n" ∷ []; has_failed = false } }
 {}
 
 /// `tail -f f`, where the file is removed and another one comes: the one that was opened is followed.
 fn that_is_left()
-    ensures { followed (record { first = 0; by_name = false; start = tail_of 10 Unit.Lines false 10; seeks = true }) false (codes "f" ∷ []) (looks_after ((replace (codes "f") (codes "a\n") ∷ []) ∷ (remove (codes "f") ∷ []) ∷ (replace (codes "f") (codes "b\n") ∷ []) ∷ []))
+    ensures { followed (record { first = 0; by_name = false; start = tail_of 10 Unit.Lines false 10; seeks = true }) false (codes "f" ∷ []) (looks_after false ((replace (codes "f") (codes "a\n") ∷ []) ∷ (remove (codes "f") ∷ []) ∷ (replace (codes "f") (codes "b\n") ∷ []) ∷ []))
         ≡ record { out = codes "a\n"; messages = []; has_failed = false } }
 {}
 
 /// `tail -f g`, where there is no such file.
 fn that_is_missing()
-    ensures { followed (record { first = 0; by_name = false; start = tail_of 10 Unit.Lines false 10; seeks = true }) false (codes "g" ∷ []) (looks_after ([] ∷ []))
+    ensures { followed (record { first = 0; by_name = false; start = tail_of 10 Unit.Lines false 10; seeks = true }) false (codes "g" ∷ []) (looks_after false ([] ∷ []))
         ≡ record { out = []; messages = codes "tail: cannot open 'g'\n" ∷ []; has_failed = true } }
 {}
 
 /// `tail -f -c 2 f`, where the file is truncated.
 fn that_is_truncated()
-    ensures { followed (record { first = 0; by_name = false; start = tail_of 10 Unit.Bytes false 2; seeks = false }) false (codes "f" ∷ []) (looks_after ((replace (codes "f") (codes "abc") ∷ []) ∷ (truncate (codes "f") 1 ∷ []) ∷ (append (codes "f") (codes "d") ∷ []) ∷ []))
+    ensures { followed (record { first = 0; by_name = false; start = tail_of 10 Unit.Bytes false 2; seeks = false }) false (codes "f" ∷ []) (looks_after false ((replace (codes "f") (codes "abc") ∷ []) ∷ (truncate (codes "f") 1 ∷ []) ∷ (append (codes "f") (codes "d") ∷ []) ∷ []))
         ≡ record { out = codes "bcad"; messages = codes "tail: 'f': file truncated\n" ∷ []; has_failed = false } }
 {}
 
 /// `tail -f -n 1 f g`: a header stands where the text of another name begins.
 fn of_two_names()
-    ensures { followed (record { first = 0; by_name = false; start = tail_of 10 Unit.Lines false 1; seeks = true }) true (codes "f" ∷ codes "g" ∷ []) (looks_after ((replace (codes "f") (codes "a\n") ∷ replace (codes "g") (codes "b\n") ∷ []) ∷ (append (codes "f") (codes "c\n") ∷ []) ∷ (append (codes "f") (codes "d\n") ∷ []) ∷ (append (codes "g") (codes "e\n") ∷ []) ∷ []))
+    ensures { followed (record { first = 0; by_name = false; start = tail_of 10 Unit.Lines false 1; seeks = true }) true (codes "f" ∷ codes "g" ∷ []) (looks_after false ((replace (codes "f") (codes "a\n") ∷ replace (codes "g") (codes "b\n") ∷ []) ∷ (append (codes "f") (codes "c\n") ∷ []) ∷ (append (codes "f") (codes "d\n") ∷ []) ∷ (append (codes "g") (codes "e\n") ∷ []) ∷ []))
         ≡ record { out = codes "==> f <==\na\n\n==> g <==\nb\n\n==> f <==\nc\nd\n\n==> g <==\ne\n"; messages = []; has_failed = false } }
 {}
 
@@ -61,7 +61,7 @@ fn of_two_names()
 fn of_one_that_breaks()
     ensures { let first = replace (codes "f") (codes "a\n") ∷ replace (codes "g") (codes "b\n") ∷ [] in
         let later = (append (codes "f") (codes "c\n") ∷ []) ∷ (append (codes "f") (codes "d\n") ∷ []) ∷ (append (codes "g") (codes "e\n") ∷ []) ∷ [] in
-        followed (record { first = 0; by_name = false; start = tail_of 10 Unit.Lines false 1; seeks = true }) true (codes "f" ∷ codes "g" ∷ []) (record { snapshot = seen_in (edited_by first empty_world); fates = unopened ∷ [] } ∷ drop 1 (looks_after (first ∷ later)))
+        followed (record { first = 0; by_name = false; start = tail_of 10 Unit.Lines false 1; seeks = true }) true (codes "f" ∷ codes "g" ∷ []) (record { snapshot = seen_in (edited_by first empty_world); fates = unopened ∷ [] } ∷ drop 1 (looks_after false (first ∷ later)))
         ≡ record { out = codes "==> g <==\nb\ne\n"; messages = codes "tail: cannot open 'f'\n" ∷ []; has_failed = true } }
 {}
 
@@ -81,6 +81,18 @@ fn that_cannot_be_read()
         ≡ record { out = codes "bcde"; messages = codes "tail: cannot read 'f'\n" ∷ []; has_failed = true } }
 {}
 
+/// `tail -F f` by its own name, where the file can't be read for a look after more came to it: it is missing there, and then comes whole.
+fn that_is_barred()
+    ensures { followed (record { first = 0; by_name = true; start = tail_of 10 Unit.Lines false 1; seeks = true }) false (codes "f" ∷ []) (looks_after true ((replace (codes "f") (codes "a\nb\n") ∷ []) ∷ (append (codes "f") (codes "c\n") ∷ bar (codes "f") true ∷ []) ∷ (bar (codes "f") false ∷ []) ∷ []))
+        ≡ record { out = codes "b\nc\na\nb\nc\n"; messages = codes "tail: 'f': file inaccessible\n" ∷ codes "tail: 'f': file appeared\n" ∷ []; has_failed = false } }
+{}
+
+/// The same edits before one look: it was never missing.
+fn that_is_barred_unseen()
+    ensures { followed (record { first = 0; by_name = true; start = tail_of 10 Unit.Lines false 1; seeks = true }) false (codes "f" ∷ []) (looks_after true ((replace (codes "f") (codes "a\nb\n") ∷ []) ∷ (append (codes "f") (codes "c\n") ∷ bar (codes "f") true ∷ bar (codes "f") false ∷ []) ∷ []))
+        ≡ record { out = codes "b\nc\n"; messages = []; has_failed = false } }
+{}
+
 #[test]
 fn definitions_give_the_examples() {
     by_name();
@@ -93,6 +105,8 @@ fn definitions_give_the_examples() {
     of_one_that_breaks();
     that_cannot_be_opened();
     that_cannot_be_read();
+    that_is_barred();
+    that_is_barred_unseen();
 }
 
 const LAST_LINE: Start = Start {
@@ -131,11 +145,13 @@ fn look_twice(rt: &impl Abort, alloc: Global, row: &Row<'_>) -> Result<(), Fault
     let mut outs = MemOut::new(alloc)?;
     let mut follow = Follow::open(
         alloc,
-        Calling::Cutters,
         row.0,
-        LAST_LINE,
+        Unit::Lines,
+        false,
+        1,
         row.1,
         1 < row.0.len(),
+        b'\n',
     )?;
     follow.look(&mut watch, &mut outs)?;
     follow.look(&mut watch, &mut outs)?;

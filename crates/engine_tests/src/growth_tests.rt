@@ -81,7 +81,7 @@ const ROWS: &[Row<'static>] = &[
         &[],
     ),
     (Job::UpTo(3), &[b"ab", b"cd"], b"abc", &[]),
-    (Job::After(3, 4), &[b"ab", b"cde"], b"de", &[]),
+    (Job::After(3, 4), &[b"ab", b"cde"], b"d", &[]),
     (
         Job::Split(Cut::Parts(Limit::Lines(1, b'\n'))),
         &[b"a\nb", b"\n"],
@@ -363,9 +363,14 @@ fn makes(rt: &impl Abort, alloc: Global, call: Call) -> Result<(), Fault> {
         Call::Operands => read(rt, alloc),
         Call::Notice => notice_line(alloc, Notice::Replaced, "f").map(|_| ()),
         Call::Tee => tee(alloc),
-        Call::Follow => Follow::open(alloc, Calling::Cutters, &["f", "g"], START, true, true).map(
-            |_| (),
-        ),
+        Call::Follow => Follow::open_as(
+            alloc,
+            Calling::Cutters,
+            &["f", "g"],
+            START,
+            true,
+            true,
+        ).map(|_| ()),
         Call::Look => looks(rt, alloc),
     }
 }
@@ -405,7 +410,7 @@ fn looks(rt: &impl Abort, alloc: Global) -> Result<(), Fault> {
     watch.then(&[Edit::Replace("f", b"a\n")])?;
     watch.then(&[Edit::Replace("f", b"b\n")])?;
     let mut outs = MemOut::new(alloc)?;
-    let mut follow = Follow::open(alloc, Calling::Cutters, &["f"], START, true, true)?;
+    let mut follow = Follow::open_as(alloc, Calling::Cutters, &["f"], START, true, true)?;
     look(rt, &mut follow, &mut watch, &mut outs, b"==> f <==\na\n")?;
     look(rt, &mut follow, &mut watch, &mut outs, b"==> f <==\na\nb\n")?;
     is_told(&outs)

@@ -157,13 +157,25 @@ const TAILS: &[TailRow<'static>] = &[
             Step::Waits(0),
             Step::Feed(b"st\n"),
             Step::Wrote(b"qr\nst\n"),
-            Step::Done(false),
+            Step::Done(true),
             Step::Close,
         ],
     ),
-    // No line or byte is wanted.
-    (30, TEXT, TEXT, 30, &[Step::Close, Step::Wrote(b"")]),
-    // More comes than was shown.
+    // No line or byte is wanted: the last byte is read all the same.
+    (
+        30,
+        TEXT,
+        TEXT,
+        29,
+        &[
+            Step::Done(false),
+            Step::Feed(b"\n"),
+            Step::Done(true),
+            Step::Close,
+            Step::Wrote(b""),
+        ],
+    ),
+    // More comes than was shown: it isn't written.
     (
         24,
         TEXT,
@@ -171,8 +183,9 @@ const TAILS: &[TailRow<'static>] = &[
         24,
         &[
             Step::Feed(b"qr\nst\nuv\n"),
+            Step::Done(true),
             Step::Close,
-            Step::Wrote(b"qr\nst\nuv\n"),
+            Step::Wrote(b"qr\nst\n"),
         ],
     ),
     // Fewer come.

@@ -7,7 +7,7 @@ use Rattle.std.proofs.{
     Slice.Eq.bytes_eq-Decides,
   },
   Math.Seq.drop-append_seam as drop_front,
-  Common.{◌≡◌, ℕ, Bool, true, List, [], ◌∷◌, ◌++◌, length, Some, refl, sym, ◌∙◌, ap, arith, length-append},
+  Common.{◌≡◌, ℕ, Bool, true, false, List, [], ◌∷◌, ◌++◌, length, Some, refl, sym, ◌∙◌, ap, arith, length-append},
   Common.{◌⊎◌, inl, inr, ◌<◌, Option, None, subst, rules},
 }
 use Rattle.ports_core.{
@@ -17,10 +17,10 @@ use Rattle.ports_core.{
 use Rattle.watch_core.{
   specs.{
     Snapshot.Snapshot,
-    Edits.{Edit, append, truncate, replace, remove, end, bar, World, led_to, edited, edited_by, seen_in},
+    Edits.{Edit, append, truncate, replace, remove, end, bar, World, led_to, edited, edited_by, seen_in, shown},
     Edits.{snapshots_from, snapshots_of},
   },
-  proofs.WorldLemmas.{append_leads, append_grows},
+  proofs.WorldLemmas.{append_leads, append_grows, same_leads},
 }
 use Rattle.follow_core.{
   specs.Version.{Version, Entry, version, gap, version_in, entries_led, entries_later, entries_at_look, entries_of},
@@ -71,6 +71,18 @@ pub one_look_more : (by_name : Bool) {name : List ℕ} (last : Entry) (extra nex
     ≡ gains_later last (entries_later by_name name (file_of last) (next ∷ later))
 one_look_more by_name last extra next later leads grows = grind (arith, common_steps, through, entries_later)
 
+-- the same of looks at these files
+one_world_more : (forgives by_name : Bool) (name : List ℕ) (last : Entry) (now next : World) (later : List Snapshot)
+    → (by_name ≡ true → (shown forgives now).leads name ≡ file_of last)
+    → ((v : Version) → last ≡ version v
+    → ((seen_in now).holds v.file ≡ v.contents)
+    ⊎ (IsBeginning v.contents ((seen_in now).holds v.file)
+    × IsBeginning ((seen_in now).holds v.file) ((seen_in next).holds v.file)))
+    → gains_later last (entries_later by_name name (file_of last) (shown forgives now ∷ shown forgives next ∷ later))
+    ≡ gains_later last (entries_later by_name name (file_of last) (shown forgives next ∷ later))
+one_world_more false by_name name last now next later leads grows = one_look_more by_name last _ _ later leads grows
+one_world_more true by_name name last now next later leads grows = one_look_more by_name last _ _ later leads grows
+
 -- two placings of looks agree
 
 -- files that names lead to are there, and no two names lead to one
@@ -94,35 +106,35 @@ one_append world other bytes file = elim (append_grows world other bytes file) [
 ]
 
 -- a file that a name leads to keeps its bytes, where the name is not cut
-uncut : (world : World) (name : List ℕ) (file : ℕ) (edits : List Edit) → Sound world
-    → led_to world.links name ≡ Some file → IsUncut name edits → AreSeen edits
+uncut : (forgives : Bool) (world : World) (name : List ℕ) (file : ℕ) (edits : List Edit) → Sound world
+    → led_to world.links name ≡ Some file → IsUncut name edits → AreSeen forgives edits
     → IsBeginning ((seen_in world).holds file) ((seen_in (edited_by edits world)).holds file)
-uncut world name file [] sound leads no_cut seen = begins_itself _
-uncut world name file (truncate other n ∷ []) sound leads no_cut seen = search (rules, begins_itself, changed_elsewhere, false≢true, bytes_eq-Decides)
-uncut world name file (replace other bytes ∷ []) sound leads no_cut seen = grind (arith, common_steps, get_or_append_left, begins_itself)
-uncut world name file (remove other ∷ []) sound leads no_cut seen = begins_itself _
-uncut world name file (end process ∷ []) sound leads no_cut seen = begins_itself _
-uncut world name file (end process ∷ next ∷ edits) sound leads no_cut seen =
-    uncut (edited (end process) world) name file (next ∷ edits) (sound_edited {world = world} (end process) sound) leads no_cut seen
-uncut world name file (bar other is ∷ []) sound leads no_cut seen = begins_itself _
-uncut world name file (bar other is ∷ next ∷ edits) sound leads no_cut seen =
-    uncut (edited (bar other is) world) name file (next ∷ edits) (sound_edited {world = world} (bar other is) sound) leads no_cut seen
-uncut world name file (append other bytes ∷ []) sound leads no_cut seen = one_append world other bytes file
-uncut world name file (append other bytes ∷ next ∷ edits) sound leads no_cut seen =
-    begins_trans _ _ _ (one_append world other bytes file) (uncut (edited (append other bytes) world) name file (next ∷ edits)
-    (sound_edited {world = world} (append other bytes) sound) (append_leads world other bytes name ∙ leads) no_cut seen.1)
-uncut world name file (truncate other n ∷ (next ∷ edits)) sound leads no_cut seen = elim seen [ ]
-uncut world name file (replace other bytes ∷ (next ∷ edits)) sound leads no_cut seen = elim seen [ ]
-uncut world name file (remove other ∷ (next ∷ edits)) sound leads no_cut seen = elim seen [ ]
+uncut forgives world name file [] sound leads no_cut seen = begins_itself _
+uncut forgives world name file (truncate other n ∷ []) sound leads no_cut seen = search (rules, begins_itself, changed_elsewhere, false≢true, bytes_eq-Decides)
+uncut forgives world name file (replace other bytes ∷ []) sound leads no_cut seen = grind (arith, common_steps, get_or_append_left, begins_itself)
+uncut forgives world name file (remove other ∷ []) sound leads no_cut seen = begins_itself _
+uncut forgives world name file (end process ∷ []) sound leads no_cut seen = begins_itself _
+uncut forgives world name file (end process ∷ next ∷ edits) sound leads no_cut seen =
+    uncut forgives (edited (end process) world) name file (next ∷ edits) (sound_edited {world = world} (end process) sound) leads no_cut seen
+uncut forgives world name file (bar other is ∷ []) sound leads no_cut seen = begins_itself _
+uncut forgives world name file (bar other is ∷ next ∷ edits) sound leads no_cut seen =
+    uncut forgives (edited (bar other is) world) name file (next ∷ edits) (sound_edited {world = world} (bar other is) sound) leads no_cut seen.1
+uncut forgives world name file (append other bytes ∷ []) sound leads no_cut seen = one_append world other bytes file
+uncut forgives world name file (append other bytes ∷ next ∷ edits) sound leads no_cut seen =
+    begins_trans _ _ _ (one_append world other bytes file) (uncut forgives (edited (append other bytes) world) name file (next ∷ edits)
+    (sound_edited {world = world} (append other bytes) sound) (append_leads false world other bytes name ∙ leads) no_cut seen.1)
+uncut forgives world name file (truncate other n ∷ (next ∷ edits)) sound leads no_cut seen = elim seen [ ]
+uncut forgives world name file (replace other bytes ∷ (next ∷ edits)) sound leads no_cut seen = elim seen [ ]
+uncut forgives world name file (remove other ∷ (next ∷ edits)) sound leads no_cut seen = elim seen [ ]
 
 -- what was last seen of a name is as it is now
 abbrev Matches : Snapshot → Entry → Type 0
 Matches snapshot gap = Unit {0}
 Matches snapshot (version v) = snapshot.holds v.file ≡ v.contents
 
-record Stays (by_name : Bool) (name : List ℕ) (world : World) (last : Entry) : Type 0 where
+record Stays (forgives by_name : Bool) (name : List ℕ) (world : World) (last : Entry) : Type 0 where
   sound : Sound world
-  leads : by_name ≡ true → led_to world.links name ≡ file_of last
+  leads : by_name ≡ true → (shown forgives world).leads name ≡ file_of last
   matches : Matches (seen_in world) last
 
 abbrev gained : Bool → List ℕ → Entry → List Snapshot → List ℕ
@@ -131,9 +143,10 @@ gained by_name name last looks = gains_later last (entries_later by_name name (f
 abbrev last_seen : Bool → List ℕ → Entry → Snapshot → Entry
 last_seen by_name name last snapshot = last_from last (entries_at_look by_name name (file_of last) snapshot)
 
-stays_now : {by_name : Bool} {name : List ℕ} (last : Entry) {world : World} → Sound world
-    → Stays by_name name world (last_seen by_name name last (seen_in world))
-stays_now {by_name} {name} last {world} sound = grind (arith, common_steps, look_leaves, false≢true)
+stays_now : (forgives : Bool) {by_name : Bool} {name : List ℕ} (last : Entry) {world : World} → Sound world
+    → Stays forgives by_name name world (last_seen by_name name last (shown forgives world))
+stays_now false {by_name} {name} last {world} sound = grind (arith, common_steps, look_leaves, false≢true)
+stays_now true {by_name} {name} last {world} sound = grind (arith, common_steps, look_leaves, false≢true)
 
 same_first : (by_name : Bool) (name : List ℕ) (last : Entry) (snapshot : Snapshot) (looks others : List Snapshot)
     → gained by_name name (last_seen by_name name last snapshot) looks
@@ -141,30 +154,35 @@ same_first : (by_name : Bool) (name : List ℕ) (last : Entry) (snapshot : Snaps
     → gained by_name name last (snapshot ∷ looks) ≡ gained by_name name last (snapshot ∷ others)
 same_first by_name name last snapshot looks others same = grind (arith, common_steps)
 
-idle_look : (by_name : Bool) {name : List ℕ} (last : Entry) {world : World} (looks : List Snapshot)
-    → Stays by_name name world last → gained by_name name last (seen_in world ∷ looks) ≡ gained by_name name last looks
-idle_look by_name last looks stays = grind (arith, common_steps, entries_later)
+idle_look : (forgives by_name : Bool) {name : List ℕ} (last : Entry) {world : World} (looks : List Snapshot)
+    → Stays forgives by_name name world last
+    → gained by_name name last (shown forgives world ∷ looks) ≡ gained by_name name last looks
+idle_look false by_name last looks stays = grind (arith, common_steps, entries_later)
+idle_look true by_name last looks stays = grind (arith, common_steps, entries_later)
 
 -- a look after each edit
 abbrev singles : List Edit → List (List Edit)
 singles [] = []
 singles (edit ∷ edits) = (edit ∷ []) ∷ singles edits
 
-abbrev Refines : Bool → List ℕ → List (List Edit) → Type 0
-Refines by_name name groups = (world : World) (last : Entry) → Stays by_name name world last
-    → gained by_name name last (snapshots_from world groups)
-    ≡ gained by_name name last (snapshots_from world (singles (all_edits groups)))
+abbrev Refines : (forgives by_name : Bool) → List ℕ → List (List Edit) → Type 0
+Refines forgives by_name name groups = (world : World) (last : Entry) → Stays forgives by_name name world last
+    → gained by_name name last (snapshots_from forgives world groups)
+    ≡ gained by_name name last (snapshots_from forgives world (singles (all_edits groups)))
 
-one_group : {by_name : Bool} {name : List ℕ} (group : List Edit) (groups : List (List Edit)) → AreSeen group
-    → Refines by_name name groups → Refines by_name name (group ∷ groups)
-one_group {by_name} [] groups seen rest world last stays = idle_look by_name last _ stays ∙ rest world last stays
-one_group {by_name} {name} (edit ∷ []) groups seen rest world last stays = grind (arith, common_steps, same_first, stays_now, sound_edited)
-one_group {by_name} {name} (append other bytes ∷ next ∷ edits) groups seen rest world last stays =
+one_group : (forgives : Bool) {by_name : Bool} {name : List ℕ} (group : List Edit) (groups : List (List Edit))
+    → AreSeen forgives group
+    → Refines forgives by_name name groups → Refines forgives by_name name (group ∷ groups)
+one_group forgives {by_name} [] groups seen rest world last stays =
+    idle_look forgives by_name last _ stays ∙ rest world last stays
+one_group forgives {by_name} {name} (edit ∷ []) groups seen rest world last stays =
+    grind (arith, common_steps, same_first, stays_now, sound_edited)
+one_group forgives {by_name} {name} (append other bytes ∷ next ∷ edits) groups seen rest world last stays =
     let now = edited (append other bytes) world in let more = (next ∷ edits) ∷ groups in
-    sym (one_look_more by_name last _ _ (snapshots_from (edited_by (next ∷ edits) now) groups)
-    (λ is. append_leads world other bytes name ∙ stays.leads is) grows)
-    ∙ same_first by_name name last _ (snapshots_from now more) (snapshots_from now (singles (all_edits more)))
-    (one_group (next ∷ edits) groups seen.1 rest _ _ (stays_now last (sound_edited (append other bytes) stays.sound))) where
+    sym (one_world_more forgives by_name name last _ _ (snapshots_from forgives (edited_by (next ∷ edits) now) groups)
+    (λ is. append_leads forgives world other bytes name ∙ stays.leads is) grows)
+    ∙ same_first by_name name last _ (snapshots_from forgives now more) (snapshots_from forgives now (singles (all_edits more)))
+    (one_group forgives (next ∷ edits) groups seen.1 rest _ _ (stays_now forgives last (sound_edited (append other bytes) stays.sound))) where
       grows : (v : Version) → last ≡ version v
           → ((seen_in (edited (append other bytes) world)).holds v.file ≡ v.contents)
           ⊎ (IsBeginning v.contents ((seen_in (edited (append other bytes) world)).holds v.file)
@@ -175,50 +193,55 @@ one_group {by_name} {name} (append other bytes ∷ next ∷ edits) groups seen r
             | inl same ↦ inl (same ∙ was)
             | inr both ↦ inr (
               (bytes, both.1 ∙ ap (λ held. held ++ bytes) was),
-              uncut (edited (append other bytes) world) other v.file
-                  (next ∷ edits) (sound_edited (append other bytes) stays.sound) (append_leads world other bytes other ∙ both.0) seen.0 seen.1,
+              uncut forgives (edited (append other bytes) world) other v.file
+                  (next ∷ edits) (sound_edited (append other bytes) stays.sound) (append_leads false world other bytes other ∙ both.0) seen.0 seen.1,
             )
           ]
-one_group (truncate other n ∷ next ∷ edits) groups seen rest world last stays = elim seen [ ]
-one_group (replace other bytes ∷ next ∷ edits) groups seen rest world last stays = elim seen [ ]
-one_group (remove other ∷ next ∷ edits) groups seen rest world last stays = elim seen [ ]
-one_group {by_name} {name} (end process ∷ next ∷ edits) groups seen rest world last stays =
-    let still : Stays by_name name (edited (end process) world)
+one_group forgives (truncate other n ∷ next ∷ edits) groups seen rest world last stays = elim seen [ ]
+one_group forgives (replace other bytes ∷ next ∷ edits) groups seen rest world last stays = elim seen [ ]
+one_group forgives (remove other ∷ next ∷ edits) groups seen rest world last stays = elim seen [ ]
+one_group forgives {by_name} {name} (end process ∷ next ∷ edits) groups seen rest world last stays =
+    let still : Stays forgives by_name name (edited (end process) world)
     last = record {
       sound = sound_edited (end process) stays.sound;
-      leads = stays.leads;
+      leads = λ is. same_leads forgives world (edited (end process) world) name refl refl ∙ stays.leads is;
       matches = grind (arith, common_steps, stays.matches);
     } in
-    one_group (next ∷ edits) groups seen rest (edited (end process) world) last still
-    ∙ sym (idle_look by_name last (snapshots_from (edited (end process) world) (singles (all_edits ((next ∷ edits) ∷ groups)))) still)
-one_group {by_name} {name} (bar other is ∷ next ∷ edits) groups seen rest world last stays =
-    let still : Stays by_name name (edited (bar other is) world)
+    one_group forgives (next ∷ edits) groups seen rest (edited (end process) world) last still
+    ∙ sym (idle_look forgives by_name last (snapshots_from forgives (edited (end process) world) (singles (all_edits ((next ∷ edits) ∷ groups)))) still)
+one_group false {by_name} {name} (bar other is ∷ next ∷ edits) groups seen rest world last stays =
+    let still : Stays false by_name name (edited (bar other is) world)
     last = record {
       sound = sound_edited (bar other is) stays.sound;
       leads = stays.leads;
       matches = grind (arith, common_steps, stays.matches);
     } in
-    one_group (next ∷ edits) groups seen rest (edited (bar other is) world) last still
-    ∙ sym (idle_look by_name last (snapshots_from (edited (bar other is) world) (singles (all_edits ((next ∷ edits) ∷ groups)))) still)
+    one_group false (next ∷ edits) groups seen.1 rest (edited (bar other is) world) last still
+    ∙ sym (idle_look false by_name last (snapshots_from false (edited (bar other is) world) (singles (all_edits ((next ∷ edits) ∷ groups)))) still)
+one_group true (bar other is ∷ next ∷ edits) groups seen rest world last stays = absurd (false≢true (sym seen.0))
 
-refines : {by_name : Bool} {name : List ℕ} (groups : List (List Edit)) → AllSeen groups → Refines by_name name groups
-refines [] seen world last stays = refl
-refines (group ∷ groups) seen world last stays = one_group group groups seen.0 (refines groups seen.1) world last stays
+refines : (forgives : Bool) {by_name : Bool} {name : List ℕ} (groups : List (List Edit)) → AllSeen forgives groups
+    → Refines forgives by_name name groups
+refines forgives [] seen world last stays = refl
+refines forgives (group ∷ groups) seen world last stays =
+    one_group forgives group groups seen.0 (refines forgives groups seen.1) world last stays
 
 -- after the first look
-from_first : (start : List ℕ → List ℕ) (by_name : Bool) (name : List ℕ) {world : World} (groups : List (List Edit))
-    → Sound world → AllSeen groups → (led : Option ℕ) → led_to world.links name ≡ led
-    → gains_after start [] (entries_led (seen_in world) None led
-    ++ entries_later by_name name led (snapshots_from world groups))
+from_first : (forgives : Bool) (start : List ℕ → List ℕ) (by_name : Bool) (name : List ℕ) {world : World}
+    (groups : List (List Edit)) → Sound world → AllSeen forgives groups → (led : Option ℕ)
+    → (shown forgives world).leads name ≡ led
+    → gains_after start [] (entries_led (shown forgives world) None led
+    ++ entries_later by_name name led (snapshots_from forgives world groups))
     ≡ gains_after start []
-    (entries_led (seen_in world) None led
-    ++ entries_later by_name name led (snapshots_from world (singles (all_edits groups))))
-from_first start by_name name {world} groups sound seen None is = grind (arith, common_steps, refines)
-from_first start by_name name {world} groups sound seen (Some file) is = grind (arith, common_steps, refines)
+    (entries_led (shown forgives world) None led
+    ++ entries_later by_name name led (snapshots_from forgives world (singles (all_edits groups))))
+from_first forgives start by_name name {world} groups sound seen None is = grind (arith, common_steps, refines)
+from_first false start by_name name {world} groups sound seen (Some file) is = grind (arith, common_steps, refines)
+from_first true start by_name name {world} groups sound seen (Some file) is = grind (arith, common_steps, refines)
 
-pub text_of_singles : (start : List ℕ → List ℕ) (by_name : Bool) (name : List ℕ) (first : List Edit)
-    (groups : List (List Edit)) → AllSeen groups
-    → AreKept (entries_of by_name name (snapshots_of (first ∷ groups)))
-    → name_text start (entries_of by_name name (snapshots_of (first ∷ groups)))
-    ≡ gains_after start [] (entries_of by_name name (snapshots_of (first ∷ singles (all_edits groups))))
-text_of_singles start by_name name first groups seen kept = grind (arith, common_steps, text_is_gains, from_first, sound_all)
+pub text_of_singles : (forgives : Bool) (start : List ℕ → List ℕ) (by_name : Bool) (name : List ℕ) (first : List Edit)
+    (groups : List (List Edit)) → AllSeen forgives groups
+    → AreKept (entries_of by_name name (snapshots_of forgives (first ∷ groups)))
+    → name_text start (entries_of by_name name (snapshots_of forgives (first ∷ groups)))
+    ≡ gains_after start [] (entries_of by_name name (snapshots_of forgives (first ∷ singles (all_edits groups))))
+text_of_singles forgives start by_name name first groups seen kept = grind (arith, common_steps, text_is_gains, from_first, sound_all)

@@ -19,27 +19,32 @@ IsUncut name (end process ∷ edits) = IsUncut name edits
 IsUncut name (bar other is ∷ edits) = IsUncut name edits
 
 -- One look after these edits sees all that they do: a truncation, a replacement or a removal is the last of them, and
--- no file is truncated that was appended to among them.
-abbrev pub AreSeen : List Edit → Type 0
-AreSeen [] = Unit {0}
-AreSeen (edit ∷ []) = Unit {0}
-AreSeen (append name bytes ∷ next ∷ edits) = IsUncut name (next ∷ edits) × AreSeen (next ∷ edits)
-AreSeen (truncate name n ∷ next ∷ edits) = ⊥
-AreSeen (replace name bytes ∷ next ∷ edits) = ⊥
-AreSeen (remove name ∷ next ∷ edits) = ⊥
-AreSeen (end process ∷ next ∷ edits) = AreSeen (next ∷ edits)
-AreSeen (bar name is ∷ next ∷ edits) = AreSeen (next ∷ edits)
+-- no file is truncated that was appended to among them. Where looks forgive, a name comes and goes with a bar too: that
+-- is the last of them as well.
+abbrev pub AreSeen : (forgives : Bool) → List Edit → Type 0
+AreSeen forgives [] = Unit {0}
+AreSeen forgives (edit ∷ []) = Unit {0}
+AreSeen forgives (append name bytes ∷ next ∷ edits) = IsUncut name (next ∷ edits) × AreSeen forgives (next ∷ edits)
+AreSeen forgives (truncate name n ∷ next ∷ edits) = ⊥
+AreSeen forgives (replace name bytes ∷ next ∷ edits) = ⊥
+AreSeen forgives (remove name ∷ next ∷ edits) = ⊥
+AreSeen forgives (end process ∷ next ∷ edits) = AreSeen forgives (next ∷ edits)
+AreSeen forgives (bar name is ∷ next ∷ edits) = (forgives ≡ false) × AreSeen forgives (next ∷ edits)
 
-abbrev pub AllSeen : List (List Edit) → Type 0
-AllSeen [] = Unit {0}
-AllSeen (edits ∷ looks) = AreSeen edits × AllSeen looks
+abbrev pub AllSeen : (forgives : Bool) → List (List Edit) → Type 0
+AllSeen forgives [] = Unit {0}
+AllSeen forgives (edits ∷ looks) = AreSeen forgives edits × AllSeen forgives looks
 
 -- the versions of a name, where a first look comes after the first edits, and one look after each further list of edits
-abbrev pub entries_among : Bool → List ℕ → List Edit → List (List Edit) → List Entry
-entries_among by_name name first looks = entries_of by_name name (snapshots_of (first ∷ looks))
+abbrev pub entries_among : (forgives by_name : Bool) → List ℕ → List Edit → List (List Edit) → List Entry
+entries_among forgives by_name name first looks = entries_of by_name name (snapshots_of forgives (first ∷ looks))
 
 -- Two placings of looks among the same edits, with the first look after the same ones, give the same text of a name.
-abbrev pub Agree : (List ℕ → List ℕ) → Bool → List ℕ → List Edit → List (List Edit) → List (List Edit) → Type 0
-Agree start by_name name first one other = AllSeen one → AllSeen other → all_edits one ≡ all_edits other
-    → AreKept (entries_among by_name name first one) → AreKept (entries_among by_name name first other)
-    → name_text start (entries_among by_name name first one) ≡ name_text start (entries_among by_name name first other)
+abbrev pub Agree : (forgives : Bool) → (List ℕ → List ℕ) → (by_name : Bool) → List ℕ → List Edit
+    → (one other : List (List Edit)) → Type 0
+Agree forgives start by_name name first one other = AllSeen forgives one → AllSeen forgives other
+    → all_edits one ≡ all_edits other
+    → AreKept (entries_among forgives by_name name first one)
+    → AreKept (entries_among forgives by_name name first other)
+    → name_text start (entries_among forgives by_name name first one)
+    ≡ name_text start (entries_among forgives by_name name first other)

@@ -15,6 +15,7 @@ ghost use Rattle.follow_core.specs.{
 use crate::name::{Name, add_all, any_goes_on, new_names, visit_all};
 use crate::start::Start;
 use crate::visitor::Visitor;
+use ends_core::Unit;
 use ports_core::{Calling, Fault, Outs};
 use std::alloc::Global;
 use std::marker::Model;
@@ -65,14 +66,44 @@ impl Model for Follow {
 }
 
 impl Follow {
-    /// Following of these names, of which there may be none: by name, so that the file to which a name leads is read, or by the file
-    /// that is open since the first look; with a header before each stretch of text or without. Nothing is opened before the first
-    /// look.
+    /// Following of these names, of which there may be none, by `cutters`: by name, so that the file to which a name leads is read, or
+    /// by the file that is open since the first look; with a header before each stretch of text or without. The first look writes the
+    /// last `count` lines or bytes, or with `from_nth` all from number `count` on. Lines end with `delim`. Nothing is opened before the
+    /// first look.
     ///
     /// # Errors
     ///
     /// `Memory` where there is no room for the names and the buffer.
     pub fn open(
+        alloc: Global,
+        names: &[&str],
+        unit: Unit,
+        from_nth: bool,
+        count: u64,
+        by_name: bool,
+        headers: bool,
+        delim: u8,
+    ) -> Result<Self, Fault>
+        ensures ok { IfOk result (λ follow. follow ≡ opened_follow Calling.Cutters by_name
+            (record { unit = unit; from_nth = from_nth; count = count; delim = delim }) headers
+            (map (λ name. name.now) names.now)) }
+        ensures err { IfErr result (λ fault. fault ≡ Fault.Memory) }
+    {
+        let start = Start {
+            unit,
+            from_nth,
+            count,
+            delim,
+        };
+        Follow::open_as(alloc, Calling::Cutters, names, start, by_name, headers)
+    }
+
+    /// The same, by how `tail` was called: its messages and what it makes of names that can't be read go by that.
+    ///
+    /// # Errors
+    ///
+    /// `Memory` where there is no room for the names and the buffer.
+    pub fn open_as(
         alloc: Global,
         calling: Calling,
         names: &[&str],

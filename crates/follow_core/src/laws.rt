@@ -44,10 +44,11 @@ pub fn text_goes_on()
 {}
 
 /// Looks don't matter: two placings of looks among the same edits give the same text of each name, where the first look stands
-/// after the same edits, one look sees all that the edits before it do, and a file that is appended to keeps its bytes.
+/// after the same edits, one look sees all that the edits before it do, and a file that is appended to keeps its bytes. So it is also
+/// where a name that can't be opened or read counts as missing.
 pub fn looks_agree()
-    ensures { (start : List ℕ → List ℕ) (by_name : Bool) (name : List ℕ) (first : List Edit)
-        (one other : List (List Edit)) → Agree start by_name name first one other }
+    ensures { (forgives : Bool) (start : List ℕ → List ℕ) (by_name : Bool) (name : List ℕ) (first : List Edit)
+        (one other : List (List Edit)) → Agree forgives start by_name name first one other }
 {}
 
 /// Where no call can fail no name is dropped: of no name a call failed in these looks.

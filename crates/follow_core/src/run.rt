@@ -56,7 +56,7 @@ pub fn follow_files<W: Watch, O: Outs>(
         calling,
         tool: Tool::Tail,
     };
-    let mut follow = match Follow::open(alloc, calling, names, start, by_name, headers) {
+    let mut follow = match Follow::open_as(alloc, calling, names, start, by_name, headers) {
         Ok(follow) => follow,
         Err(fault) => return tell(alloc, speaker, &fault, outs),
     };

@@ -7,13 +7,13 @@ use Rattle.std.proofs.{
 }
 use Rattle.watch_core.{
   specs.Snapshot.{Snapshot, forgiving, latest, waiting, Finding, Found},
-  specs.Edits.{World, empty_world, held_in, is_one, led_to},
+  specs.Edits.{World, empty_world, held_in, is_one, led_to, shown},
   specs.Watched.{Watched, Finds, Reopens, open_contents, opens, watched_at},
   specs.declared.watch.Seen.Seen,
   proofs.NameLemmas.{latest-last, name_changes, name_there},
 }
 use Rattle.ports_core.specs.declared.reason.Reason.{Reason}
-use Rattle.mem_core.specs.MemWatchState.{MemWatchState, world_at, seen_by, seen, shown, shows}
+use Rattle.mem_core.specs.MemWatchState.{MemWatchState, world_at, seen_by, seen, shows}
 
 pub world_there : (worlds : List World) (n : ℕ) (world : World) → n < length worlds
     → world_at worlds n ≡ get_or worlds n world

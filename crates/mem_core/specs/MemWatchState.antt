@@ -1,8 +1,8 @@
 -- What contracts see of a watch in memory.
-use Rattle.std.specs.Prelude.{ℕ, ◌+◌, zero, suc, Bool, false, List, [], ◌∷◌, ◌++◌, length, if◌then◌else◌}
+use Rattle.std.specs.Prelude.{ℕ, ◌+◌, zero, suc, Bool, false, List, [], ◌∷◌, ◌++◌, length}
 use Rattle.watch_core.specs.{
-  Snapshot.{Snapshot, forgiving, waiting},
-  Edits.{Edit, append, bar, truncate, replace, remove, end, World, empty_world, edited_by, seen_in},
+  Snapshot.{Snapshot, waiting},
+  Edits.{Edit, append, bar, truncate, replace, remove, end, World, empty_world, edited_by, shown},
   Watched.Watched,
 }
 use Rattle.ports_core.specs.declared.reason.Reason.{Reason, TheVariants.Other}
@@ -36,10 +36,6 @@ world_at [] n = empty_world
 world_at (world ∷ []) n = world
 world_at (world ∷ next ∷ worlds) zero = world
 world_at (world ∷ next ∷ worlds) (suc n) = world_at (next ∷ worlds) n
-
--- what a look sees of these files
-abbrev pub shown : (forgives : Bool) → World → Snapshot
-shown forgives world = if forgives then forgiving (seen_in world) else seen_in world
 
 -- what the first n looks see
 abbrev pub seen_by : (forgives : Bool) → (within : ℕ) → List World → ℕ → List Snapshot

@@ -5,7 +5,7 @@ ghost use Rattle.std.specs.{
 ghost use Rattle.ports_core.specs.{
   Slot.changed_at,
   Source.{Source, source_at, source_of, missing, gives, gets_back, fails, looks, skips, unshown, Gave, BrokeOff, Shows},
-  Source.{ShowsAll, ShowsOf, count_shown, holds, cut},
+  Source.{ShowsAll, ShowsOf, count_shown, holds, cut, is_readable},
 };
 ghost use Rattle.mem_core.specs.{
   MemInState.{MemInState, Laid, laid_at, laid_in, breaks_in, content_in, file_of, showing, shown_by, with_break},
@@ -531,8 +531,15 @@ impl Inputs for MemIn {
         self.sources[slot].read_at(place, buffer)
     }
 
-    /// Passes over the next bytes, where there are as many.
-    fn skip(&mut self, slot: usize, count: u64) -> bool {
+    /// Passes over the next bytes, wherever there are as many.
+    fn skip(&mut self, slot: usize, count: u64) -> bool
+        requires { IsTrue (is_readable self.old.sources slot) }
+        ensures there { IsTrue result → count ≤ length (source_at self.old.sources slot).left.bytes }
+        ensures can { count ≤ length (source_at self.old.sources slot).left.bytes → IsTrue result }
+        ensures rest { IsTrue result
+            → self.new ≡ record self.old { sources = changed_at slot (skips count) self.old.sources } }
+        ensures unchanged { result ≡ false → self.new ≡ self.old }
+    {
         self.sources[slot].skip(count)
     }
 

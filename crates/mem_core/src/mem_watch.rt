@@ -3,12 +3,12 @@ ghost use Rattle.std.specs.{
   Prelude.{IsTrue, is_some},
 };
 ghost use Rattle.watch_core.specs.{
-  Edits.empty_world,
+  Edits.{empty_world, shown},
   Snapshot.latest,
   Watched.{Finds, GaveFrom, Watched, added, breaks, is_readable, is_watchable, open_contents, opens, watched_at},
 };
 ghost use Rattle.mem_core.specs.{
-  MemWatchState.{MemWatchState, edit_of, no_looks, seen, shown, shows, with_look, world_at},
+  MemWatchState.{MemWatchState, edit_of, no_looks, seen, shows, with_look, world_at},
 };
 ghost use Rattle.ports_core.specs.Slot.{changed_at};
 
@@ -290,6 +290,8 @@ impl Watch for MemWatch {
     ghost shows = { λ watch. shows watch };
 
     ghost watched = { λ watch. watch.watched };
+
+    ghost rested = { λ watch. 0 };
 
     ghost told = { true };
 

@@ -2,9 +2,9 @@
 ghost use Rattle.std.specs.Prelude.{◌≡◌, ◌∷◌, ℕ, List, map, string_bytes, IfOk, OnOk};
 ghost use Rattle.watch_core.specs.{
   Edits.{Bar, Link, World, append, bar, edited, edited_by, empty_world, end, held_in, is_barred_in, is_one, led_to},
-  Edits.{replace, truncate},
+  Edits.{replace, shown, truncate},
 };
-ghost use Rattle.mem_core.specs.MemWatchState.{edit_of, shown};
+ghost use Rattle.mem_core.specs.MemWatchState.{edit_of};
 
 use crate::Edit;
 use std::alloc::{AllocError, Global};

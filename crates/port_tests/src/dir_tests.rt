@@ -6,7 +6,7 @@ use crate::compare::same;
 use crate::folder::{holds, is_there, make_file, make_folder};
 use crate::reading::{Call, ask, inputs_of, open_and_ask, open_input};
 use crate::writing::{open_output, outs_of};
-use ports_core::{DirIn, DirOut, Fault, InputFiles, Inputs, Mode, Outs, write_whole};
+use ports_core::{DirIn, DirOut, Fault, InputFiles, Inputs, Mode, Outs, Reason, write_whole};
 use std::fs;
 use std::os::unix::fs::{PermissionsExt, symlink};
 use std::process::Abort;
@@ -178,6 +178,7 @@ fn files_are_removed(rt: HostRuntime) -> Result<(), Fail> {
     fs::remove_file(&rt, name)?;
     same(&rt, &outs.remove(gone), &Err(Fault::Write(4)));
     assert!(rt; outs.broken(gone));
+    same(&rt, &outs.reason(gone), &Reason::Missing);
     Ok(())
 }
 
@@ -402,7 +403,7 @@ fn is_limited(rt: HostRuntime) -> Result<bool, Fail> {
 }
 
 /// Removes the file of the first of many outputs, and writes to it: whether that fails and breaks the output just as is
-/// wanted, and the file isn't there.
+/// wanted, since the file is missing, and it isn't there.
 fn write_to_none(
     rt: HostRuntime,
     folder: &str,
@@ -413,7 +414,13 @@ fn write_to_none(
     let mut outs = open_many(rt, &noted, folder, Mode::Fresh)?;
     fs::remove_file(&rt, first)?;
     let fails = outs.write(2, b"abc").is_err();
-    Ok(fails == is_wanted && outs.broken(2) == is_wanted && !is_there(&rt, first))
+    let is_missing = outs.reason(2) == Reason::Missing;
+    Ok(
+        fails == is_wanted
+            && is_missing == is_wanted
+            && outs.broken(2) == is_wanted
+            && !is_there(&rt, first),
+    )
 }
 
 #[test]

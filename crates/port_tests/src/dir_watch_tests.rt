@@ -467,38 +467,57 @@ fn looks_begin_within_what_was_asked(rt: HostRuntime) -> Result<(), Fail> {
     Ok(())
 }
 
-/// A file is replaced by a folder, and that by a file again.
-const FORGIVEN: &[Step<'static>] = &[
-    Step::Make("watch_core_forgiven/f", b"abc"),
+/// A file is replaced by a folder, and that by a file again: from the second look on a folder counts as missing.
+const REPLACED_BY_FOLDER: &[Step<'static>] = &[
+    Step::Make("watch_core_folder_later/f", b"abc"),
     Step::Sees(Some(3)),
     Step::Opens(true),
-    Step::Remove("watch_core_forgiven/f"),
-    Step::MakeFolder("watch_core_forgiven/f"),
+    Step::Remove("watch_core_folder_later/f"),
+    Step::MakeFolder("watch_core_folder_later/f"),
     Step::Sees(None),
     Step::EarlierIsOpen,
-    Step::Says(Reason::Folder),
+    Step::Says(Reason::Missing),
     Step::Opens(false),
     Step::IsOpen(false),
-    Step::Says(Reason::Folder),
+    Step::Says(Reason::Missing),
     Step::Waits(true),
-    Step::RemoveFolder("watch_core_forgiven/f"),
-    Step::Make("watch_core_forgiven/f", b"wxyz"),
+    Step::RemoveFolder("watch_core_folder_later/f"),
+    Step::Make("watch_core_folder_later/f", b"wxyz"),
     Step::Sees(Some(4)),
     Step::Opens(true),
     Step::LatestIsOpen(true),
-    Step::Append("watch_core_forgiven/f", b"v"),
+    Step::Append("watch_core_folder_later/f", b"v"),
     Step::Sees(Some(5)),
     Step::Reads(3, 2, b"zv\0"),
 ];
 
 #[test]
-fn a_folder_in_place_of_a_file_is_forgiven(rt: HostRuntime) -> Result<(), Fail> {
+fn a_folder_in_place_of_a_file_is_none(rt: HostRuntime) -> Result<(), Fail> {
+    let (folder, name) = ("watch_core_folder_later", "watch_core_folder_later/f");
+    play(&rt, &rt, folder, name, REPLACED_BY_FOLDER)?;
+    play_forgiving(&rt, &rt, folder, name, REPLACED_BY_FOLDER)
+}
+
+/// A folder at the first look, and then a file.
+const FOLDER_FIRST: &[Step<'static>] = &[
+    Step::MakeFolder("watch_core_first/f"),
+    Step::Turn,
+    Step::Opens(false),
+    Step::Says(Reason::Folder),
+    Step::RemoveFolder("watch_core_first/f"),
+    Step::Make("watch_core_first/f", b"abc"),
+    Step::Sees(Some(3)),
+    Step::Opens(true),
+];
+
+#[test]
+fn a_folder_at_first_is_forgiven(rt: HostRuntime) -> Result<(), Fail> {
     play_forgiving(
         &rt,
         &rt,
-        "watch_core_forgiven",
-        "watch_core_forgiven/f",
-        FORGIVEN,
+        "watch_core_first",
+        "watch_core_first/f",
+        FOLDER_FIRST,
     )
 }
 

@@ -1,14 +1,15 @@
 -- Lemmas on what all continuations agree on.
 use Rattle.std.proofs.{
-  lemmas.{Grind.common_steps, List.{append-nil, length-map}, Bool.cases_lt},
+  lemmas.{Grind.common_steps, List.{append-nil, length-map}, Bool.{cases_lt, cond_both}},
   Common.{◌≡◌, ◌≢◌, ℕ, ◌+◌, ◌-◌, ◌<◌, ◌≤◌, zero, suc, List, [], ◌∷◌, ◌++◌, length, get_or, replicate, inl},
-  Common.{inr, sym, ◌∙◌, ap, arith, length-append, lit<, map, take, drop, refl, rules, subst},
+  Common.{inr, sym, ◌∙◌, ap, arith, length-append, lit<, map, take, drop, refl, rules, subst, nat_lt, ◌⊎◌, ◌↔◌},
   Math.Seq.{drop-append_seam, get_or-append_right, take-append_seam},
 }
 use Rattle.ports_core.specs.{
   Part.{IsBeginning, Begins, File, Part, FilesBegin},
   Work.{Work, IsLawful},
-  Agreed.{AgreeOn, CanCome, DifferOn, outputs_of, output_at, IsAgreed, Spot, spot, spots_from, GoesTo, ArePlaced},
+  Agreed.{AgreeOn, CanCome, DifferOn, GoesApart, GoesBy, GoesTo, outputs_of, output_at, IsAgreed, Spot, spot},
+  Agreed.{spots_from, ArePlaced},
 }
 use Rattle.ports_core.proofs.PartLemmas.{part_trans, no_fewer}
 
@@ -54,9 +55,15 @@ agreed_as few y begin few_come come no_more short =
     grind (arith, common_steps, beginning_short)
 
 -- Nothing waits, where what follows decides nothing of what came in.
-pub nothing_waits : {A G : Type 0} {comes : List A → Type 0} {goes : List A → ℕ → G} {x : List A}
-    → ((i : ℕ) → i < length x → (y z : List A) → goes (x ++ y) i ≡ goes (x ++ z) i) → DifferOn comes goes x []
-nothing_waits same = search rules
+pub nothing_waits : {A P : Type 0} {comes : List A → Type 0} {Goes : List A → ℕ → P → Type 0} {x : List A}
+    → ((i : ℕ) → i < length x → (y z : List A) (at : P) → Goes (x ++ y) i at → Goes (x ++ z) i at)
+    → DifferOn comes Goes x []
+nothing_waits {x = x} same = record {
+  before = x;
+  are_last = sym (append-nil x);
+  differ = λ i past less. absurd (omega arith);
+  decided = λ i less y z at can also goes. same i less y z at goes;
+}
 
 -- what is settled begins the whole of every continuation
 pub common : (work : Work) → IsLawful work → (x y : List ℕ) → Begins (work.settled x) (work.whole (x ++ y))
@@ -96,6 +103,53 @@ only_spot (inr none) = absurd none
 
 pub some_spot : (one : Spot) (spots : List Spot) → one ∷ spots ≡ [] → ⊥
 some_spot one spots is = cc
+
+-- what follows decides nothing of a byte whose spots stay
+pub same_spots : {comes : List ℕ → Type 0} (spots_of : List ℕ → ℕ → List Spot) {x : List ℕ}
+    → ((i : ℕ) → i < length x → (y z : List ℕ) → spots_of (x ++ y) i ≡ spots_of (x ++ z) i)
+    → DifferOn comes (GoesBy spots_of) x []
+same_spots spots_of same = nothing_waits (λ i less y z at. subst (GoesTo at) (same i less y z))
+
+-- a byte that goes to one place at the most
+abbrev pub AtMostOne : List Spot → Type 0
+AtMostOne [] = Unit {0}
+AtMostOne (at ∷ []) = Unit {0}
+AtMostOne (at ∷ other ∷ spots) = ⊥
+
+pub spots_few : (place : ℕ) (outputs : List (List ℕ)) (i : ℕ) → AtMostOne (spots_from place outputs i)
+spots_few place [] i = tt
+spots_few place (bytes ∷ outputs) i = cond_both (nat_lt i (length bytes)) _ _ AtMostOne (λ less. tt)
+    (λ past. spots_few (place + 1) outputs (i - length bytes))
+
+-- where two differ, it goes by one of them where it doesn't by the other
+one_alone : (one other : List Spot) → AtMostOne one → AtMostOne other → one ≢ other
+    → ((at : Spot) × GoesTo at one × (GoesTo at other → ⊥)) ⊎ ((at : Spot) × GoesTo at other × (GoesTo at one → ⊥))
+one_alone [] [] few also apart = absurd (apart refl)
+one_alone [] (at ∷ []) few also apart = inr (at, inl refl, λ none. none)
+one_alone (at ∷ []) [] few also apart = inl (at, inl refl, λ none. none)
+one_alone (at ∷ []) (there ∷ []) few also apart =
+    inl (at, inl refl, λ goes. apart (ap (λ one. one ∷ []) (only_spot goes)))
+one_alone (at ∷ next ∷ one) other few also apart = absurd few
+one_alone one (at ∷ next ∷ other) few also apart = absurd also
+
+-- So what waits is shown by spots that differ, or stay.
+pub spots_differ : {comes : List ℕ → Type 0} (spots_of : List ℕ → ℕ → List Spot) {x waiting : List ℕ}
+    (before : List ℕ) → ((x : List ℕ) (i : ℕ) → AtMostOne (spots_of x i)) → x ≡ before ++ waiting
+    → ((i : ℕ) → length before ≤ i → i < length x
+    → (y : List ℕ) × (z : List ℕ) × comes y × comes z × (spots_of (x ++ y) i ≢ spots_of (x ++ z) i))
+    → ((i : ℕ) → i < length before → (y z : List ℕ) → comes y → comes z
+    → spots_of (x ++ y) i ≡ spots_of (x ++ z) i)
+    → DifferOn comes (GoesBy spots_of) x waiting
+spots_differ {comes} spots_of {x} before few are_last differ decided = record {
+  before = before;
+  are_last = are_last;
+  differ = λ i past less. let (y, z, can, also, apart) = differ i past less in
+      elim (one_alone _ _ (few (x ++ y) i) (few (x ++ z) i) apart) as (λ _. GoesApart comes (GoesBy spots_of) x i) [
+        | inl (at, goes, none) ↦ (y, z, at, can, also, goes, none)
+        | inr (at, goes, none) ↦ (z, y, at, also, can, goes, none)
+      ];
+  decided = λ i less y z at can also. subst (GoesTo at) (decided i less y z can also);
+}
 
 -- no byte of outputs from a place on goes to an output before it
 pub none_before : (from i place offset : ℕ) (outputs : List (List ℕ)) → place < from
@@ -280,12 +334,30 @@ one_is_agreed work x one other agreed also =
     (begins_at _ (agreed.common [] none_comes) less) (begins_at _ (also.common [] none_comes) within)
     (let short = no_longer work one other place agreed also less within in omega (arith, no_longer work other one place also agreed within less)))
 
-module _ {A G : Type 0} {comes : List A → Type 0} (goes : List A → ℕ → G) (x : List A) where
-  begins_no_later : (one other : List A) (here : DifferOn comes goes x one) (there : DifferOn comes goes x other)
-      → length here.before ≤ length there.before
-  begins_no_later one other here there = grind (arith, common_steps)
+-- places that are said otherwise are the same
+pub alike_differ : {A P : Type 0} {comes : List A → Type 0} (Goes Other : List A → ℕ → P → Type 0) {x waiting : List A}
+    → ((x : List A) (i : ℕ) (at : P) → Goes x i at ↔ Other x i at) → DifferOn comes Goes x waiting
+    → DifferOn comes Other x waiting
+alike_differ Goes Other {x} alike waits = record {
+  before = waits.before;
+  are_last = waits.are_last;
+  differ = λ i past less. let (y, z, at, can, also, goes, none) = waits.differ i past less in
+      (y, z, at, can, also, (alike (x ++ y) i at).0 goes, λ there. none ((alike (x ++ z) i at).1 there));
+  decided = λ i less y z at can also goes.
+      (alike (x ++ z) i at).0 (waits.decided i less y z at can also ((alike (x ++ y) i at).1 goes));
+}
 
-  pub one_is_undecided : (one other : List A) → DifferOn comes goes x one → DifferOn comes goes x other → one ≡ other
+module _ {A P : Type 0} {comes : List A → Type 0} (Goes : List A → ℕ → P → Type 0) (x : List A) where
+  begins_no_later : (one other : List A) (here : DifferOn comes Goes x one) (there : DifferOn comes Goes x other)
+      → length here.before ≤ length there.before
+  begins_no_later one other here there = elim (cases_lt (length there.before) (length here.before)) [
+    | inl less ↦ (let apart = there.differ (length there.before) (omega arith)
+        (omega (arith, ap length here.are_last ∙ length-append here.before one)) in
+        absurd (apart.6 (here.decided _ less apart.0 apart.1 apart.2 apart.3 apart.4 apart.5)))
+    | inr past ↦ past
+  ]
+
+  pub one_is_undecided : (one other : List A) → DifferOn comes Goes x one → DifferOn comes Goes x other → one ≡ other
   one_is_undecided one other here there =
       let low = begins_no_later _ _ here there in let high = begins_no_later _ _ there here in
       sym (ap (drop (length here.before)) here.are_last ∙ drop-append_seam here.before one)

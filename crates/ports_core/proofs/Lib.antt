@@ -13,6 +13,7 @@ pub mod WriteLemmas
 pub mod CounterLemmas
 pub mod OrderLemmas
 pub mod DirInLemmas
+pub mod PlaceLemmas
 pub mod MessageLemmas
 pub mod SlotSteps
 pub mod AgreedLemmas

@@ -1,7 +1,7 @@
 -- What all continuations of an input agree on, and on which parts of it they don't. An input is bytes, or lines, and a
 -- continuation is what may still come, perhaps nothing.
 use Rattle.std.specs.{
-  Prelude.{◌≡◌, ◌≢◌, ◌⊎◌, ℕ, ◌+◌, ◌-◌, ◌<◌, ◌≤◌, nat_lt, List, [], ◌∷◌, ◌++◌, All, get_or, length},
+  Prelude.{◌≡◌, ◌⊎◌, ℕ, ◌+◌, ◌-◌, ◌<◌, ◌≤◌, nat_lt, List, [], ◌∷◌, ◌++◌, All, get_or, length},
   Prelude.{map, if◌then◌else◌},
 }
 use Rattle.ports_core.specs.{Part.{File, Part, IsBeginning, Begins}, Work.Work}
@@ -20,16 +20,21 @@ pub record AgreeOn {A W : Type 0} (comes : List A → Type 0) (begins : W → W 
       → IsBeginning front (get_or (outputs (whole (x ++ z))) place [])
       → length front ≤ length (get_or (outputs agreed) place []))
 
--- What waits are the last of x, and exactly those on which continuations differ. `goes x i` says where number i of the
--- input x goes, counted from 0.
-pub record DifferOn {A G : Type 0} (comes : List A → Type 0) (goes : List A → ℕ → G) (x waiting : List A) : Type 0 where
+-- There is a place to which number i of the input goes under one continuation of x, and not under another.
+-- `Goes x i at` says that number i of the input x goes there, counted from 0.
+abbrev pub GoesApart : {A P : Type 0} → (List A → Type 0) → (List A → ℕ → P → Type 0) → List A → ℕ → Type 0
+GoesApart {A = A} {P} comes Goes x i = (y : List A) × (z : List A) × (at : P) × comes y × comes z × Goes (x ++ y) i at
+    × (Goes (x ++ z) i at → ⊥)
+
+-- What waits are the last of x, and exactly those on which continuations differ.
+pub record DifferOn {A P : Type 0} (comes : List A → Type 0) (Goes : List A → ℕ → P → Type 0)
+    (x waiting : List A) : Type 0 where
   pub before : List A
   pub are_last : x ≡ before ++ waiting
-  -- two continuations put one that waits into different places, or one of them puts it nowhere
-  pub differ : (i : ℕ) → length before ≤ i → i < length x → (y : List A) × (z : List A) × comes y × comes z
-      × (goes (x ++ y) i ≢ goes (x ++ z) i)
-  -- any other goes to the same place, or nowhere, in all of them
-  pub decided : (i : ℕ) → i < length before → (y z : List A) → comes y → comes z → goes (x ++ y) i ≡ goes (x ++ z) i
+  pub differ : (i : ℕ) → length before ≤ i → i < length x → GoesApart comes Goes x i
+  -- any other goes to the same places, or nowhere, under all of them
+  pub decided : (i : ℕ) → i < length before → (y z : List A) (at : P) → comes y → comes z → Goes (x ++ y) i at
+      → Goes (x ++ z) i at
 
 -- Of bytes
 
@@ -67,15 +72,18 @@ spots_from place [] i = []
 spots_from place (bytes ∷ outputs) i = if nat_lt i (length bytes) then spot place i ∷ []
     else spots_from (place + 1) outputs (i - length bytes)
 
--- The waiting bytes are the last of x, and exactly those on which continuations differ. `spots_of x i` says where byte
--- i goes where the input is x: to a spot, to several, or nowhere.
-abbrev pub IsUndecided : (List ℕ → ℕ → List Spot) → List ℕ → List ℕ → Type 0
-IsUndecided = DifferOn CanCome
-
 -- the byte that goes to these spots goes to this one
 abbrev pub GoesTo : Spot → List Spot → Type 0
 GoesTo at [] = ⊥
 GoesTo at (one ∷ spots) = (at ≡ one) ⊎ GoesTo at spots
+
+-- where byte i goes where the input is x: `spots_of x i` has a spot, several, or none
+abbrev pub GoesBy : (List ℕ → ℕ → List Spot) → List ℕ → ℕ → Spot → Type 0
+GoesBy spots_of x i at = GoesTo at (spots_of x i)
+
+-- the waiting bytes are the last of x, and exactly those on which continuations differ
+abbrev pub IsUndecided : (List ℕ → ℕ → List Spot) → List ℕ → List ℕ → Type 0
+IsUndecided spots_of = DifferOn CanCome (GoesBy spots_of)
 
 -- Spots are right: in the end each output has, at each of its offsets, just the one byte of the input that goes there.
 pub record ArePlaced (work : Work) (spots_of : List ℕ → ℕ → List Spot) : Type 0 where

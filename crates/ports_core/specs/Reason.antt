@@ -3,7 +3,7 @@ use Rattle.std.specs.Prelude.{ℕ, ℤ, pos, negsuc, ◌==◌, List, [], ◌∷�
 use Rattle.ports_core.specs.declared.reason.Reason.{
   Reason,
   TheVariants.{Gone, Missing, Denied, Folder, NoFolder, Full, TooLarge, ReadOnly, Quota, TooMany, Device, Busy},
-  TheVariants.{LongName, Circle, Input, Other},
+  TheVariants.{LongName, Circle, Input, MayBeInput, Other},
 }
 
 -- what a message says of it after the name
@@ -23,6 +23,7 @@ reason_text Busy = codes ": Text file busy"
 reason_text LongName = codes ": File name too long"
 reason_text Circle = codes ": Too many levels of symbolic links"
 reason_text Input = codes ": is an input"
+reason_text MayBeInput = codes ": cannot tell whether it is an input"
 reason_text Other = []
 
 -- the numbers that the system has for them

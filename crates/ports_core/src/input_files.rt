@@ -1,18 +1,19 @@
 ghost use Rattle.std.specs.Prelude.{◌≡◌, ◌+◌, ◌*◌, ◌^◌};
 
+use crate::Reason;
+use crate::ahead::Ahead;
 use std::alloc::Global;
 use std::cell::Cell;
 use std::fs;
 use std::fs::{Metadata, OpenFile};
-use std::io::ErrorKind;
 use std::os::unix::fs::MetadataExt;
 use std::rt::Files;
 
-/// A name that leads to standard input.
-const STANDARD_INPUT: &str = "/dev/stdin";
+/// The system's name for standard input, whatever other names lead to.
+pub(crate) const STANDARD_INPUT: &str = "/proc/self/fd/0";
 
-/// A name that leads to standard output.
-const STANDARD_OUTPUT: &str = "/dev/stdout";
+/// The same for standard output.
+const STANDARD_OUTPUT: &str = "/proc/self/fd/1";
 
 /// What an input is that was opened.
 #[derive(Clone, Copy)]
@@ -28,11 +29,18 @@ pub(crate) enum Opened {
 ///
 /// Only regular files count, by their identity, so that other names of a file and links to it are the same one. A device
 /// or a pipe may well be read and written.
+///
+/// Where the system doesn't say which file standard input is, that may be any regular file that has a byte, if it is read and can be
+/// sought.
 #[derive(Drop)]
 pub struct InputFiles {
     alloc: Global,
     /// The identities, in the order in which the files were opened. None for a file of which the system didn't tell it.
     noted: Cell<Vec<Option<u128>>>,
+    /// An input was opened by its name. The tools that make files read no other then.
+    have_name: Cell<bool>,
+    /// Standard input, where the system doesn't say which file it is.
+    pub(crate) ahead: Ahead,
 }
 
 impl InputFiles {
@@ -41,11 +49,14 @@ impl InputFiles {
         InputFiles {
             alloc,
             noted: Cell::new(Vec::new(alloc)),
+            have_name: Cell::new(false),
+            ahead: Ahead::new(alloc),
         }
     }
 
     /// Notes a file that was opened as an input, and returns what it is. None where there is no memory for that.
     pub(crate) fn note(&self, file: &impl OpenFile) -> Option<Opened> {
+        self.have_name.set(true);
         let Ok(about) = file.metadata() else {
             return self.keep(None, Opened::Other);
         };
@@ -71,10 +82,21 @@ impl InputFiles {
         is_kept
     }
 
-    /// Whether this regular file is an input, or may be one for all that the system tells.
-    pub(crate) fn have(&self, files: &impl Files, about: &Metadata) -> bool {
+    /// Why this regular file can't be an output: it is an input, or may be one for all that the system tells.
+    pub(crate) fn refuse(&self, files: &impl Files, about: &Metadata) -> Option<Reason> {
         let id = id_of(about);
-        self.has(id) || is_stream(files, STANDARD_INPUT, id)
+        if self.has(id) {
+            return Some(Reason::Input);
+        }
+        match is_stream(files, STANDARD_INPUT, id) {
+            Some(is_input) => is_input.then_some(Reason::Input),
+            None => {
+                let may_be_input = about.len() > 0
+                    && !self.have_name.get()
+                    && self.ahead.may_be_file();
+                may_be_input.then_some(Reason::MayBeInput)
+            }
+        }
     }
 
     /// Whether a file of this identity was noted, or one of which it isn't known.
@@ -86,20 +108,16 @@ impl InputFiles {
     }
 }
 
-/// Whether standard output writes to the file of this identity.
-pub(crate) fn is_standard_output(files: &impl Files, id: u128) -> bool {
-    is_stream(files, STANDARD_OUTPUT, id)
+/// Whether standard output writes to the file of this identity and length. Where the system doesn't say so, it may, but to one that
+/// says a length of 0: of the system's own files that says nothing.
+pub(crate) fn is_standard_output(files: &impl Files, id: u128, len: u64) -> bool {
+    is_stream(files, STANDARD_OUTPUT, id).unwrap_or(len > 0)
 }
 
-/// Whether the stream to which this name leads is the file of this identity. Where the system has no such name, or doesn't
-/// let it be asked about, it counts as another file.
-fn is_stream(files: &impl Files, stream: &str, id: u128) -> bool {
-    match fs::metadata(files, stream) {
-        Ok(about) => id_of(&about) == id,
-        Err(error) => {
-            error.kind() != ErrorKind::NotFound && error.kind() != ErrorKind::PermissionDenied
-        }
-    }
+/// Whether the stream of this name is the file of this identity. None where the system doesn't say so.
+fn is_stream(files: &impl Files, stream: &str, id: u128) -> Option<bool> {
+    let about = fs::metadata(files, stream).ok()?;
+    Some(id_of(&about) == id)
 }
 
 /// The identity of a file: no two files of one system have the same device and the same number there.

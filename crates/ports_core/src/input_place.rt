@@ -1,4 +1,5 @@
-ghost use Rattle.std.specs.Prelude.{◌≤◌, length, IfSome};
+ghost use Rattle.std.specs.Prelude.{◌≡◌, ◌≤◌, ◌<◌, ◌^◌, ℕ, length, IfSome};
+ghost use Rattle.ports_core.specs.inner.Place.{SaysPlace};
 
 use crate::dir_in::read_some;
 use std::fs;
@@ -9,7 +10,7 @@ use std::str::from_utf8;
 /// Where the system says how standard input is open.
 const STANDARD_INPUT_STATE: &str = "/proc/self/fdinfo/0";
 
-/// What the line begins with, the first one there, that says the place.
+/// What stands before the place on the first line there.
 const PLACE: &str = "pos:";
 
 /// More bytes than that line has.
@@ -25,9 +26,16 @@ pub(crate) fn standard_input_place(files: &impl Files) -> Option<u64> {
 }
 
 /// The place that such a text says.
-fn place_in(state: &str) -> Option<u64> {
-    let line = state.lines().next()?;
-    line.strip_prefix(PLACE)?.trim().parse().ok()
+fn place_in(state: &str) -> Option<u64>
+    ensures only { IfSome result (SaysPlace state.now) }
+    ensures said { (place : ℕ) → place < 2 ^ 64 → SaysPlace state.now place → result ≡ Some place }
+{
+    let (name, after) = state.split_once('\t')?;
+    let (digits, _) = after.split_once('\n')?;
+    if name != PLACE {
+        return None;
+    }
+    digits.parse().ok()
 }
 
 /// Reads until the buffer is full or the source has ended, and returns how many bytes that gave. None where a read fails.

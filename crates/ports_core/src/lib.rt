@@ -2,6 +2,7 @@
 //! that they print.
 #![tactic(auto)]
 
+mod ahead;
 mod alphabet;
 mod calling;
 mod dir_in;

@@ -36,6 +36,8 @@ pub enum Reason {
     Circle,
     /// It is an input, which no output may be.
     Input,
+    /// The system doesn't say whether it is an input.
+    MayBeInput,
     /// Any other, or none that is known.
     Other,
 }
@@ -61,6 +63,7 @@ impl Reason {
             Reason::LongName => b": File name too long",
             Reason::Circle => b": Too many levels of symbolic links",
             Reason::Input => b": is an input",
+            Reason::MayBeInput => b": cannot tell whether it is an input",
         }
     }
 

@@ -1,6 +1,7 @@
-ghost use Rattle.std.specs.Prelude.{◌<◌};
+ghost use Rattle.std.specs.Prelude.{◌≤◌, ◌<◌};
 
-use crate::input_files::{id_of, is_standard_output};
+use crate::InputFiles;
+use crate::input_files::{STANDARD_INPUT, id_of, is_standard_output};
 use crate::input_place::standard_input_place;
 use std::fs;
 use std::io::{self, BufRead, Lock, Read, StdinLock};
@@ -11,17 +12,14 @@ use std::rt::{Files, Stdin};
 /// The most bytes of one read that can be given back: as many as the library's lock on standard input reads ahead.
 const AHEAD: usize = 4_096;
 
-/// A name that leads to standard input.
-const STANDARD_INPUT_FILE: &str = "/dev/stdin";
-
 /// What standard input is.
 #[derive(Clone, Copy)]
 enum Kind {
     /// That wasn't asked yet.
     Unasked,
-    /// A regular file, so that it can be set back.
+    /// A regular file, or what may be one, so that it can be set back.
     File,
-    /// Anything else, or no name leads to it, so that it isn't known.
+    /// Anything else.
     Other,
 }
 
@@ -48,28 +46,43 @@ impl StandardInput {
     }
 
     /// Asks what standard input is, before the first read. Where it is a file to which standard output writes, this returns how
-    /// many bytes it has left, or all that it has where its place isn't known. None where it is anything else, or was asked
-    /// before.
-    pub(crate) fn ask(&mut self, files: &impl Files) -> Option<u64> {
+    /// many bytes it has left, or all that it has where its place isn't known. None where it is anything else, where the system
+    /// doesn't say what it is, or where that was asked before.
+    pub(crate) fn ask(&mut self, files: &impl Files, noted: &InputFiles) -> Option<u64> {
         let Kind::Unasked = self.kind else {
             return None;
         };
         self.kind = Kind::Other;
-        let about = fs::metadata(files, STANDARD_INPUT_FILE).ok()?;
+        let Ok(about) = fs::metadata(files, STANDARD_INPUT) else {
+            self.read_ahead(noted);
+            return None;
+        };
         if !about.is_file() {
             return None;
         }
         self.kind = Kind::File;
-        if !is_standard_output(files, id_of(&about)) {
+        if !is_standard_output(files, id_of(&about), about.len()) {
             return None;
         }
         let place = standard_input_place(files).unwrap_or(0);
         Some(about.len().saturating_sub(place))
     }
 
+    /// Goes on with the lock that tells whether this may be a file.
+    fn read_ahead(&mut self, noted: &InputFiles) {
+        if let Some(lock) = noted.ahead.take() {
+            self.lock = lock;
+        }
+        if noted.ahead.may_be_file() {
+            self.kind = Kind::File;
+        }
+    }
+
     /// Gives back the last `count` bytes of those that the last read gave, as far as they are there, and returns how many
     /// that were.
-    pub(crate) fn give_back(&mut self, count: u64) -> u64 {
+    pub(crate) fn give_back(&mut self, count: u64) -> u64
+        ensures { result ≤ count }
+    {
         let back = count.min(self.given as u64);
         self.given -= back as usize;
         back
@@ -108,10 +121,9 @@ impl Drop for StandardInput {
     }
 }
 
-/// The file that standard input is, opened anew, so that looking at it doesn't move the place at which it is read.
+/// The file that standard input is. Each look opens it anew, so that the place at which it is read isn't moved, and no file is kept open.
 #[derive(Drop)]
-pub(crate) struct StandardFile<F: Drop> {
-    file: F,
+pub(crate) struct StandardFile {
     /// The place at which standard input stood.
     from: u64,
     /// How many bytes came from there on.
@@ -119,27 +131,35 @@ pub(crate) struct StandardFile<F: Drop> {
     ghost some: { 0 < len },
 }
 
-impl<F: FileExt + Drop> StandardFile<F> {
-    /// Opens it, before anything is read. None where standard input is no file, or has no byte left, or the system doesn't let
+impl StandardFile {
+    /// Asks about it, before anything is read. None where standard input is no file, or has no byte left, or the system doesn't let
     /// its place be known or its last byte be looked at.
-    pub(crate) fn open<R: Files<File = F>>(files: &R) -> Option<Self> {
-        let about = fs::metadata(files, STANDARD_INPUT_FILE).ok()?;
+    pub(crate) fn find<R: Files>(files: &R) -> Option<Self>
+    where
+        R::File: FileExt,
+    {
+        let about = fs::metadata(files, STANDARD_INPUT).ok()?;
         if !about.is_file() {
             return None;
         }
         let from = standard_input_place(files)?;
         let len = about.len().checked_sub(from)?;
         let last = len.checked_sub(1)?;
-        let file = fs::open(files, STANDARD_INPUT_FILE).ok()?;
-        let shown = StandardFile { file, from, len };
-        shown.read_at(last, &mut [0u8]).then_some(shown)
+        let shown = StandardFile { from, len };
+        shown.read_at(files, last, &mut [0u8]).then_some(shown)
     }
 
     /// Fills the buffer from a place after that on, and returns whether it could.
-    pub(crate) fn read_at(&self, place: u64, buffer: &mut [u8]) -> bool {
-        match self.from.checked_add(place) {
-            Some(at) => self.file.read_exact_at(buffer, at).is_ok(),
-            None => false,
+    pub(crate) fn read_at<R: Files>(&self, files: &R, place: u64, buffer: &mut [u8]) -> bool
+    where
+        R::File: FileExt,
+    {
+        let Some(at) = self.from.checked_add(place) else {
+            return false;
+        };
+        match fs::open(files, STANDARD_INPUT) {
+            Ok(file) => file.read_exact_at(buffer, at).is_ok(),
+            Err(_) => false,
         }
     }
 }

@@ -1,8 +1,10 @@
 //! Words that the system gives as bytes.
+ghost use Rattle.std.specs.Prelude.{◌≡◌, map, slice_get};
+
 use ports_core::Calling;
 use std::alloc::Global;
-use std::env::{Env, FillError};
-use words_core::{ArgsFault, read_args};
+use std::env::FillError;
+use words_core::{ArgsFault, Arguments, read_args};
 
 /// Arguments in memory.
 #[derive(Clone, Copy)]
@@ -10,24 +12,18 @@ pub(crate) struct Given<'a> {
     pub words: &'a [&'a [u8]],
 }
 
-impl<'a> Env for Given<'a> {
-    fn arg(&self, i: usize, buf: &mut [u8]) -> Result<usize, FillError> {
-        let Some(word) = self.words.get(i) else {
+impl Arguments for Given<'_> {
+    ghost gives = { λ given place found. found ≡ slice_get (map (λ word. word.now) given.words.now) place };
+
+    fn argument(&self, place: usize, buffer: &mut [u8]) -> Result<usize, FillError> {
+        let Some(word) = self.words.get(place) else {
             return Err(FillError::NotPresent);
         };
-        if word.len() > buf.len() {
+        if word.len() > buffer.len() {
             return Err(FillError::TooLong);
         }
-        buf[..word.len()].copy_from_slice(word);
+        buffer[..word.len()].copy_from_slice(word);
         Ok(word.len())
-    }
-
-    fn var(&self, _name: &str, _buf: &mut [u8]) -> Result<usize, FillError> {
-        Err(FillError::NotPresent)
-    }
-
-    fn var_at(&self, _i: usize, _buf: &mut [u8]) -> Result<usize, FillError> {
-        Err(FillError::NotPresent)
     }
 }
 
@@ -83,6 +79,8 @@ const OWN_NAMES: &[(&[u8], &[u8])] = &[
     (b"./split", b"split"),
     (b"no \xff text/csplit", b"csplit"),
     (b"//tee", b"tee"),
+    (b"-tail", b"tail"),
+    (b"/bin/-head", b"head"),
 ];
 
 #[test]
@@ -102,6 +100,9 @@ const OTHER_NAMES: &[&[u8]] = &[
     b"tee/cutters",
     b"header",
     b"a-head",
+    b"--head",
+    b"-/cutters",
+    b"-",
     b"",
     b"head\xff",
 ];

@@ -7,13 +7,13 @@ use Rattle.std.proofs.{
 use Rattle.seg_core.specs.{Line.joined, declared.cut.Chunks.Chunks}
 use Rattle.ports_core.{
   specs.declared.slot.State.TheVariants.Closed,
-  specs.Agreed.{ArePlaced, DifferOn},
-  proofs.AgreedLemmas.{none_comes},
+  specs.Agreed.{ArePlaced, DifferOn, GoesBy, file_bytes},
+  proofs.AgreedLemmas.{none_comes, spots_differ, spots_few},
 }
 use Rattle.split_core.specs.{
   Chunks.{before_chunk, chunks_of, decided, in_the_end, is_longer, size_by, undecided},
   ChunkAgreed.{CanFollow, chunk_spots},
-  ChunkWork.{ChunksPlan, chunks_work, files_by, kept},
+  ChunkWork.{ChunksPlan, chunks_whole, chunks_work, files_by, kept},
   Parts.uncut,
   Place.beside_output,
   Split.are_named,
@@ -65,16 +65,16 @@ files_differ plan None x some named fits i past less =
 
 pub chunks_wait : (plan : ChunksPlan) (said : Option ℕ) (x : List ℕ) → 0 < plan.chunks.count
     → are_named plan.filing.names plan.chunks.count ≡ true → is_longer said x ≡ false
-    → DifferOn (CanFollow said x) (chunk_spots plan said) x ((chunks_work plan said).waiting x)
-chunks_wait plan said x some named fits = record {
-  before = joined (files_by plan.elide (decided plan.chunks 1 said x));
-  are_last = sym (decided_all plan.elide plan.chunks said x some fits);
-  differ = files_differ plan said x some named fits;
-  decided = λ i less y z comes also. let cut = decided plan.chunks 1 said x in
-      settled_stay (chunks_work plan said) (chunks_lawful plan said some) x
-      (last_open plan.filing 0 (kept plan.elide cut.full) cut.rest) i
-      (rw (settled_files plan said x some named) less) y z;
-}
+    → DifferOn (CanFollow said x) (GoesBy (chunk_spots plan said)) x ((chunks_work plan said).waiting x)
+chunks_wait plan said x some named fits = spots_differ (chunk_spots plan said)
+    (joined (files_by plan.elide (decided plan.chunks 1 said x)))
+    (λ x i. spots_few 1 (file_bytes (chunks_whole plan said x)) i)
+    (sym (decided_all plan.elide plan.chunks said x some fits))
+    (files_differ plan said x some named fits)
+    (λ i less y z comes also. let cut = decided plan.chunks 1 said x in
+    settled_stay (chunks_work plan said) (chunks_lawful plan said some) x
+    (last_open plan.filing 0 (kept plan.elide cut.full) cut.rest) i
+    (rw (settled_files plan said x some named) less) y z)
 
 -- Spots are right
 

@@ -3,12 +3,13 @@ use Rattle.std.proofs.Common.{rules}
 use Rattle.std.proofs.lemmas.Grind.{common_steps}
 use Rattle.std.proofs.{
   lemmas.Bool.{cases_lt, false≢true, le-ltb, lt-leb, lt-ltb, ltb-false, ltb-true, Decides.nat_tests},
-  lemmas.List.{append-nil, take_all, take_at, take-append-drop, take-take, length-append, length-drop, length-take},
+  lemmas.List.{append-nil, take_all, take_at, take-append-drop, take_more, take-take, length-append, length-drop},
+  lemmas.List.length-take,
   lemmas.List.FromFn.length-map-range_with_len,
   Math.Seq.take-add,
   Common.{◌≡◌, ℕ, ◌+◌, ◌-◌, ◌<◌, ◌≤◌, min, zero, suc, Bool, true, false, cond, nat_lt, List, [], ◌∷◌, ◌++◌},
   Common.{◌⊎◌, length, take, drop, replicate, Option, Some, None, Ok, inl, inr, refl, sym, ◌∙◌, ap, subst, arith},
-  Common.append_assoc,
+  Common.{append_assoc, eqb, get_or, not},
 }
 use Rattle.ports_core.{
   specs.{
@@ -106,6 +107,19 @@ within_last Lines delim x y some = by (nat_lt 0 (delimiters delim y)) refl (open
   by false has is = let none : delimiters delim y ≡ 0 = omega (arith, ltb-false _ _ has) in
       lt-ltb _ _ (omega (arith, length-append x y, open_within Lines delim x)) ∙ sym
       (lt-ltb (open_from Lines delim y) _ (rw none some))
+
+one_within : (delim byte : ℕ) (ends : Bool) → eqb byte delim ≡ ends → is_within Lines delim (byte ∷ []) ≡ not ends
+one_within delim byte true is = rw is refl
+one_within delim byte false is = rw is refl
+
+-- a text ends within a line where its last byte ends none
+pub within_by : (delim : ℕ) (x : List ℕ) → 0 < length x
+    → is_within Lines delim x ≡ not (eqb (get_or x (length x - 1) 0) delim)
+within_by delim x some = let n = length x - 1 in
+    let last = get_or x n 0 in
+    let all : x ≡ take n x ++ last ∷ [] = grind (arith, common_steps, take_more) in
+    ap (is_within Lines delim) all ∙ within_last Lines delim (take n x) (last ∷ []) (omega arith)
+    ∙ one_within delim last (eqb last delim) refl
 
 -- The chunks that have ended
 

@@ -1,13 +1,13 @@
 -- What waits where one chunk alone is written.
 use Rattle.std.proofs.{
-  lemmas.{Grind.common_steps, Bool.{cases_lt, le-ltb, lt-ltb, Decides.nat_tests}, List.append-nil},
+  lemmas.{Grind.common_steps, Bool.{cases_lt, cond_both, le-ltb, lt-ltb, Decides.nat_tests}, List.append-nil},
   Common.{◌≡◌, ◌≢◌, ℕ, ◌+◌, ◌-◌, ◌*◌, ◌/◌, ◌%◌, ◌<◌, ◌≤◌, max, zero, suc, nat_lt, true, cond, List, []},
   Common.{◌∷◌, ◌++◌, length, take, drop, get_or, replicate, Option, Some, None, inl, inr, refl, sym, ◌∙◌, arith},
 }
 use Rattle.seg_core.specs.{Line.joined, declared.cut.Chunks.Chunks}
 use Rattle.ports_core.{
-  specs.Agreed.{ArePlaced, DifferOn, Spot, spot},
-  proofs.AgreedLemmas.{copies_come, some_spot, stretch_placed, beginning_short},
+  specs.Agreed.{ArePlaced, DifferOn, GoesBy, Spot, spot},
+  proofs.AgreedLemmas.{AtMostOne, copies_come, some_spot, spots_differ, spots_few, stretch_placed, beginning_short},
 }
 use Rattle.split_core.{
   specs.{
@@ -127,21 +127,20 @@ module _ (place : ℕ) (chunks : Chunks) (within : place < chunks.count) where
         after k = spots_then None x (replicate k 0) less refl
             (grind (arith, common_steps))
 
+  few : (said : Option ℕ) (x : List ℕ) (i : ℕ) → AtMostOne (one_chunk_spots place chunks said x i)
+  few said x i = cond_both (nat_lt i _) _ _ AtMostOne (λ less. tt)
+      (λ past. spots_few 0 (get_or (pieces_in (in_the_end chunks said x)) place [] ∷ []) _)
+
   pub chunk_waits : (said : Option ℕ) (x : List ℕ)
-      → DifferOn (CanFollow said x) (one_chunk_spots place chunks said) x ((chunk_work place chunks said).waiting x)
-  chunk_waits (Some size) x = record {
-    before = x;
-    are_last = sym (append-nil x);
-    differ = λ i past less. absurd (omega arith);
-    decided = λ i less y z comes also. spots_then (Some size) x y less comes.1 refl
-        ∙ sym (spots_then (Some size) x z less also.1 refl);
-  }
-  chunk_waits None x = record {
-    before = before_chunk chunks (length x) (max place 1) x;
-    are_last = sym (begin_then_rest _ x (begun_begins _ _ _ x));
-    differ = none_differ x;
-    decided = λ i less y z comes also. none_there x y i less ∙ sym (none_there x z i less);
-  }
+      → DifferOn (CanFollow said x) (GoesBy (one_chunk_spots place chunks said)) x
+      ((chunk_work place chunks said).waiting x)
+  chunk_waits (Some size) x = spots_differ (one_chunk_spots place chunks (Some size)) x (few (Some size))
+      (sym (append-nil x)) (λ i past less. absurd (omega arith))
+      (λ i less y z comes also. spots_then (Some size) x y less comes.1 refl
+      ∙ sym (spots_then (Some size) x z less also.1 refl))
+  chunk_waits None x = spots_differ (one_chunk_spots place chunks None) (before_chunk chunks (length x) (max place 1) x)
+      (few None) (sym (begin_then_rest _ x (begun_begins _ _ _ x))) (none_differ x)
+      (λ i less y z comes also. none_there x y i less ∙ sym (none_there x z i less))
 
 -- Spots are right
 

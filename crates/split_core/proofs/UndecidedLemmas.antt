@@ -28,7 +28,9 @@ use Rattle.ports_core.specs.{
   Part.{File, FilesBegin},
   declared.slot.State.TheVariants.{Open, Closed},
 }
-use Rattle.ports_core.proofs.{AgreedLemmas.{none_comes, common, none_before, nothing_waits, AreFront, stretch_placed}}
+use Rattle.ports_core.proofs.{
+  AgreedLemmas.{none_comes, common, none_before, same_spots, spots_differ, spots_few, AreFront, stretch_placed},
+}
 use Rattle.split_core.specs.{
   Parts.{parts, cut_up, unless_empty, settled_rest, dealt},
   inner.{CutLaws.named, Dealt.share_of},
@@ -169,16 +171,18 @@ pub undecided_at : (cut : Cut) (elide : Bool) (filing : Filing) → IsPositive c
     → is_short (plan_by cut elide filing) x ≡ false
     → IsUndecided (split_spots (plan_by cut elide filing)) x ((split_work (plan_by cut elide filing)).waiting x)
 undecided_at (cut.Parts limit) elide filing some {x} enough =
-    let are : are_named filing.names (length (parts limit x)) ≡ true = grind (arith, common_steps) in record {
-      before = settled_in limit filing x;
-      are_last = cc (came_in limit filing are, waiting_is limit filing x are);
-      differ = λ i past within. parts_differ limit filing x i some are past within;
-      decided = λ i less y z can also. settled_stay (parts_work limit filing) (parts_lawful limit filing) x
-          (last_open filing 0 (cut_up limit x).full (settled_rest limit (cut_up limit x).rest)) i less y z;
-    }
+    let are : are_named filing.names (length (parts limit x)) ≡ true = grind (arith, common_steps) in
+    spots_differ (split_spots (plan_by (cut.Parts limit) elide filing)) (settled_in limit filing x)
+    (λ x i. spots_few 1 (file_bytes ((parts_work limit filing).whole x)) i)
+    (cc (came_in limit filing are, waiting_is limit filing x are))
+    (λ i past within. parts_differ limit filing x i some are past within)
+    (λ i less y z can also. settled_stay (parts_work limit filing) (parts_lawful limit filing) x
+    (last_open filing 0 (cut_up limit x).full (settled_rest limit (cut_up limit x).rest)) i less y z)
 undecided_at (cut.Round n delim) elide filing some {x} enough =
     let are : are_named filing.names (length (dealt_files delim elide n x)) ≡ true = grind (arith, common_steps) in
-    grind (arith, dealt_all, drop_all, nothing_waits, dealt_decided)
+    let none : (split_work (plan_by (cut.Round n delim) elide filing)).waiting x ≡ [] = grind (arith, dealt_all, drop_all) in
+    rw none (same_spots (dealt_spots delim n filing.names) (λ i less y z. dealt_decided delim n filing.names x y i less
+    ∙ sym (dealt_decided delim n filing.names x z i less)))
 
 -- Lines that are dealt: what a file has, byte by byte
 

@@ -1,8 +1,8 @@
 -- Lemmas on when one chunk is complete, and on how many bytes are wanted until then.
 use Rattle.std.proofs.lemmas.Grind.{common_steps}
 use Rattle.std.{
-  proofs.Common.{◌≡◌, ℕ, ◌+◌, ◌-◌, ◌≤◌, max, nat_lt, take, Bool, true, false, List, ◌++◌, length, Option, Some, None},
-  proofs.Common.{inl, inr, refl, sym, ◌∙◌, ap, subst, arith},
+  proofs.Common.{◌≡◌, ℕ, ◌+◌, ◌-◌, ◌≤◌, nat_lt, take, Bool, true, false, List, ◌++◌, length, Option, Some, None, inl},
+  proofs.Common.{inr, refl, sym, ◌∙◌, ap, subst, arith},
   proofs.lemmas.{Bool.{false≢true, cases_lt, leb-true}, List.{append-nil, length-append, take_at}},
   specs.Option.is_some,
 }
@@ -11,10 +11,10 @@ use Rattle.seg_core.specs.declared.cut.Chunks.{Chunks}
 use Rattle.split_core.specs.{
   Alike.as_if,
   Chunks.{chunk_start, has_ended},
-  ChunkWork.chunk_work,
+  ChunkWork.{ahead_of, chunk_work},
   ChunkerState.{ChunkerState, Holds, HoldsBy, course, can_cut, in_files, in_output, work, work_on},
   Split.Filing,
-  inner.{Cutter.said_work, Seen.is_past_on},
+  inner.{Chunker.piece_for, Cutter.said_work, Seen.is_past_on},
   laws.{BegunLaws.open_within, ChunkLaws.{passed_full, passed_open}, WorkLaws.{holds_can, lawful, work_lawful}},
 }
 use Rattle.split_core.proofs.{
@@ -50,11 +50,11 @@ reaches : (chunks : Chunks) (size chunk : ℕ) (x : List ℕ) → has_ended chun
     → chunk_start chunks.count size (chunk + 1) ≤ length x
 reaches chunks size chunk x has = grind (arith, common_steps, cases_lt, leb-true, passed_open, open_within, passed_full)
 
-few_missing : (chunk : ℕ) (chunks : Chunks) (size : ℕ) (x piece : List ℕ) (n : ℕ) → nat_lt chunk chunks.count ≡ true
-    → length piece ≤ max (chunk_start chunks.count size (chunk + 1) - length x) 1
+few_past : (chunk : ℕ) (chunks : Chunks) (size : ℕ) (x piece : List ℕ) (n : ℕ) → nat_lt chunk chunks.count ≡ true
+    → length piece ≤ piece_for chunks.unit (chunk_start chunks.count size (chunk + 1) - length x)
     → has_ended chunks size x chunk ≡ false
-    → IsSpare (chunk_work chunk chunks (Some size)) (x ++ piece) n → n ≡ 0
-few_missing chunk chunks size x piece n can few going spare = elim spare.enough [
+    → IsSpare (chunk_work chunk chunks (Some size)) (x ++ piece) n → n ≤ ahead_of chunks.unit
+few_past chunk chunks size x piece n can few going spare = elim spare.enough [
   | inl none ↦ omega (arith, ap length none, spare.long)
   | inr complete ↦ elim (cases_lt (length x) (length spare.used)) [
     | inl more ↦ omega (
@@ -93,7 +93,8 @@ all_cut state size x said going holds = grind (arith, common_steps, is_said, len
 
 pub few_of_chunk : (state : ChunkerState) (size chunk most : ℕ) → state.said ≡ Some size
     → course state.cutter ≡ in_output chunk
-    → most ≡ max (chunk_start state.cutter.chunks.count size (chunk + 1) - state.cutter.at) 1
+    → most ≡ piece_for state.cutter.chunks.unit
+    (chunk_start state.cutter.chunks.count size (chunk + 1) - state.cutter.at)
     → MayGet (as_if ways.terms) (way.Chunks state) most
 few_of_chunk state size chunk most said on is x piece after n holds going within same later spare =
     let z = holds.other in
@@ -103,13 +104,12 @@ few_of_chunk state size chunk most said on is x piece after n holds going within
     let can : nat_lt chunk chunks.count ≡ true =
     sym (ap (λ on. can_cut on chunks.count) on) ∙ holds_can _ _ z holds.holds in
     let still : (work state).is_complete z ≡ false = sym (complete_as holds.alike) ∙ going in
-    omega (
-      arith,
-      few_missing _ _ _ z _ n can
-          (omega (arith, all_cut _ _ z said still holds.holds))
-          (sym (ap (λ (those : Work). those.is_complete z) it) ∙ still)
-          (subst (λ (those : Work). IsSpare those (z ++ piece) n) it ((holds.alike.unused piece n).0 spare)),
-    )
+    let cut : state.cutter.at ≡ length z = all_cut _ _ z said still holds.holds in
+    let few : n ≤ ahead_of chunks.unit = few_past _ _ _ z _ n can
+    (omega (arith, cut))
+    (sym (ap (λ (those : Work). those.is_complete z) it) ∙ still)
+    (subst (λ (those : Work). IsSpare those (z ++ piece) n) it ((holds.alike.unused piece n).0 spare)) in
+    omega (arith, ap (λ (those : Work). those.ahead) it)
 
 pub few_of_files : (most : ℕ) (state : ChunkerState) (filing : Filing) (elide : Bool)
     → course state.cutter ≡ in_files filing elide → MayGet (as_if ways.terms) (way.Chunks state) most

@@ -5,7 +5,10 @@ use Rattle.std.specs.{
   Prelude.{◌≡◌, ℕ, ◌||◌, max, Bool, true, false, List, [], ◌++◌, map, filter, get_or, IsTrue, Option, Some, None},
   Prelude.if◌then◌else◌,
 }
-use Rattle.seg_core.specs.{Line.lines_of, declared.cut.{Chunks.Chunks, Way.Way}}
+use Rattle.seg_core.specs.{
+  Line.lines_of,
+  declared.{cut.{Chunks.Chunks, Way.Way}, unit.Unit.{Unit as Counted, TheVariants.{Bytes, Lines}}},
+}
 use Rattle.ports_core.specs.{
   Draft.{Draft, draft_part, part_of, share},
   FileWriter.CanTell,
@@ -82,6 +85,11 @@ abbrev pub is_written : ℕ → Chunks → Option ℕ → List ℕ → Bool
 is_written place chunks None x = false
 is_written place chunks (Some size) x = has_ended chunks size x place
 
+-- how many bytes more than it uses the chunk may be given: the end of a piece in which its last line ends
+abbrev pub ahead_of : Counted → ℕ
+ahead_of Lines = 4096
+ahead_of Bytes = 0
+
 -- What goes before the chunk is passed over, and the first one is written as far as it is decided. Where the size was
 -- said, nothing waits, and so no memory is asked for.
 abbrev pub chunk_work : ℕ → Chunks → Option ℕ → Work
@@ -93,7 +101,7 @@ chunk_work place chunks said = record {
   verdict = λ x. if is_written place chunks said x || is_as_said said x then None else Some Changed;
   clears = false;
   means = on_output (is_none said);
-  ahead = 0;
+  ahead = ahead_of chunks.unit;
 }
 
 -- lines are dealt in turn, and nothing waits

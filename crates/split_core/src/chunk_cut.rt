@@ -4,7 +4,6 @@ ghost use Rattle.split_core.specs.Chunks.{begun_before, chunk_start as start_of,
 
 use seg_core::cut::Chunks;
 use seg_core::line::next_line;
-use seg_core::line_back::last_delimiter_end;
 use seg_core::unit::Unit;
 
 /// Where the chunk at a place begins, if there are `count` and the text has this size; at place `count`, where the last one
@@ -50,9 +49,6 @@ pub(crate) fn ends_within(chunks: Chunks, text: &[u8]) -> bool
 {
     match chunks.unit {
         Unit::Bytes => false,
-        Unit::Lines => match last_delimiter_end(text, chunks.delim) {
-            Some(end) => end < text.len(),
-            None => true,
-        },
+        Unit::Lines => text[text.len() - 1] != chunks.delim,
     }
 }

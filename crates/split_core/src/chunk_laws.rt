@@ -4,7 +4,7 @@ ghost use Rattle.std.specs.{
   List.{filter, flat_map, range_with_len},
 };
 ghost use Rattle.ports_core.specs.{
-  Agreed.{ArePlaced, DifferOn, IsAgreed, file_bytes},
+  Agreed.{ArePlaced, DifferOn, GoesBy, IsAgreed, file_bytes},
   Draft.opening_line,
   Part.{only_out, openings_for},
   declared.verdict.Verdict.TheVariants.Changed,
@@ -78,7 +78,7 @@ pub fn chunks_agree()
         → AreMade (CanFollow said x) (chunks_work plan said) x ((chunks_work plan said).settled x).files }
     ensures waits { (plan : ChunksPlan) (said : Option ℕ) (x : List ℕ)
         → 0 < plan.chunks.count → are_named plan.filing.names plan.chunks.count ≡ true → is_longer said x ≡ false
-        → DifferOn (CanFollow said x) (chunk_spots plan said) x ((chunks_work plan said).waiting x) }
+        → DifferOn (CanFollow said x) (GoesBy (chunk_spots plan said)) x ((chunks_work plan said).waiting x) }
     ensures placed { (plan : ChunksPlan) (said : Option ℕ)
         → 0 < plan.chunks.count → are_named plan.filing.names plan.chunks.count ≡ true
         → ArePlaced (beside_output (chunks_work plan said)) (chunk_spots plan said) }
@@ -86,7 +86,8 @@ pub fn chunks_agree()
         → place < chunks.count → is_longer said x ≡ false
         → AgreeAt (CanFollow said x) (chunk_work place chunks said) x ((chunk_work place chunks said).settled x) }
     ensures chunk_waits { (place : ℕ) (chunks : Chunks) (said : Option ℕ) (x : List ℕ) → place < chunks.count
-        → DifferOn (CanFollow said x) (one_chunk_spots place chunks said) x ((chunk_work place chunks said).waiting x) }
+        → DifferOn (CanFollow said x) (GoesBy (one_chunk_spots place chunks said)) x
+        ((chunk_work place chunks said).waiting x) }
     ensures chunk_placed { (place : ℕ) (chunks : Chunks) (said : Option ℕ) → place < chunks.count
         → ArePlaced (chunk_work place chunks said) (one_chunk_spots place chunks said) }
     ensures turn { (place count delim : ℕ) (x : List ℕ)

@@ -4,7 +4,7 @@ ghost use Rattle.split_core.specs.{
   ChunkerState.{Carries, HasAll, Holds, Ready, can_cut, course, course_of, total, work, work_on},
   Parts.uncut,
   Alike.as_if,
-  inner.{Seen.seen_sink, Chunker.{EndsAs, PassesAs, TakesFront}},
+  inner.{Seen.seen_sink, Chunker.{EndsAs, PassesAs, TakesFront, piece_for}},
 };
 ghost use Rattle.ports_core.specs.{Engine.{Loads, MayGet}, Source.is_readable};
 ghost use Rattle.split_core.specs.Ways as ways;
@@ -19,6 +19,9 @@ use seg_core::cut::Chunks;
 use seg_core::unit::Unit;
 use std::alloc::Global;
 use std::marker::Model;
+
+/// The most bytes of a piece in which the last line of one chunk may end.
+const AHEAD: u64 = 4_096;
 
 /// Cuts its input into chunks. Where the input says its length before, nothing waits. Else the place where a chunk begins
 /// can only move on as more comes: what stands before that of the second one is settled, or before that of the one that is
@@ -174,7 +177,8 @@ impl Chunker {
         self.said.is_some() && self.cutter.sink.is_past()
     }
 
-    /// How many bytes the next piece may have: where one chunk is written, as many as are missing to its end; one at least.
+    /// How many bytes the next piece may have: where one chunk is written, as many as are missing to its end; of lines 4,096
+    /// where that is more, since the last one may go on past the end; one at least.
     pub(crate) fn most_wanted(&self) -> u64
         ensures some { 0 < result }
         ensures few { MayGet (as_if ways.terms) (way.Chunks self.now) result }
@@ -182,7 +186,8 @@ impl Chunker {
         match (self.said, &self.cutter.sink.aim) {
             (Some(size), Aim::Output { chunk }) => {
                 let end = chunk_start(self.cutter.chunks.count, size, *chunk + 1);
-                end.saturating_sub(self.cutter.at).max(1)
+                let missing = end.saturating_sub(self.cutter.at);
+                piece_size(self.cutter.chunks.unit, missing)
             }
             _ => u64::MAX,
         }
@@ -228,5 +233,15 @@ impl Chunker {
             return Err(Fault::Verdict(Verdict::Changed));
         }
         Ok(())
+    }
+}
+
+/// How many bytes a piece may have where this many are missing to the end of the chunk that is written.
+fn piece_size(unit: Unit, missing: u64) -> u64
+    ensures { result ≡ piece_for unit missing }
+{
+    match unit {
+        Unit::Lines => missing.max(AHEAD),
+        Unit::Bytes => missing.max(1),
     }
 }

@@ -166,7 +166,8 @@ impl Stage for Splitter {
         }
     }
 
-    /// Where one chunk is written, as many as are missing to its end, and one at least; else any number.
+    /// Where one chunk is written, as many as are missing to its end, of lines 4,096 where that is more, and one at least; else
+    /// any number.
     fn wanted(&self) -> u64
         ensures some { 0 < result }
         ensures few { MayGet (as_if terms) self.now result }

@@ -9,7 +9,7 @@ use Rattle.ports_core.{
   specs.Part.{File, FilesBegin, OutputsAt, file_of, told_file},
   specs.Slot.{streams, opened, adds, closes, told_of},
   specs.declared.slot.{Mode.Mode, State.{State, TheVariants.{Open, Closed}}},
-  proofs.AgreedLemmas.{agreed_now, nothing_waits},
+  proofs.AgreedLemmas.{agreed_now, same_spots},
 }
 use Rattle.tee_core.specs.{Copy.{copy_in, tee_work, spots_each, tee_spots}, Run.all_copied}
 
@@ -36,7 +36,7 @@ goes_there : (names : List (List ℕ)) (x y : List ℕ) (i : ℕ) → i < length
 goes_there names x y i less = grind (arith, common_steps)
 
 pub tee_undecided : (names : List (List ℕ)) (x : List ℕ) → IsUndecided (tee_spots names) x []
-tee_undecided names x = nothing_waits (λ i less y z. goes_there names x y i less ∙ sym (goes_there names x z i less))
+tee_undecided names x = same_spots (tee_spots names) (λ i less y z. goes_there names x y i less ∙ sym (goes_there names x z i less))
 
 -- spots are right
 

@@ -37,10 +37,10 @@ use Rattle.ends_core.{
     Ends.{after_of, head_of, tail_of},
     Head.head_work,
     Tail.tail_work,
-    Shown.{head_in, tail_in},
+    Shown.{between_work, head_in, tail_in},
     declared.ends.Ends.Ends,
   },
-  proofs.KeptLemmas.first_of-nil,
+  proofs.{EndsLemmas.none_before, KeptLemmas.first_of-nil},
 }
 use Rattle.run_core.specs.{Feeding.{Stops, call_of}, RunSteps.{IsShown, OnlyLooked, Opens, OpensShort}}
 use Rattle.words_core.specs.{EndsWords.EndsAsked, SplitWords.SplitAsked}
@@ -75,6 +75,11 @@ head_begins delim {told} unit but_last n {slots} two = rw (head_of-nil delim uni
 pub tail_starts : (delim : ℕ) {told : Bool} (unit : Counted) (from_nth : Bool) (n : ℕ) {slots : List Slot}
     → 2 ≤ length slots → OutputsAt told slots ((tail_work delim unit from_nth n).settled []) slots
 tail_starts delim {told} unit from_nth n {slots} two = rw (tail_begins delim from_nth unit n) (nothing_out told slots (some_there slots two))
+
+pub between_starts : (from end : ℕ) {told : Bool} {slots : List Slot} → 2 ≤ length slots
+    → OutputsAt told slots ((between_work from end).settled []) slots
+between_starts from end {told} {slots} two =
+    rw (none_before from end [] (omega arith)) (nothing_out told slots (some_there slots two))
 
 -- an engine for which there was no memory
 pub no_memory : {told : Bool} {work : Work} {opening : Needs} {slots : List Slot} {fault : Fault}

@@ -343,11 +343,11 @@ does_well run (Tee asked) can short = elim (cases_lt (length run.world.standard.
 ]
 
 pub one_completes : (run : Run) (asked : Settings) → Ran run asked → HasOperands asked → (HasLong run asked → ⊥)
-    → (well : Run) × FindAlike run well × Completes well asked
+    → (well : Run) × FindAlike asked run well × Completes well asked
 one_completes run asked ran can short =
     let all = does_well run asked can short in (
       record run { inputs = all.sources; outputs = all.new; status = all.status },
-      all_alike _,
+      all_alike asked _,
       record
           { read = ran.read; does = all.does; unstopped = all.unstopped },
     )

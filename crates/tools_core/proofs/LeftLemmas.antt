@@ -36,8 +36,9 @@ use Rattle.split_core.specs.{
 }
 use Rattle.ends_core.specs.Shown.{head_in, tail_in}
 use Rattle.tools_core.{
-  proofs.SameLemmas.{KnowsNoMore, all_made_alike, head_knows, shows_none, tail_knows, way_knows},
+  proofs.SameLemmas.{KnowsNoMore, all_made_alike, head_knows, shows_none, split_knows, tail_knows},
   specs.Promises.{AllAlike, AreAlike, GivesBytes, are_same, give_same, SaysLines, Completes, FindAlike, IsCopied},
+  specs.Promises.{Gives, at_first, in_full},
   specs.Promises.{IsMet, Tells, IsFound, IsGone, IsTask, IsUnstopped, LeaveAlike, Ran, Run, TellsMet, Unstopped},
   specs.Promises.{broken_off, failing, judged, missing, removes_files},
   specs.About.{TellsText, no_text, text_cut, text_whole},
@@ -659,39 +660,46 @@ ran_over ran = grind (arith, common_steps, not_refused)
 -- Two runs that were asked for the same, over the same inputs
 
 -- `tee` makes the same of inputs that give the same
-pub given_content : {input : Input} {content : Content} {bytes : List ℕ} → input.content ≡ Some content
-    → GivesBytes input bytes → (content.bytes ≡ bytes) × (content.breaks_off ≡ false)
-given_content {content} is gives = grind (arith, common_steps)
+given_whole : {asked : TeeAsked} {shown : Option (List ℕ)} {content : Content} {bytes : List ℕ}
+    → Gives (Tee asked) shown content bytes → (content.bytes ≡ bytes) × (content.breaks_off ≡ false)
+given_whole (in_full all ends steady) = (all, ends)
+given_whole (at_first more all looks shows) = absurd (cc)
 
-tee_alike : (asked : TeeAsked) (content other : Content) → AreAlike (standard_input content) (standard_input other)
+pub given_content : (asked : TeeAsked) {input : Input} {content : Content} {bytes : List ℕ}
+    → input.content ≡ Some content
+    → GivesBytes (Tee asked) input bytes → (content.bytes ≡ bytes) × (content.breaks_off ≡ false)
+given_content asked {content} is gives = grind (arith, common_steps, given_whole)
+
+tee_alike : (asked : TeeAsked) (content other : Content)
+    → AreAlike (Tee asked) (standard_input content) (standard_input other)
     → tee_made asked other ≡ tee_made asked content
 tee_alike asked content other (are_same is) = grind (arith, common_steps, same_content)
 tee_alike asked content other (give_same bytes named gives gives_too) = grind (arith, common_steps, given_content)
 
--- what each tool makes of an input that ends is the same, whether it showed its bytes or not
+-- what each tool makes of an input that gives these bytes is the same, whether it shows them or not
 pub task_knows : (calling : Calling) (asked : Settings) (task : Task) → IsTask calling asked task
-    → KnowsNoMore task.work
+    → KnowsNoMore asked task.work
 task_knows calling (Head asked) task is =
-    rw is (head_knows asked.delim asked.unit (is_minus asked.count.sign) asked.count.amount)
+    rw is (head_knows asked)
 task_knows calling (Tail asked) task is =
-    rw is (tail_knows asked.ends.delim asked.ends.unit (is_plus asked.ends.count.sign) asked.ends.count.amount)
-task_knows calling (Split asked) task is = rw is (way_knows asked.way asked.elide (filing_of asked))
-task_knows calling (Csplit asked) task (operands, asks, is) = rw is (shows_none _)
+    rw is (tail_knows asked)
+task_knows calling (Split asked) task is = rw is (split_knows asked (filing_of asked))
+task_knows calling (Csplit asked) task (operands, asks, is) = rw is (shows_none (Csplit asked) _ refl)
 task_knows calling asked task is = absurd is
 
 -- what is made of inputs is what is made of others that are alike
-alike_makes : (asked : Settings) (ones others : List Input) {made made_too : Outcome} → AllAlike ones others
+alike_makes : (asked : Settings) (ones others : List Input) {made made_too : Outcome} → AllAlike asked ones others
     → Makes asked ones made → Makes asked others made_too → made_too ≡ made
 alike_makes (Tee asked) ones others alike (content, only, is) (content_too, only_too, is_too) =
     is_too ∙ tee_alike asked content content_too (rw (only, only_too) at alike).0 ∙ sym is
 alike_makes (About which topic) ones others alike is is_too = is_too ∙ sym is
 alike_makes asked ones others alike (task, of, is) makes_too = makes_task asked task others of makes_too
-    ∙ sym (is ∙ all_made_alike task (task_knows Cutters asked task of) true ones others alike)
+    ∙ sym (is ∙ all_made_alike asked task (task_knows Cutters asked task of) true ones others alike)
 
 -- what the one made is what the other does
 pub same_made : (one other : Run) {asked : Settings} {made made_too : Outcome}
     → settings_of one.calling one.words ≡ Ok asked → settings_of other.calling other.words ≡ Ok asked
-    → FindAlike one other
+    → FindAlike asked one other
     → Makes asked (inputs_at one.world (names_of asked)) made
     → Makes asked (inputs_at other.world (names_of asked)) made_too → made_too ≡ made
 same_made one other {asked} read read_too same makes makes_too =
@@ -699,7 +707,7 @@ same_made one other {asked} read read_too same makes makes_too =
     (rw (read, read_too) at same) makes makes_too
 
 pub leave_alike : (one other : Run) (asked : Settings) → Completes one asked → Completes other asked
-    → FindAlike one other → LeaveAlike asked one other
+    → FindAlike asked one other → LeaveAlike asked one other
 leave_alike one other asked whole whole_too same =
     let here = completes_left whole in
     let there = completes_left whole_too in

@@ -23,7 +23,7 @@ use Rattle.words_core.specs.{
 }
 use Rattle.tools_core.specs.{
   Tasks.{filing_of, head_task, tail_task, names_of, is_minus, is_plus},
-  Promises.{GivesBytes, counted, Completes, Does, FindAlike, HasInput, Ran, Run, IsHead, IsTail, IsBare, CountAlike},
+  Promises.{Gives, GivesBytes, counted, Completes, Does, FindAlike, HasInput, Ran, Run, IsHead, IsTail, IsBare, CountAlike},
   Promises.{IsTask, output_of, AreCopies, IsSound, files_of, BeginsAs, BeginsEach},
 }
 use Rattle.tools_core.proofs.{
@@ -47,7 +47,7 @@ completes {run} {asked} does = elim (completes_or run asked does.ran) [
   | inr (inr silent) ↦ silent_completes asked does silent
 ]
 
-pub leave_same : (one other : Run) (asked : Settings) → Does one asked → Does other asked → FindAlike one other
+pub leave_same : (one other : Run) (asked : Settings) → Does one asked → Does other asked → FindAlike asked one other
     → one.outputs ≡ other.outputs
 leave_same one other asked does does_too same =
     let here = completes_left (completes does) in
@@ -74,7 +74,7 @@ shows_all world name false = refl
 -- what was made of it
 pub record DidOne (run : Run) (asked : Settings) (bytes : List ℕ) : Type 0 where
   pub input : Input
-  pub gives : GivesBytes input bytes
+  pub gives : GivesBytes asked input bytes
   pub made : Outcome
   pub makes : Makes asked (input ∷ []) made
   pub sound : made.failed ≡ false
@@ -82,13 +82,20 @@ pub record DidOne (run : Run) (asked : Settings) (bytes : List ℕ) : Type 0 whe
 
 pub did_one : {run : Run} {asked : Settings} {bytes : List ℕ} → Does run asked → HasInput run bytes
     → DidOne run asked bytes
-did_one {run} {asked} does has =
+did_one {run} {asked} {bytes} does has =
     let input = input_of run.world false 1 has.name (is_dash has.name) in
     let only : names_of asked ≡ has.name ∷ [] = rw does.ran.read at has.only in
     let all = completes_left (completes does) in
     let whole = left_whole all.fits all.left does.well in record {
       input = input;
-      gives = grind (arith, common_steps, lies_there, shows_all);
+      gives = record {
+        content = has.content;
+        is = lies_there run.world has.name (is_dash has.name) ∙ has.holds;
+        gives = subst (λ shown. Gives asked shown has.content bytes)
+            (sym (shows_all run.world has.name (is_dash has.name)
+            ∙ ap shown_of (lies_there run.world has.name (is_dash has.name) ∙ has.holds)))
+            (has.gives asked does.ran.read);
+      };
       made = all.made;
       makes = rw only at all.of;
       sound = whole.sound;
@@ -105,7 +112,7 @@ pub one_made : {run : Run} {asked : Settings} {bytes : List ℕ} (one : DidOne r
 one_made {asked} {bytes} one task of =
     let is : one.made ≡ joined (of_content task (task.work None) true one.input.name (Some (ending bytes))) no_outcome =
     makes_task asked task _ of one.makes
-    ∙ rw (steady_made task (task_knows Cutters asked task of) true one.input.name bytes one.input refl one.gives) in
+    ∙ rw (steady_made asked task (task_knows Cutters asked task of) true one.input.name bytes one.input refl one.gives) in
     grind (arith, common_steps)
 
 -- What `head` and `tail` leave of one input.
@@ -170,7 +177,7 @@ pub is_copied : {tee : Run} {asked : TeeAsked} {input : List ℕ} → Does tee (
 is_copied {asked} {input} does has =
     let one = did_one does has in
     let (content, only, is) = one.makes in
-    let bytes = (given_content (ap (first_content content) only) one.gives).0 in
+    let bytes = (given_content asked (ap (first_content content) only) one.gives).0 in
     let whole = one.slots ∙ ap (λ (made : Outcome). slots_of made.part) is
     ∙ ap (λ those. slots_of (tee_made asked (record { bytes = those; breaks_off = content.breaks_off; shown = content.shown })).part) bytes in
     record {
@@ -203,7 +210,7 @@ begins_made run (Tee asked) can does =
     (_, (does.content, does.input, refl), λ place differs. tee_begins place differs does.ends)
 begins_made run (About which topic) can does = (_, refl, λ place differs. text_begins place differs does)
 
-pub begins_each : (run well : Run) (asked : Settings) → Ran run asked → Completes well asked → FindAlike run well
+pub begins_each : (run well : Run) (asked : Settings) → Ran run asked → Completes well asked → FindAlike asked run well
     → BeginsEach run well
 begins_each run well asked ran whole same =
     let all = completes_left whole in

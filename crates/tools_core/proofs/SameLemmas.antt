@@ -1,31 +1,57 @@
 -- Lemmas on inputs that give what they show before they are read: what is made of them is what is made of those that show nothing.
 use Rattle.std.proofs.{
-  Common.{◌≡◌, ℕ, ◌&&◌, Bool, true, false, List, [], ◌∷◌, Option, Some, None, inl, inr, refl, sym, ◌∙◌, ap, length},
+  Common.{◌≡◌, ◌⊎◌, ℕ, ◌&&◌, Bool, true, false, not, List, [], ◌∷◌, ◌++◌, Option, Some, None, inl, inr, refl, sym, ◌∙◌, ap, length},
   Common.option_map,
   Math.Bool.or-true,
-  lemmas.Bool.eq-eqb,
+  lemmas.{Bool.eq-eqb, List.append-nil},
 }
-use Rattle.ports_core.specs.{Source.unshown, Work.{IsLawful, Work}}
+use Rattle.ports_core.specs.{Source.{Content, unshown}, Work.{IsLawful, Work}}
 use Rattle.seg_core.specs.declared.{unit.Unit.Unit as Counted, cut.Way.Way}
 use Rattle.ends_core.{
-  specs.{Shown.{head_in, tail_in}, Head.head_work, Tail.tail_work, laws.WorkLaws.{head_lawful, tail_lawful}},
-  proofs.ShownLemmas.{head_shown_lawful, tail_shown_lawful, verdict-head_shown, verdict-tail_shown, whole-head_shown},
-  proofs.ShownLemmas.whole-tail_shown,
+  specs.{
+    Shown.{head_in, place_of, tail_in},
+    Head.head_work,
+    Tail.tail_work,
+    laws.WorkLaws.{between_lawful, head_lawful, tail_lawful},
+  },
+  proofs.ShownLemmas.{head_shown-enough, tail_shown-enough, verdict-head_shown, verdict-tail_shown},
+  proofs.ShownLemmas.{whole-head_shown, whole-tail_shown},
 }
 use Rattle.split_core.specs.{Chunks.is_as_said, ChunkWork.{is_written, way_work}, Split.Filing}
 use Rattle.run_core.specs.{Input.Input, Task.{Task, Outcome, is_missing, joined, of_content, of_input, of_inputs}}
-use Rattle.tools_core.specs.Promises.{AllAlike, AreAlike, GivesBytes, IsSteady, are_same, give_same}
+use Rattle.words_core.specs.{
+  EndsWords.EndsAsked,
+  SplitWords.SplitAsked,
+  declared.{settings.Settings.{Settings, TheVariants.{Head, Tail, Split}}, tail_words.TailSettings.TailSettings},
+}
+use Rattle.tools_core.specs.{
+  Promises.{AllAlike, AreAlike, Gives, GivesBytes, are_same, at_first, give_same, in_full, is_chunked, looks, looks_for_ends},
+  Tasks.{is_minus, is_plus},
+}
 use Rattle.seg_core.specs.declared.cut.Way.TheVariants as way
 
--- a work makes of each text the same, whether its input showed it or nothing
-pub record KnowsNoMore (work : Option (List ℕ) → Work) : Type 0 where
+-- A work makes the same of each text, whether its input shows it first or shows nothing. What an input shows is no matter
+-- where the tool doesn't look.
+pub record KnowsNoMore (asked : Settings) (work : Option (List ℕ) → Work) : Type 0 where
+  pub blind : (shown : Option (List ℕ)) → looks asked ≡ false → work shown ≡ work None
   pub whole : (text : List ℕ) → (work (Some text)).whole text ≡ (work None).whole text
   pub verdict : (text : List ℕ) → (work (Some text)).verdict text ≡ (work None).verdict text
   pub clears : (text : List ℕ) → (work (Some text)).clears ≡ (work None).clears
+  -- whatever comes after the text, where the tool looks for its end
+  pub enough : (text more : List ℕ) → looks_for_ends asked ≡ true
+      → ((work (Some text)).is_complete (text ++ more) ≡ true)
+      × ((work (Some text)).whole (text ++ more) ≡ (work None).whole text)
+      × ((work (Some text)).verdict (text ++ more) ≡ (work None).verdict text)
 
 -- one that is the same whatever is shown
-pub shows_none : (work : Work) → KnowsNoMore (λ shown. work)
-shows_none work = record { whole = λ text. refl; verdict = λ text. refl; clears = λ text. refl }
+pub shows_none : (asked : Settings) (work : Work) → looks_for_ends asked ≡ false → KnowsNoMore asked (λ shown. work)
+shows_none asked work none = record {
+  blind = λ shown is. refl;
+  whole = λ text. refl;
+  verdict = λ text. refl;
+  clears = λ text. refl;
+  enough = λ text more is. absurd (cc);
+}
 
 -- where nothing is shown, they know nothing
 
@@ -43,94 +69,149 @@ tail_in-None delim unit false n = refl
 
 pub head_in_lawful : (delim : ℕ) (unit : Counted) (but_last : Bool) (n : ℕ) (shown : Option (List ℕ))
     → IsLawful (head_in delim unit but_last n shown)
-head_in_lawful delim unit true n (Some text) = head_shown_lawful delim unit n text
+head_in_lawful delim unit true n (Some text) = between_lawful 0 (place_of delim unit n text)
 head_in_lawful delim unit true n None = head_lawful delim unit true n
 head_in_lawful delim unit false n shown = head_lawful delim unit false n
 
 pub tail_in_lawful : (delim : ℕ) (unit : Counted) (from_nth : Bool) (n : ℕ) (shown : Option (List ℕ))
     → IsLawful (tail_in delim unit from_nth n shown)
-tail_in_lawful delim unit false n (Some text) = tail_shown_lawful delim unit n text
+tail_in_lawful delim unit false n (Some text) = between_lawful (place_of delim unit n text) (length text)
 tail_in_lawful delim unit false n None = tail_lawful delim unit false n
 tail_in_lawful delim unit true n shown = tail_lawful delim unit true n
 
-pub head_knows : (delim : ℕ) (unit : Counted) (but_last : Bool) (n : ℕ) → KnowsNoMore (head_in delim unit but_last n)
-head_knows delim unit true n = record {
-  whole = whole-head_shown delim unit n;
-  verdict = verdict-head_shown delim unit n;
+head_knows_by : (asked : EndsAsked) (but_last : Bool) → looks_for_ends (Head asked) ≡ but_last
+    → KnowsNoMore (Head asked) (head_in asked.delim asked.unit but_last asked.count.amount)
+head_knows_by asked true is = record {
+  blind = λ shown none. absurd (cc);
+  whole = λ text. rw append-nil at (whole-head_shown asked.delim asked.unit asked.count.amount text []);
+  verdict = λ text. rw append-nil at (verdict-head_shown asked.delim asked.unit asked.count.amount text []);
   clears = λ text. refl;
+  enough = λ text more looks. (
+    head_shown-enough asked.delim asked.unit asked.count.amount text more,
+    whole-head_shown asked.delim asked.unit asked.count.amount text more,
+    verdict-head_shown asked.delim asked.unit asked.count.amount text more,
+  );
 }
-head_knows delim unit false n = shows_none _
+head_knows_by asked false is = shows_none (Head asked) _ is
 
-pub tail_knows : (delim : ℕ) (unit : Counted) (from_nth : Bool) (n : ℕ) → KnowsNoMore (tail_in delim unit from_nth n)
-tail_knows delim unit false n = record {
-  whole = whole-tail_shown delim unit n;
-  verdict = verdict-tail_shown delim unit n;
+pub head_knows : (asked : EndsAsked)
+    → KnowsNoMore (Head asked) (head_in asked.delim asked.unit (is_minus asked.count.sign) asked.count.amount)
+head_knows asked = head_knows_by asked (is_minus asked.count.sign) refl
+
+tail_knows_by : (asked : TailSettings) (from_nth : Bool) → looks_for_ends (Tail asked) ≡ not from_nth
+    → KnowsNoMore (Tail asked) (tail_in asked.ends.delim asked.ends.unit from_nth asked.ends.count.amount)
+tail_knows_by asked false is = record {
+  blind = λ shown none. absurd (cc);
+  whole = λ text. rw append-nil at (whole-tail_shown asked.ends.delim asked.ends.unit asked.ends.count.amount text []);
+  verdict = λ text. rw append-nil at (verdict-tail_shown asked.ends.delim asked.ends.unit asked.ends.count.amount text []);
   clears = λ text. refl;
+  enough = λ text more looks. (
+    tail_shown-enough asked.ends.delim asked.ends.unit asked.ends.count.amount text more,
+    whole-tail_shown asked.ends.delim asked.ends.unit asked.ends.count.amount text more,
+    verdict-tail_shown asked.ends.delim asked.ends.unit asked.ends.count.amount text more,
+  );
 }
-tail_knows delim unit true n = shows_none _
+tail_knows_by asked true is = shows_none (Tail asked) _ is
+
+pub tail_knows : (asked : TailSettings)
+    → KnowsNoMore (Tail asked)
+    (tail_in asked.ends.delim asked.ends.unit (is_plus asked.ends.count.sign) asked.ends.count.amount)
+tail_knows asked = tail_knows_by asked (is_plus asked.ends.count.sign) refl
 
 -- the length of the text that was shown is that of what came
 said_so : (text : List ℕ) → is_as_said (Some (length text)) text ≡ true
 said_so text = eq-eqb (length text) (length text) refl
 
-pub way_knows : (way : Way) (elide : Bool) (filing : Filing)
-    → KnowsNoMore (λ shown. way_work way elide filing (option_map length shown))
-way_knows (way.Cut cut) elide filing = shows_none _
-way_knows (way.Chunks chunks) elide filing = record {
+way_knows : (asked : SplitAsked) (way : Way) (filing : Filing) → looks (Split asked) ≡ is_chunked way
+    → KnowsNoMore (Split asked) (λ shown. way_work way asked.elide filing (option_map length shown))
+way_knows asked (way.Cut cut) filing is = shows_none (Split asked) _ refl
+way_knows asked (way.Chunks chunks) filing is = record {
+  blind = λ shown none. absurd (cc);
   whole = λ text. refl;
   verdict = λ text. rw (said_so text);
   clears = λ text. refl;
+  enough = λ text more looks. absurd (cc);
 }
-way_knows (way.Chunk place chunks) elide filing = record {
+way_knows asked (way.Chunk place chunks) filing is = record {
+  blind = λ shown none. absurd (cc);
   whole = λ text. refl;
   verdict = λ text. rw (said_so text, or-true (is_written place chunks (Some (length text)) text));
   clears = λ text. refl;
+  enough = λ text more looks. absurd (cc);
 }
-way_knows (way.Turn place count delim) elide filing = shows_none _
+way_knows asked (way.Turn place count delim) filing is = shows_none (Split asked) _ refl
+
+pub split_knows : (asked : SplitAsked) (filing : Filing)
+    → KnowsNoMore (Split asked) (λ shown. way_work asked.way asked.elide filing (option_map length shown))
+split_knows asked filing = way_knows asked asked.way filing refl
 
 -- what is made of an input, by its fields
 of_fields : Task → Work → Bool → List ℕ → List ℕ → Bool → Outcome
 of_fields task work is_first name bytes breaks_off =
     of_content task work is_first name (Some (record { bytes = bytes; breaks_off = breaks_off; shown = None }))
 
-module _ (task : Task) (knows : KnowsNoMore task.work) (is_first : Bool) (name bytes : List ℕ) where
-  shown_too : (shown : Option (List ℕ)) → IsSteady shown bytes
+module _ (asked : Settings) (task : Task) (knows : KnowsNoMore asked task.work) (is_first : Bool)
+    (name bytes : List ℕ) where
+  -- the tool looks or not
+  shown_too : (shown : Option (List ℕ)) (does : Bool) → looks asked ≡ does
+      → (does ≡ true → (shown ≡ None) ⊎ (shown ≡ Some bytes))
       → of_fields task (task.work shown) is_first name bytes false
       ≡ of_fields task (task.work None) is_first name bytes false
   unfolding of_fields
-  shown_too shown (inl none) = rw none
-  shown_too shown (inr all) = rw (all, knows.whole bytes, knows.verdict bytes, knows.clears bytes)
+  shown_too shown false none steady = rw (knows.blind shown none) refl
+  shown_too shown true is steady = elim (steady refl) [
+    | inl none ↦ rw none refl
+    | inr all ↦ rw (all, knows.whole bytes, knows.verdict bytes, knows.clears bytes) refl
+  ]
+
+  -- what comes after the bytes that are shown is no matter where the tool looks for their end
+  shown_first : (more : List ℕ) (breaks_off : Bool) → looks_for_ends asked ≡ true
+      → of_fields task (task.work (Some bytes)) is_first name (bytes ++ more) breaks_off
+      ≡ of_fields task (task.work None) is_first name bytes false
+  unfolding of_fields
+  shown_first more breaks_off is =
+      let all = knows.enough bytes more is in
+      rw (all.0, or-true (not breaks_off), all.1, all.2, knows.clears bytes) refl
+
+  given : (shown : Option (List ℕ)) (content : Content) → Gives asked shown content bytes
+      → of_content task (task.work shown) is_first name (Some content)
+      ≡ of_content task (task.work None) is_first name (Some (unshown bytes))
+  unfolding of_fields
+  given shown content (in_full all ends steady) = rw (all, ends) (shown_too shown (looks asked) refl steady)
+  given shown content (at_first more all looks shows) = rw (shows, all) (shown_first more content.breaks_off looks)
 
   -- what is made of an input that gives these bytes
-  pub steady_made : (input : Input) → input.name ≡ name → GivesBytes input bytes
+  pub steady_made : (input : Input) → input.name ≡ name → GivesBytes asked input bytes
       → of_input task is_first input ≡ of_content task (task.work None) is_first name (Some (unshown bytes))
-  unfolding of_fields
-  steady_made input named gives =
-      rw (named, gives.is, gives.bytes_are, gives.ends) (shown_too input.shown gives.steady)
+  steady_made input named gives = rw (named, gives.is) (given input.shown gives.content gives.gives)
 
 -- both are missing, or none is
-missing_alike : (one other : Input) → AreAlike one other → is_missing one.content ≡ is_missing other.content
-missing_alike one other (are_same is) = rw is
-missing_alike one other (give_same bytes named gives gives_too) = rw (gives.is, gives_too.is)
+missing_alike : (asked : Settings) (one other : Input) → AreAlike asked one other
+    → is_missing one.content ≡ is_missing other.content
+missing_alike asked one other (are_same is) = rw is
+missing_alike asked one other (give_same bytes named gives gives_too) = rw (gives.is, gives_too.is)
 
-alike_made : (task : Task) → KnowsNoMore task.work → (is_first : Bool) (one other : Input) → AreAlike one other
+alike_made : (asked : Settings) (task : Task) → KnowsNoMore asked task.work → (is_first : Bool) (one other : Input)
+    → AreAlike asked one other
     → of_input task is_first one ≡ of_input task is_first other
-alike_made task knows is_first one other (are_same is) = rw is
-alike_made task knows is_first one other (give_same bytes named gives gives_too) =
-    steady_made task knows is_first other.name bytes one named gives ∙ sym (steady_made task knows is_first other.name bytes other refl gives_too)
+alike_made asked task knows is_first one other (are_same is) = rw is
+alike_made asked task knows is_first one other (give_same bytes named gives gives_too) =
+    steady_made asked task knows is_first other.name bytes one named gives
+    ∙ sym (steady_made asked task knows is_first other.name bytes other refl gives_too)
 
 -- so what is made of alike inputs is the same
-pub all_made_alike : (task : Task) → KnowsNoMore task.work → (is_first : Bool) (ones others : List Input)
-    → AllAlike ones others → of_inputs task is_first ones ≡ of_inputs task is_first others
-all_made_alike task knows is_first [] [] alike = refl
-all_made_alike task knows is_first (one ∷ ones) [] alike = absurd alike
-all_made_alike task knows is_first [] (other ∷ others) alike = absurd alike
-all_made_alike task knows is_first (one ∷ ones) (other ∷ others) alike =
-    ap (λ made. joined made (of_inputs task (is_first && is_missing one.content) ones)) (alike_made task knows is_first one other alike.0)
-    ∙ ap (joined (of_input task is_first other)) (rw (missing_alike one other alike.0)
-    (all_made_alike task knows (is_first && is_missing other.content) ones others alike.1))
+pub all_made_alike : (asked : Settings) (task : Task) → KnowsNoMore asked task.work → (is_first : Bool)
+    (ones others : List Input) → AllAlike asked ones others
+    → of_inputs task is_first ones ≡ of_inputs task is_first others
+all_made_alike asked task knows is_first [] [] alike = refl
+all_made_alike asked task knows is_first (one ∷ ones) [] alike = absurd alike
+all_made_alike asked task knows is_first [] (other ∷ others) alike = absurd alike
+all_made_alike asked task knows is_first (one ∷ ones) (other ∷ others) alike =
+    ap (λ made. joined made (of_inputs task (is_first && is_missing one.content) ones)) (alike_made asked task knows is_first one other alike.0)
+    ∙ ap (joined (of_input task is_first other)) (rw (missing_alike asked one other alike.0)
+    (all_made_alike asked task knows (is_first && is_missing other.content) ones others alike.1))
 
 -- inputs are as themselves
-pub all_alike : (inputs : List Input) → AllAlike inputs inputs
-all_alike [] = tt
-all_alike (input ∷ inputs) = (are_same refl, all_alike inputs)
+pub all_alike : (asked : Settings) (inputs : List Input) → AllAlike asked inputs inputs
+all_alike asked [] = tt
+all_alike asked (input ∷ inputs) = (are_same refl, all_alike asked inputs)

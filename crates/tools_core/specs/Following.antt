@@ -32,8 +32,8 @@ is_name Descriptor = false
 is_name Name = true
 
 -- these files are followed, in as many looks or until the process is gone that is asked for, and the run ends so that
--- it gave exactly what these looks give; each begins within the pause that is asked for, 1 ms at least; by its own name
--- `tail` that follows names takes one that can't be read for one that is missing
+-- it gave exactly what these looks give; each shows the pause that is asked for, 1 ms at least, past which the watch
+-- doesn't rest before it; by its own name `tail` that follows names takes one that can't be read for one that is missing
 abbrev pub FollowsAs : Calling → (told_in told : Bool) → TailSettings → Followed → (looks : ℕ)
     → (ℕ → Snapshot) → List Snapshot → List Watched → List Slot → (status : ℕ) → Type 0
 FollowsAs calling told_in told asked followed looks shows seen watched new status =

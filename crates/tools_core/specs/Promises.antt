@@ -66,7 +66,7 @@ use Rattle.tools_core.specs.{
   Following.{FollowingEnds, is_name},
   Outcome.{DoesAsked, RunEnds, names_read},
   Program.ProgramEnds,
-  Tasks.{csplit_task, has_headers, head_task, names_of, naming_of, speaker_of, split_task, tail_task},
+  Tasks.{csplit_task, has_headers, head_task, is_minus, is_plus, names_of, naming_of, speaker_of, split_task, tail_task},
 }
 use Rattle.ports_core.specs.declared.reason.Reason.TheVariants as reason
 use Rattle.ports_core.specs.declared.fault.Fault.TheVariants as fault
@@ -121,44 +121,65 @@ pub record Does (run : Run) (asked : Settings) : Type 0 where
 abbrev pub lying_at : World → List ℕ → Option Content
 lying_at world name = if is_dash name then Some world.standard else world.laid 1 name
 
--- an input with these bytes gives what it shows before it is read, if it shows anything
-abbrev pub IsSteady : Option (List ℕ) → List ℕ → Type 0
-IsSteady shown bytes = (shown ≡ None) ⊎ (shown ≡ Some bytes)
+abbrev pub is_chunked : Way → Bool
+is_chunked (way.Cut cut) = false
+is_chunked (way.Chunks chunks) = true
+is_chunked (way.Chunk place chunks) = true
+is_chunked (way.Turn place n delim) = false
 
--- the run has one input, which gives these bytes and ends after them
+-- `head` of all but the last, or `tail` of the last: it looks at what an input shows before it is read
+abbrev pub looks_for_ends : Settings → Bool
+looks_for_ends (Head asked) = is_minus asked.count.sign
+looks_for_ends (Tail asked) = not (is_plus asked.ends.count.sign)
+looks_for_ends asked = false
+
+-- the tool looks at that: so does `split` that makes chunks
+abbrev pub looks : Settings → Bool
+looks (Split asked) = is_chunked asked.way
+looks asked = looks_for_ends asked
+
+-- An input that shows this and has this content gives these bytes to a run of these settings. It has them and ends after
+-- them; if the tool looks at what it shows, that is just these bytes, or nothing. Or they are what it shows to a `head` or
+-- `tail` that looks, and it has them first, whatever comes after them.
+pub data Gives (asked : Settings) (shown : Option (List ℕ)) (content : Content) (bytes : List ℕ) : Type 0 where
+  in_full : content.bytes ≡ bytes → content.breaks_off ≡ false
+      → (looks asked ≡ true → (shown ≡ None) ⊎ (shown ≡ Some bytes)) → Gives asked shown content bytes
+  at_first : (more : List ℕ) → content.bytes ≡ bytes ++ more → looks_for_ends asked ≡ true → shown ≡ Some bytes
+      → Gives asked shown content bytes
+
+-- the run has one input, which gives it these bytes
 pub record HasInput (run : Run) (bytes : List ℕ) : Type 0 where
   pub name : List ℕ
   pub only : names_read run.calling run.words ≡ name ∷ []
-  pub shown : Option (List ℕ)
-  pub holds : lying_at run.world name ≡ Some (record { bytes = bytes; breaks_off = false; shown = shown })
-  pub steady : IsSteady shown bytes
+  pub content : Content
+  pub holds : lying_at run.world name ≡ Some content
+  pub gives : (asked : Settings) → settings_of run.calling run.words ≡ Ok asked
+      → Gives asked content.shown content bytes
 
--- an input gives these bytes and ends after them
-pub record GivesBytes (input : Input) (bytes : List ℕ) : Type 0 where
+-- an input gives these bytes to a run of these settings
+pub record GivesBytes (asked : Settings) (input : Input) (bytes : List ℕ) : Type 0 where
   pub content : Content
   pub is : input.content ≡ Some content
-  pub bytes_are : content.bytes ≡ bytes
-  pub ends : content.breaks_off ≡ false
-  pub steady : IsSteady input.shown bytes
+  pub gives : Gives asked input.shown content bytes
 
--- Two inputs are the same, or have one name, and give the same bytes, whatever they show of these before.
-pub data AreAlike (one other : Input) : Type 0 where
-  are_same : one ≡ other → AreAlike one other
-  give_same : (bytes : List ℕ) → one.name ≡ other.name → GivesBytes one bytes → GivesBytes other bytes
-      → AreAlike one other
+-- Two inputs are the same, or have one name, and give the same bytes to runs of these settings.
+pub data AreAlike (asked : Settings) (one other : Input) : Type 0 where
+  are_same : one ≡ other → AreAlike asked one other
+  give_same : (bytes : List ℕ) → one.name ≡ other.name → GivesBytes asked one bytes → GivesBytes asked other bytes
+      → AreAlike asked one other
 
 -- each of the inputs and the one at its place in the other list
-abbrev pub AllAlike : List Input → List Input → Type 0
-AllAlike [] [] = Unit {0}
-AllAlike (one ∷ ones) [] = ⊥
-AllAlike [] (other ∷ others) = ⊥
-AllAlike (one ∷ ones) (other ∷ others) = AreAlike one other × AllAlike ones others
+abbrev pub AllAlike : Settings → List Input → List Input → Type 0
+AllAlike asked [] [] = Unit {0}
+AllAlike asked (one ∷ ones) [] = ⊥
+AllAlike asked [] (other ∷ others) = ⊥
+AllAlike asked (one ∷ ones) (other ∷ others) = AreAlike asked one other × AllAlike asked ones others
 
--- Two runs read inputs of the same names, in order, and find the same under each: the same bytes, which end or break
--- off alike, or nothing. In how many reads bytes come is no part of what lies there, nor whether an input that ends shows
--- them before.
-abbrev pub FindAlike : Run → Run → Type 0
-FindAlike one other = AllAlike (inputs_at one.world (names_read one.calling one.words))
+-- Two runs of these settings read inputs of the same names, in order, and find the same under each: the same bytes, which
+-- end or break off alike, or nothing. In how many reads bytes come is no part of what lies there, nor what an input that
+-- ends shows before, if the tool doesn't look at it.
+abbrev pub FindAlike : Settings → Run → Run → Type 0
+FindAlike asked one other = AllAlike asked (inputs_at one.world (names_read one.calling one.words))
     (inputs_at other.world (names_read other.calling other.words))
 
 -- what is on standard output

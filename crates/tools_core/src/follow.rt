@@ -33,7 +33,7 @@ pub fn run_follow<W: Watch, O: Outs>(
         (W.shows watch.old)
         (W.seen watch.new) (W.watched watch.new) (O.slots outs.new) result }
 {
-    match read_words(alloc, Calling::Cutters, words) {
+    match read_words(alloc, words) {
         Ok(settings) => follow_asked(
             alloc,
             Calling::Cutters,

@@ -9,7 +9,7 @@ use crate::run::{refuse_words, run_tool};
 use ports_core::{Calling, Inputs, Outs};
 use std::alloc::Global;
 use watch_core::Watch;
-use words_core::read_words;
+use words_core::read_words_as;
 
 /// Runs what the words ask for, which are read once, as the program is called so: `tail` that follows files as `run_follow` does, in
 /// as many looks as its words say, and all else as `run` does. Where files are followed no input is opened, and else no file is
@@ -38,7 +38,7 @@ pub fn run_words<I: Inputs, W: Watch, O: Outs>(
     ensures untouched { has_dash (names_read calling (map (λ word. word.now) words.now)) ≡ false
         → source_at (I.sources inputs.new) 0 ≡ source_at (I.sources inputs.old) 0 }
 {
-    match read_words(alloc, calling, words) {
+    match read_words_as(alloc, calling, words) {
         Ok(settings) => {
             if settings.follows() {
                 follow_asked(

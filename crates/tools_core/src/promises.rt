@@ -57,7 +57,8 @@ pub fn program_makes_these_runs()
 /// Of one input, the first N lines and all from the line after them on, written one after another, are the input:
 /// `head -n N` and then `tail -n +M`, where M is N + 1. So are all but the last N and the last N: `head -n -N` and then
 /// `tail -n N`. The same holds of bytes (`-c`), and of lines that end with byte 0 (`-z`), where both runs have that option and
-/// neither writes a header.
+/// neither writes a header. If an input shows a text before it is read, and gives that first, the last two speak of that text:
+/// a file may grow while they run.
 pub fn head_and_tail_meet()
     ensures first { (head tail : Run) (first rest : EndsAsked) (n : ℕ) (input : List ℕ) → CountAlike first rest
         → IsHead head first Plain n → IsTail tail rest Plus (n + 1) → HasInput head input → HasInput tail input
@@ -91,12 +92,12 @@ pub fn tee_copies()
 /// goes on with the others, or ends with that; then that is told, and this law says no more of that run. Of a reader that is
 /// gone nothing is said by a tool's own name, and the status is 141; nor by `tee` where its words or its own name ask for that.
 pub fn cutting_changes_nothing()
-    ensures same { (one other : Run) (asked : Settings) → Does one asked → Does other asked → FindAlike one other
+    ensures same { (one other : Run) (asked : Settings) → Does one asked → Does other asked → FindAlike asked one other
         → one.outputs ≡ other.outputs }
     ensures ended { (run : Run) (asked : Settings) → Ran run asked
         → Completes run asked ⊎ IsStopped run asked ⊎ IsSilent run asked }
     ensures alike { (one other : Run) (asked : Settings) → Completes one asked → Completes other asked
-        → FindAlike one other → LeaveAlike asked one other }
+        → FindAlike asked one other → LeaveAlike asked one other }
 {}
 
 /// `split` loses nothing. Its files have the names that were asked for, and come in the order of these, byte by byte. With
@@ -194,10 +195,10 @@ pub fn csplit_loses_nothing()
 /// same. That a file of `csplit` couldn't be removed need not be told, nor then what broke it before; each other file of that
 /// run is gone, or broken too.
 pub fn faults_leave_a_beginning()
-    ensures begins { (run well : Run) (asked : Settings) → Ran run asked → Completes well asked → FindAlike run well
-        → BeginsEach run well }
+    ensures begins { (run well : Run) (asked : Settings) → Ran run asked → Completes well asked
+        → FindAlike asked run well → BeginsEach run well }
     ensures beside { (run : Run) (asked : Settings) → Ran run asked → HasOperands asked → (HasLong run asked → ⊥)
-        → (well : Run) × FindAlike run well × Completes well asked }
+        → (well : Run) × FindAlike asked run well × Completes well asked }
     ensures says { (run : Run) (asked : Settings) → Ran run asked → run.status ≡ 1 → SaysWhy run asked }
     ensures broken { (run : Run) (asked : Settings) (place : ℕ) → Ran run asked → (place ≡ 1 → ⊥)
         → (slot_at run.outputs place).is_broken ≡ true → ((run.status ≡ 1) × WhyBroken run asked place)

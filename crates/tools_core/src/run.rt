@@ -39,7 +39,7 @@ pub fn run<I: Inputs, O: Outs>(alloc: Global, words: &[&str], inputs: &mut I, ou
     ensures untouched { has_dash (names_read Calling.Cutters (map (λ word. word.now) words.now)) ≡ false
         → source_at (I.sources inputs.new) 0 ≡ source_at (I.sources inputs.old) 0 }
 {
-    match read_words(alloc, Calling::Cutters, words) {
+    match read_words(alloc, words) {
         Ok(settings) => run_tool(alloc, Calling::Cutters, &settings, inputs, outs),
         Err(fault) => refuse_words(alloc, words, &fault, outs),
     }

@@ -13,9 +13,9 @@ use Rattle.watch_core.{
   proofs.NameLemmas.{name_changes, names_within},
 }
 
-pub one_changes : {watch : DirWatchState} {names : List Watched} {forgives : Bool} {within : ℕ} (turns place : ℕ)
-    (change : Watched → Watched) {item new : Watched}
-    → record { turns = turns; watched = names; forgives = forgives; within = within } ≡ watch
+pub one_changes : {watch : DirWatchState} {names : List Watched} {forgives : Bool} {within rested : ℕ}
+    (turns place : ℕ) (change : Watched → Watched) {item new : Watched}
+    → record { turns = turns; watched = names; forgives = forgives; within = within; rested = rested } ≡ watch
     → IsTrue (is_watchable watch.watched place)
     → item ≡ get_or names place item → new ≡ change item → set names place new ≡ changed_at place change watch.watched
 one_changes {watch} {names} turns place change {item} {new} is can at changed =
@@ -37,15 +37,15 @@ breaks_any within zero is = refl
 breaks_any within (suc zero) is = rw is refl
 breaks_any within (suc (suc n)) is = breaks_any within (suc n) is
 
-pub may_break : {watch : DirWatchState} {names : List Watched} {turns : ℕ} {forgives : Bool} {within : ℕ}
-    → record { turns = turns; watched = names; forgives = forgives; within = within } ≡ watch → forgives ≡ false
-    → (latest (seen watch)).breaks ≡ true
+pub may_break : {watch : DirWatchState} {names : List Watched} {turns : ℕ} {forgives : Bool} {within rested : ℕ}
+    → record { turns = turns; watched = names; forgives = forgives; within = within; rested = rested } ≡ watch
+    → forgives ≡ false → (latest (seen watch)).breaks ≡ true
 may_break {turns} is unforgiven = subst (λ (those : DirWatchState). (latest (seen those)).breaks ≡ true) is (breaks_any _ turns unforgiven)
 
 -- what was opened is not told
-pub opened_some : {watch : DirWatchState} {snapshot : Snapshot} {names : List Watched} {forgives : Bool} {within : ℕ}
-    (turns : ℕ) {place : ℕ} {item new : Watched} {is_there : Bool}
-    → record { turns = turns; watched = names; forgives = forgives; within = within } ≡ watch
+pub opened_some : {watch : DirWatchState} {snapshot : Snapshot} {names : List Watched} {forgives : Bool}
+    {within rested : ℕ} (turns : ℕ) {place : ℕ} {item new : Watched} {is_there : Bool}
+    → record { turns = turns; watched = names; forgives = forgives; within = within; rested = rested } ≡ watch
     → IsTrue (is_watchable watch.watched place)
     → item ≡ get_or names place item → new ≡ opens new.opened item → is_some new.opened ≡ is_there
     → Found snapshot (watched_at watch.watched place).name (opens_as new.opened)

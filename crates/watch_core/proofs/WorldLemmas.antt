@@ -1,20 +1,24 @@
 -- What edits do to the files.
 use Rattle.std.proofs.{
-  Common.{◌≡◌, ℕ, ◌<◌, ◌≤◌, zero, suc, List, [], ◌∷◌, ◌++◌, length, Option, Some, None, refl, sym, ◌∙◌, ap, arith},
+  Common.{◌≡◌, ℕ, ◌<◌, ◌≤◌, zero, suc, Bool, true, false, List, [], ◌∷◌, ◌++◌, length, Option, Some, None, refl, sym, ◌∙◌, ap, arith},
   Common.{◌⊎◌, inl, inr, slice_index_or, get_or, set},
 }
 use Rattle.ports_core.{proofs.SlotLemmas.set-changed, specs.Slot.changed_at}
-use Rattle.watch_core.specs.Edits.{append, Bar, Link, World, led_to, with_file, edited, seen_in}
+use Rattle.watch_core.specs.Edits.{append, Bar, Link, World, led_to, with_file, edited, seen_in, shown}
 
--- no name leads elsewhere
-changed_leads : (world : World) (file : Option ℕ) (change : List ℕ → List ℕ)
-    → (with_file file change world).links ≡ world.links
-changed_leads world None change = refl
-changed_leads world (Some file) change = refl
+-- no name leads elsewhere where links and bars stay
+pub same_leads : (forgives : Bool) (old new : World) (name : List ℕ) → new.links ≡ old.links → new.bars ≡ old.bars
+    → (shown forgives new).leads name ≡ (shown forgives old).leads name
+same_leads false old new name links bars = ap (λ those. led_to those name) links
+same_leads true old new name links bars = rw (links, bars)
 
-pub append_leads : (world : World) (name bytes other : List ℕ)
-    → (seen_in (edited (append name bytes) world)).leads other ≡ (seen_in world).leads other
-append_leads world name bytes other = ap (λ links. led_to links other) (changed_leads world (led_to world.links name) (λ held. held ++ bytes))
+pub append_leads : (forgives : Bool) (world : World) (name bytes other : List ℕ)
+    → (shown forgives (edited (append name bytes) world)).leads other ≡ (shown forgives world).leads other
+append_leads forgives world name bytes other = by (led_to world.links name) where
+  by : (led : Option ℕ) → (shown forgives (with_file led (λ held. held ++ bytes) world)).leads other
+      ≡ (shown forgives world).leads other
+  by None = refl
+  by (Some file) = same_leads forgives world _ other refl refl
 
 grown_at : (files : List (List ℕ)) (place file : ℕ) (bytes : List ℕ)
     → (slice_index_or (changed_at place (λ held. held ++ bytes) files) file [] ≡ slice_index_or files file [])

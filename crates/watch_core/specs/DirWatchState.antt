@@ -11,6 +11,8 @@ pub record DirWatchState : Type 0 where
   pub forgives : Bool
   -- within how many milliseconds a look begins where nothing is seen to change
   pub within : ℕ
+  -- for how many milliseconds the last look was waited for, in pauses
+  pub rested : ℕ
 
 -- a snapshot of which nothing is told: any call may find anything
 abbrev pub any_files : Snapshot

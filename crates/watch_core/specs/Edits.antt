@@ -5,7 +5,7 @@ use Rattle.std.specs.{
   Prelude.{slice_index_or, bytes_eq, if◌then◌else◌},
 }
 use Rattle.ports_core.specs.Slot.{changed_at}
-use Rattle.watch_core.specs.Snapshot.{Snapshot}
+use Rattle.watch_core.specs.Snapshot.{Snapshot, forgiving}
 
 pub data Edit : Type 0 where
   -- bytes come to the end of the name's file
@@ -91,14 +91,18 @@ seen_in world = record {
   within = 1000;
 }
 
+-- the same, where it forgives if this is true
+abbrev pub shown : (forgives : Bool) → World → Snapshot
+shown forgives world = if forgives then forgiving (seen_in world) else seen_in world
+
 -- the files at each look, where a look comes after each of these lists of edits
 abbrev pub worlds_from : World → List (List Edit) → List World
 worlds_from world [] = []
 worlds_from world (edits ∷ looks) = edited_by edits world ∷ worlds_from (edited_by edits world) looks
 
-abbrev pub snapshots_from : World → List (List Edit) → List Snapshot
-snapshots_from world looks = map seen_in (worlds_from world looks)
+abbrev pub snapshots_from : (forgives : Bool) → World → List (List Edit) → List Snapshot
+snapshots_from forgives world looks = map (shown forgives) (worlds_from world looks)
 
 -- what the looks see; before the first edit there is no file
-abbrev pub snapshots_of : List (List Edit) → List Snapshot
-snapshots_of looks = snapshots_from empty_world looks
+abbrev pub snapshots_of : (forgives : Bool) → List (List Edit) → List Snapshot
+snapshots_of forgives looks = snapshots_from forgives empty_world looks

@@ -15,6 +15,36 @@ use std::marker::Model;
 use std::rt::Files;
 use std::{fs, io};
 
+/// Which files a name is taken to lead to, beside the open one.
+#[derive(Clone, Copy)]
+enum Kinds {
+    /// All, at the first look.
+    Any,
+    /// Those that are regular, at each later one: the opening of a named pipe waits for who writes, and all names would.
+    Regular,
+}
+
+impl Kinds {
+    /// Whether a file of which the system told this is one of these.
+    fn has(self, about: &Metadata) -> bool {
+        match self {
+            Kinds::Any => true,
+            Kinds::Regular => about.is_file(),
+        }
+    }
+
+    /// Whether what a name leads to may be opened. It may where the system can't tell what that is: the opening says why.
+    fn allows(self, files: &impl Files, name: &str) -> bool {
+        match self {
+            Kinds::Any => true,
+            Kinds::Regular => match fs::metadata(files, name) {
+                Ok(about) => about.is_file(),
+                Err(_) => true,
+            },
+        }
+    }
+}
+
 /// A name that is watched, and the real file of it that is open.
 #[derive(Drop)]
 pub(crate) struct DirName {
@@ -40,6 +70,8 @@ pub(crate) struct DirName {
     reason: Reason,
     /// A look found nothing, and changes weren't looked for since.
     is_gone: bool,
+    /// Which files it is taken to lead to. From the second look on those that are regular.
+    kinds: Kinds,
     /// What the name leads to, as looks are told until the system is asked again. None where it is to be asked then.
     led_to: Option<Option<Seen>>,
     /// How often the open file's length was asked for since it was opened, or since a look asked where the name leads.
@@ -78,6 +110,7 @@ impl DirName {
             failed: None,
             reason: Reason::Other,
             is_gone: false,
+            kinds: Kinds::Any,
             led_to: None,
             lens: 0,
             pace: Pace::new(),
@@ -101,8 +134,8 @@ impl DirName {
         }
     }
 
-    /// The file that the name leads to; none where it leads nowhere. It is what was found when changes were last looked for, if that
-    /// was asked. Where it can't be told, the name is broken.
+    /// The file that the name leads to; none where it leads nowhere, or to one of another kind than it is taken to lead to. It is what
+    /// was found when changes were last looked for, if that was asked. Where it can't be told, the name is broken.
     pub(crate) fn look(&mut self, files: &impl Files) -> io::Result<Option<Seen>>
         ensures bound { IfOk result (λ found. IfSome found (λ file. file.len < 2 ^ 63)) }
         ensures same { OnOk result (self.new ≡ self.old) }
@@ -111,7 +144,7 @@ impl DirName {
         self.lens = 0;
         let found = match self.led_to {
             Some(found) => Ok(found),
-            None => find(files, self.name.as_str()),
+            None => self.find(files),
         };
         match found {
             Ok(found) => {
@@ -165,7 +198,7 @@ impl DirName {
         ensures same { self.new ≡ self.old }
     {
         self.next = None;
-        match find(files, self.name.as_str()) {
+        match self.find(files) {
             Ok(Some(seen)) if self.opened == Some(seen.id) => return Some(seen),
             Ok(Some(_)) => {}
             Ok(None) => {
@@ -187,7 +220,7 @@ impl DirName {
     fn open_readable(&mut self, alloc: Global, files: &impl Files<File = File>) -> Option<Opened>
         ensures { self.new ≡ self.old }
     {
-        match open_readable(alloc, files, self.name.as_str()) {
+        match open_readable(alloc, files, self.name.as_str(), self.kinds) {
             Ok(opened) => Some(opened),
             Err(why) => {
                 self.why = why;
@@ -248,7 +281,7 @@ impl DirName {
         if self.is_gone {
             return Ok(None);
         }
-        open_file(alloc, files, self.name.as_str())
+        open_file(alloc, files, self.name.as_str(), self.kinds)
     }
 
     /// The same where a name that can't be read counts as missing: false also where the file can't be opened or read. It is the one that
@@ -419,6 +452,7 @@ impl DirName {
         ensures { self.new ≡ self.old }
     {
         self.is_gone = false;
+        self.kinds = Kinds::Regular;
         if now < self.pace.due() {
             return false;
         }
@@ -465,6 +499,24 @@ impl DirName {
         told.is_some() && self.led_to != told
     }
 
+    /// The file that the name leads to, as the system says now: the open one, or another of a kind that it is taken to lead to. None where
+    /// it leads to no such file. One that is longer than a watch tells is an error.
+    fn find(&self, files: &impl Files) -> io::Result<Option<Seen>>
+        ensures { IfOk result (λ found. IfSome found (λ file. file.len < 2 ^ 63)) }
+    {
+        match fs::metadata(files, self.name.as_str()) {
+            Ok(about) => {
+                let seen = seen_of(&about)?;
+                if self.kinds.has(&about) || self.opened == Some(seen.id) {
+                    return Ok(Some(seen));
+                }
+                Ok(None)
+            }
+            Err(error) if error.kind() == ErrorKind::NotFound => Ok(None),
+            Err(error) => Err(error),
+        }
+    }
+
     /// Where the name leads, as the system says now. None where it can't be told.
     fn ask(&mut self, alloc: Global, files: &impl Files<File = File>) -> Option<Option<Seen>>
         ensures bound { IfSome result (λ found. IfSome found (λ file. file.len < 2 ^ 63)) }
@@ -473,7 +525,7 @@ impl DirName {
         if self.forgives {
             return Some(self.find_readable(alloc, files));
         }
-        find(files, self.name.as_str()).ok()
+        self.find(files).ok()
     }
 
     /// How many bytes the open file has, as was told with the name. None where that isn't known to lead to it.
@@ -505,17 +557,6 @@ struct Opened {
     ghost bound: { seen.len < 2 ^ 63 },
 }
 
-/// The file that a name leads to; none where it leads nowhere. A file that is longer than a watch tells is an error.
-fn find(files: &impl Files, name: &str) -> io::Result<Option<Seen>>
-    ensures { IfOk result (λ found. IfSome found (λ file. file.len < 2 ^ 63)) }
-{
-    match fs::metadata(files, name) {
-        Ok(about) => Ok(Some(seen_of(&about)?)),
-        Err(error) if error.kind() == ErrorKind::NotFound => Ok(None),
-        Err(error) => Err(error),
-    }
-}
-
 /// A file of which the system told this. One that is longer than a watch tells is an error.
 fn seen_of(about: &Metadata) -> io::Result<Seen>
     ensures { IfOk result (λ file. file.len < 2 ^ 63) }
@@ -530,16 +571,25 @@ fn seen_of(about: &Metadata) -> io::Result<Seen>
     })
 }
 
-/// Opens a file for reading. None where the name leads nowhere. Its identity is that of the file that was opened, where the name
-/// may lead elsewhere by then. A file that is longer than a watch tells is an error.
+/// Opens a file for reading. None where the name leads nowhere, or to a file of another kind. Its identity is that of the file that was
+/// opened, where the name may lead elsewhere by then. A file that is longer than a watch tells is an error.
 fn open_file(
     alloc: Global,
     files: &impl Files<File = File>,
     name: &str,
+    kinds: Kinds,
 ) -> io::Result<Option<Opened>> {
+    // The library can't open a named pipe without waiting. So who puts one there between the question and the opening, microseconds
+    // later, still has all names wait until somebody writes to it.
+    if !kinds.allows(files, name) {
+        return Ok(None);
+    }
     match fs::open(files, name) {
         Ok(file) => {
             let about = file.metadata()?;
+            if !kinds.has(&about) {
+                return Ok(None);
+            }
             Ok(Some(Opened {
                 seen: seen_of(&about)?,
                 file: DirFile::new(alloc, file, &about)?,
@@ -559,8 +609,9 @@ fn open_readable(
     alloc: Global,
     files: &impl Files<File = File>,
     name: &str,
+    kinds: Kinds,
 ) -> Result<Opened, Reason> {
-    match open_file(alloc, files, name) {
+    match open_file(alloc, files, name, kinds) {
         Ok(Some(opened)) => match opened.file.failure() {
             None => Ok(opened),
             Some(why) => Err(why),

@@ -1,4 +1,4 @@
-ghost use Rattle.std.specs.Prelude.{◌≡◌, ◌∷◌, ◌++◌, [], false, IsTrue};
+ghost use Rattle.std.specs.Prelude.{◌≡◌, ◌≤◌, ◌∷◌, ◌++◌, [], false, IsTrue};
 ghost use Rattle.watch_core.specs.{DirWatchState.{DirWatchState, files_by, seen}, inner.DirWatchState.no_turns};
 
 use crate::dir_name::DirName;
@@ -42,7 +42,8 @@ const SECOND: u64 = 1000;
 /// Any file but a regular one is a stream, which is read as it comes, into a buffer of 64 KiB of its own: when it is opened, and as
 /// each look begins. Its length is that of all that was taken of it. A read of it waits while nothing comes and somebody has it open
 /// to write, and the opening of a named pipe waits for who writes: that holds up the looks at all names. A pipe that nobody has open
-/// to write gives nothing, until somebody has again. A folder opens where the system lets it, and breaks at its first read.
+/// to write gives nothing, until somebody has again. A folder opens where the system lets it, and breaks at its first read. At the first
+/// look alone such files are opened: at a later one a name that leads to one that isn't open leads nowhere.
 ///
 /// A regular file of which the system says that it has no bytes has as many as reads give. Each look has them counted once more that
 /// begins 50 ms after the last count; where reads gave none for a minute, the file is empty until the system says another length.
@@ -63,6 +64,8 @@ pub struct DirWatch<R: Files<File = File> + Clock + Drop> {
     turns: u64,
     /// How many milliseconds a look is waited for at most.
     most: u64,
+    /// For how many the last one was, in pauses.
+    rested: u64,
     names: Vec<DirName>,
     /// The process whose end is waited for.
     process: Option<Process>,
@@ -73,7 +76,13 @@ pub struct DirWatch<R: Files<File = File> + Clock + Drop> {
 impl<R: Files<File = File> + Clock + Drop> Model for DirWatch<R> {
     ghost Value = { DirWatchState };
 
-    ghost view = { λ w. record { turns = w.turns; watched = w.names.items; forgives = w.forgives; within = w.most } };
+    ghost view = { λ w. record {
+      turns = w.turns;
+      watched = w.names.items;
+      forgives = w.forgives;
+      within = w.most;
+      rested = w.rested;
+    } };
 }
 
 impl<R: Files<File = File> + Clock + Drop> DirWatch<R> {
@@ -86,6 +95,7 @@ impl<R: Files<File = File> + Clock + Drop> DirWatch<R> {
             alloc,
             turns: 0,
             most: SECOND,
+            rested: 0,
             names: Vec::new(alloc),
             process: None,
             forgives: false,
@@ -137,30 +147,32 @@ fn forgive_all(names: &mut Vec<DirName>)
 }
 
 /// Waits until a name has changed, something came of a stream or this process is gone, `most` milliseconds at most where no stream is
-/// waited for.
+/// waited for. Returns how many it paused.
 fn wait<R: Files<File = File> + Clock>(
     alloc: Global,
     runtime: &R,
     names: &mut Vec<DirName>,
     process: &Option<Process>,
     most: u64,
-)
-    ensures { names.new.items ≡ names.old.items }
+) -> u64
+    ensures names { names.new.items ≡ names.old.items }
+    ensures most { result ≤ most }
 {
-    let mut left = most;
-    while left > 0 {
+    let mut rested = 0;
+    while rested < most {
         let now = time_of(runtime);
         let Some(due) = next_due(alloc, runtime, names, now) else {
-            return;
+            return rested;
         };
         if has_ended(runtime, process) {
-            return;
+            return rested;
         }
-        let pause = due.saturating_sub(now).max(SHORTEST).min(left);
+        let pause = due.saturating_sub(now).max(SHORTEST).min(most - rested);
         thread::sleep(runtime, Duration::from_millis(pause));
-        left -= pause;
+        rested += pause;
     }
     next_due(alloc, runtime, names, time_of(runtime));
+    rested
 }
 
 /// What the clock tells, in milliseconds. Where it tells nothing, the greatest number: then each name is always due.
@@ -202,21 +214,24 @@ impl<R: Files<File = File> + Clock + Drop> Watch for DirWatch<R> {
 
     ghost watched = { λ watch. watch.watched };
 
+    ghost rested = { λ watch. watch.rested };
+
     ghost told = { false };
 
     fn turn(&mut self) -> Result<(), Fault> {
         let Some(turns) = self.turns.checked_add(1) else {
             return Err(Fault::Memory);
         };
-        if self.turns > 0 {
-            wait(
+        self.rested = match self.turns {
+            0 => 0,
+            _ => wait(
                 self.alloc,
                 &self.runtime,
                 &mut self.names,
                 &self.process,
                 self.most,
-            );
-        }
+            ),
+        };
         self.turns = turns;
         Ok(())
     }

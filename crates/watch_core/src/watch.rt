@@ -45,10 +45,13 @@ pub trait Watch {
     /// The names that were added, in order.
     ghost watched: { Self → List Watched };
 
+    /// How many milliseconds the last look was waited for, in pauses. How long a pause takes is the system's.
+    ghost rested: { Self → ℕ };
+
     /// Whether the files tell their bytes. Where they don't, nothing is said of what is found and read but that it was found.
     ghost told: { Bool };
 
-    /// Begins a look over all names.
+    /// Begins a look over all names, after pauses that are together no longer than what the look shows.
     ///
     /// # Errors
     ///
@@ -56,6 +59,7 @@ pub trait Watch {
     fn turn(&mut self) -> Result<(), Fault>
         ensures ok { OnOk result (seen self.new ≡ seen self.old ++ shows self.old (length (seen self.old)) ∷ []) }
         ensures err { IfErr result (λ fault. (fault ≡ Fault.Memory) × (seen self.new ≡ seen self.old)) }
+        ensures rested { OnOk result (rested self.new ≤ (shows self.old (length (seen self.old))).within) }
         ensures watched { watched self.new ≡ watched self.old }
         ensures shows { shows self.new ≡ shows self.old };
 

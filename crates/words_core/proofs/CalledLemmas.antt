@@ -1,6 +1,23 @@
--- The last part of a path, looked for from its front.
-use Rattle.std.proofs.{lemmas.Grind.common_steps, Common.{◌≡◌, ℕ, List, [], ◌∷◌, if◌then◌else◌, refl, arith}}
-use Rattle.words_core.specs.inner.Called.{has_slash, last_part}
+-- How a program was called, by the arguments that it is given.
+use Rattle.std.proofs.{
+  lemmas.{
+    Grind.common_steps,
+    Option.{get_or_from_slice_get, slice_get_cases, slice_get_within},
+    Slice.Eq.bytes_eq-Decides,
+  },
+  Math.{ListN.drop_of_length-le, Seq.drop-cons},
+  Common.{◌≡◌, ℕ, Bool, true, false, List, [], ◌∷◌, ◌++◌, Option, Some, None, Result, Ok, Err, IfOk, if◌then◌else◌},
+  Common.{codes, map, option_map, bytes_eq, string_bytes, refl, sym, ◌∙◌, ap, subst, arith, ◌+◌, ◌<◌, inl, inr},
+  Common.{length, drop, get_or, add-one},
+}
+use Rattle.std.specs.{List.slice_get, Str.IsUtf8}
+use Rattle.ports_core.specs.declared.tool.Tool.{Tool}
+use Rattle.words_core.specs.{
+  declared.args.{Args.{Args}, ArgsFault.{ArgsFault}},
+  Called.{AreGiven, IsCalled, called_by, has_slash, last_part, tool_called, words_called},
+  Table.{ToolRow, row_named, tools},
+  Words.{tool_named},
+}
 
 -- the last part of a path, of which this is left, where it is this unless a `/` follows
 abbrev pub part_among : (part left : List ℕ) → List ℕ
@@ -10,3 +27,66 @@ part_among part left = if has_slash left then last_part left else part
 pub whole_part : (path : List ℕ) → part_among path path ≡ last_part path
 whole_part [] = refl
 whole_part (byte ∷ rest) = grind (arith, common_steps)
+
+-- no tool's name is other than text
+
+abbrev AreTexts : List ToolRow → Type 0
+AreTexts [] = Unit {0}
+AreTexts (row ∷ rows) = IsUtf8 row.name × AreTexts rows
+
+differ : (test : Bool) {name other : List ℕ} → IsUtf8 name → (IsUtf8 other → ⊥) → (test ≡ true → name ≡ other)
+    → test ≡ false
+differ true text none same = absurd (none (subst IsUtf8 (same refl) text))
+differ false text none same = refl
+
+none_of : (rows : List ToolRow) (name : List ℕ) → AreTexts rows → (IsUtf8 name → ⊥)
+    → option_map (λ row. row.tool) (row_named rows name) ≡ None
+none_of [] name texts none = refl
+none_of (row ∷ rows) name texts none =
+    rw (differ (bytes_eq row.name name) texts.0 none (bytes_eq-Decides row.name name).0)
+    (none_of rows name texts.1 none)
+
+pub no_tool : (name : List ℕ) → (IsUtf8 name → ⊥) → tool_named name ≡ None
+unfolding tools lib.Utf8.encode
+no_tool name none =
+    none_of tools name (
+      (codes "head", (refl, refl)),
+      (
+        (codes "tail", (refl, refl)),
+        (
+          (codes "split", (refl, refl)),
+          ((codes "csplit", (refl, refl)), ((codes "tee", (refl, refl)), tt)),
+        ),
+      ),
+    ) none
+
+-- Of a program whose own name is given, and calls this tool, the first words and those that follow are all its words.
+pub all_words : (gives : ℕ → Option (List ℕ) → Type 0) {name : List ℕ} {tool : Option Tool} (first : Args)
+    (result : Result Args ArgsFault)
+    → gives 0 (Some name) → tool ≡ tool_called name
+    → map string_bytes first.words.items ≡ words_called tool → first.calling ≡ called_by tool
+    → IfOk result (λ args. (rest : List (List ℕ)) × AreGiven gives 1 rest
+    × (map string_bytes args.words.items ≡ map string_bytes first.words.items ++ rest))
+    → IfOk result (λ args. args.calling ≡ first.calling)
+    → IfOk result (λ args. IsCalled gives args.calling (map string_bytes args.words.items))
+all_words gives {name} first (Ok args) given is words calling rest same = record {
+  arguments = name ∷ rest.0;
+  given = (given, rest.1);
+  called = same ∙ calling ∙ ap called_by is;
+  read = rest.2 ∙ ap (λ words. words ++ rest.0) (words ∙ ap words_called is);
+}
+all_words gives first (Err fault) given is words calling rest same = tt
+
+-- where the arguments are one list, those from a place on are what it has from there on
+pub one_list : (all : List (List ℕ)) (place : ℕ) (arguments : List (List ℕ))
+    → AreGiven (λ place found. found ≡ slice_get all place) place arguments → arguments ≡ drop place all
+one_list all place [] none =
+    elim (slice_get_cases all place).1 [
+      | inl there ↦ absurd (let is : slice_get all place ≡ Some there.0 = there.2 in cc)
+      | inr past ↦ sym (drop_of_length-le all past.0)
+    ]
+one_list all place (argument ∷ arguments) given =
+    let within : place < length all = slice_get_within all place argument (sym given.0) in
+    let rest : arguments ≡ drop (place + 1) all = one_list all (place + 1) arguments given.1 in
+    let here : get_or all place [] ≡ argument = get_or_from_slice_get all place argument [] (sym given.0) in
+    rw (drop-cons all place [] within, here, rest, add-one) refl

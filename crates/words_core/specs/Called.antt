@@ -1,11 +1,70 @@
--- How the program was called, and with which words its words begin then.
-use Rattle.std.specs.Prelude.{◌≡◌, ℕ, List, ◌∷◌, ⊤}
+-- With which words a program was started, and how it was called.
+use Rattle.std.specs.{
+  Prelude.{◌≡◌, ℕ, ◌+◌, ◌==◌, ◌||◌, Bool, false, List, [], ◌∷◌, ◌++◌, take, Option, Some, None, Result, Ok, Err},
+  Prelude.{if◌then◌else◌, ⊤},
+  declared.env.FillError.{FillError, TheVariants.{NotPresent, TooLong}},
+}
 use Rattle.ports_core.specs.{
   Text.tool_name,
   declared.{calling.Calling.{Calling, TheVariants.{Cutters, OwnName}}, tool.Tool.Tool},
 }
+use Rattle.words_core.specs.Words.{tool_named}
 
--- words by which it was called so: by a tool's own name they begin with that name
-abbrev pub IsCalled : Calling → List (List ℕ) → Type 0
-IsCalled OwnName words = (tool : Tool) × (rest : List (List ℕ)) × (words ≡ tool_name tool ∷ rest)
-IsCalled Cutters words = ⊤
+-- Which tool a program's own name calls: the one whose name is its last part. One `-` before that doesn't count: it
+-- says that a shell is a login shell.
+
+-- whether a `/` is among these bytes
+abbrev pub has_slash : List ℕ → Bool
+has_slash [] = false
+has_slash (byte ∷ rest) = byte == 47 || has_slash rest
+
+-- the last part of a path: as long as a `/` is there, that of what follows its first byte
+abbrev pub last_part : List ℕ → List ℕ
+last_part [] = []
+last_part (byte ∷ rest) = if has_slash (byte ∷ rest) then last_part rest else byte ∷ rest
+
+abbrev pub without_hyphen : List ℕ → List ℕ
+without_hyphen [] = []
+without_hyphen (byte ∷ rest) = if byte == 45 then rest else byte ∷ rest
+
+abbrev pub tool_called : List ℕ → Option Tool
+tool_called name = tool_named (without_hyphen (last_part name))
+
+-- how it is called then, and the words before all others
+
+abbrev pub called_by : Option Tool → Calling
+called_by (Some tool) = OwnName
+called_by None = Cutters
+
+abbrev pub words_called : Option Tool → List (List ℕ)
+words_called (Some tool) = tool_name tool ∷ []
+words_called None = []
+
+-- What a program was started with: of the arguments the first is its own name, and the words are all others, after a
+-- tool's name where the own name calls one.
+
+abbrev pub calling_of : List (List ℕ) → Calling
+calling_of [] = Cutters
+calling_of (name ∷ arguments) = called_by (tool_called name)
+
+abbrev pub words_of : List (List ℕ) → List (List ℕ)
+words_of [] = []
+words_of (name ∷ arguments) = words_called (tool_called name) ++ arguments
+
+-- The arguments from this place on: each is one that may be given there, and past the last one none may.
+abbrev pub AreGiven : (ℕ → Option (List ℕ) → Type 0) → ℕ → List (List ℕ) → Type 0
+AreGiven gives place [] = gives place None
+AreGiven gives place (argument ∷ arguments) = gives place (Some argument) × AreGiven gives (place + 1) arguments
+
+-- what a call says of an argument, and leaves in the buffer: the argument, of this length, or that there is none
+abbrev pub Tells : (Option (List ℕ) → Type 0) → List ℕ → Result ℕ FillError → Type 0
+Tells gives buffer (Ok len) = gives (Some (take len buffer))
+Tells gives buffer (Err NotPresent) = gives None
+Tells gives buffer (Err TooLong) = ⊤
+
+-- A program that may be given such arguments was called so, with these words.
+pub record IsCalled (gives : ℕ → Option (List ℕ) → Type 0) (calling : Calling) (words : List (List ℕ)) : Type 0 where
+  pub arguments : List (List ℕ)
+  pub given : AreGiven gives 0 arguments
+  pub called : calling ≡ calling_of arguments
+  pub read : words ≡ words_of arguments

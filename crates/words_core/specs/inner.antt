@@ -1,4 +1,3 @@
-pub mod Called
 pub mod Choice
 pub mod Spelling
 pub mod SplitWords

@@ -1,9 +1,7 @@
 //! The words that the program was started with. The system gives them as bytes.
-ghost use Rattle.std.specs.Prelude.{◌≡◌, ℕ, List, [], ◌∷◌, ◌++◌, None, map, string_bytes, IfOk, IsUtf8};
+ghost use Rattle.std.specs.Prelude.{◌≡◌, ℕ, List, [], ◌∷◌, ◌++◌, Option, map, option_map, string_bytes, IfOk, ⊤};
 ghost use Rattle.words_core.specs.{
-  Words.tool_named,
-  Called.IsCalled,
-  inner.Called.{called_by, last_part, words_called},
+  Called.{AreGiven, IsCalled, Tells, called_by, last_part, tool_called, without_hyphen, words_called},
 };
 
 use crate::words::find_tool;
@@ -33,35 +31,71 @@ pub enum ArgsFault {
 /// How long a word is first taken to be.
 const SHORT: usize = 256;
 
+/// What a program was started with: its own name, and what follows that.
+pub trait Arguments {
+    /// Whether at a place, from 0, this argument may be given, or none.
+    ghost gives: { Self → ℕ → Option (List ℕ) → Type 0 };
+
+    /// Puts the argument at this place at the front of the buffer, and returns its length.
+    ///
+    /// # Errors
+    ///
+    /// `NotPresent`: there is none. `TooLong`: it doesn't fit.
+    fn argument(&self, place: usize, buffer: &mut [u8]) -> Result<usize, FillError>
+        ensures { Tells (gives self.now place) buffer.new result };
+}
+
+/// The system's arguments: no clause of the library says what they are, so any may be given.
+impl<E: Env> Arguments for E {
+    ghost gives = { λ _ _ _. ⊤ };
+
+    fn argument(&self, place: usize, buffer: &mut [u8]) -> Result<usize, FillError> {
+        self.arg(place, buffer)
+    }
+}
+
 /// How the program was called, and its words, from the tool's name on. Where it is called by a tool's name, as through a link, that
-/// name is the first word. What the system's arguments are no clause of the library says, so none here says more of the
-/// words.
+/// name is the first word.
 ///
 /// # Errors
 ///
 /// `NotUtf8`: the first word that isn't text. `Memory` where there is no room for the words.
-pub fn read_args(env: &impl Env, alloc: Global) -> Result<Args, ArgsFault>
-    ensures { IfOk result (λ args. IsCalled args.calling (map string_bytes args.words.items)) }
+pub fn read_args<A: Arguments>(arguments: &A, alloc: Global) -> Result<Args, ArgsFault>
+    ensures { IfOk result (λ args. IsCalled (A.gives arguments.now) args.calling (map string_bytes args.words.items)) }
 {
-    let tool = match read_bytes(env, alloc, 0) {
-        Ok(Some(name)) => called_tool(&name),
-        Ok(None) => None,
+    let first = match read_argument(arguments, alloc, 0) {
+        Ok(Some(name)) => first_words(alloc, called_tool(&name)),
+        Ok(None) => {
+            return Ok(Args {
+                calling: Calling::Cutters,
+                words: Vec::new(alloc),
+            });
+        }
         Err(AllocError) => return Err(ArgsFault::Memory),
     };
-    match first_words(alloc, tool) {
-        Ok(args) => read_rest(env, alloc, args),
+    match first {
+        Ok(args) => read_rest(arguments, alloc, args),
         Err(AllocError) => Err(ArgsFault::Memory),
     }
 }
 
-/// The tool that a program's own name calls: the one whose name is its last part.
+/// The tool that a program's own name calls: the one whose name is its last part, but for a `-` before it.
 fn called_tool(name: &[u8]) -> Option<Tool>
-    ensures text { IsUtf8 (last_part name.now) → result ≡ tool_named (last_part name.now) }
-    ensures other { (IsUtf8 (last_part name.now) → ⊥) → result ≡ None }
+    ensures { result ≡ tool_called name.now }
 {
-    match str::from_utf8(last_part(name)) {
+    match str::from_utf8(without_hyphen(last_part(name))) {
         Ok(part) => find_tool(part),
         Err(_) => None,
+    }
+}
+
+/// A name without the `-` that a login shell's begins with.
+fn without_hyphen(name: &[u8]) -> &[u8]
+    ensures { result.now ≡ without_hyphen name.now }
+{
+    match name {
+        [b'-', rest @ ..] => rest,
+        _ => name,
     }
 }
 
@@ -99,24 +133,26 @@ fn first_words(alloc: Global, tool: Option<Tool>) -> Result<Args, AllocError>
     })
 }
 
-/// These words, and after them those that follow the program's own name.
-fn read_rest(env: &impl Env, alloc: Global, first: Args) -> Result<Args, ArgsFault>
-    ensures words { IfOk result (λ args. (rest : List (List ℕ))
+/// These words, and after them the arguments that follow the program's own name.
+fn read_rest<A: Arguments>(arguments: &A, alloc: Global, first: Args) -> Result<Args, ArgsFault>
+    ensures words { IfOk result (λ args. (rest : List (List ℕ)) × AreGiven (A.gives arguments.now) 1 rest
         × (map string_bytes args.words.items ≡ map string_bytes first.words.items ++ rest)) }
     ensures calling { IfOk result (λ args. args.calling ≡ first.calling) }
 {
     let mut words = first.words;
-    for index in 1..usize::MAX {
-        match read_bytes(env, alloc, index) {
+    for place in 1..usize::MAX {
+        match read_argument(arguments, alloc, place) {
             Ok(Some(bytes)) => push_text(&mut words, bytes)?,
-            Ok(None) => break,
-            Err(AllocError) => return Err(ArgsFault::Memory),
+            Ok(None) => {
+                return Ok(Args {
+                    calling: first.calling,
+                    words,
+                });
+            }
+            Err(AllocError) => break,
         }
     }
-    Ok(Args {
-        calling: first.calling,
-        words,
-    })
+    Err(ArgsFault::Memory)
 }
 
 /// Puts an argument after the words, where it is text.
@@ -134,12 +170,18 @@ fn push_text(words: &mut Vec<String>, bytes: Vec<u8>) -> Result<(), ArgsFault>
     }
 }
 
-/// The bytes of an argument, in a buffer that doubles until they fit.
-fn read_bytes(env: &impl Env, alloc: Global, index: usize) -> Result<Option<Vec<u8>>, AllocError> {
+/// The argument at this place, in a buffer that doubles until it fits.
+fn read_argument<A: Arguments>(
+    arguments: &A,
+    alloc: Global,
+    place: usize,
+) -> Result<Option<Vec<u8>>, AllocError>
+    ensures { IfOk result (λ found. A.gives arguments.now place (option_map (λ bytes. bytes.items) found)) }
+{
     let mut size = SHORT;
     for _ in 0..usize::BITS {
         let mut buffer = vec![in alloc; 0u8; size]?;
-        match env.arg(index, &mut buffer) {
+        match arguments.argument(place, &mut buffer) {
             Ok(len) => {
                 buffer.truncate(len);
                 return Ok(Some(buffer));

@@ -1,7 +1,7 @@
 //! Laws of what words spell and ask for, with no code: each stands on the contract of a function whose body is empty.
 ghost use Rattle.std.specs.{
   Prelude.{◌≡◌, ◌≢◌, ◌↔◌, ◌+◌, ◌-◌, ◌*◌, ◌^◌, ◌≤◌, ◌<◌, ◌++◌, ℕ, List, [], ◌∷◌, All, Some, None, Ok, Err, IsOk, true},
-  Prelude.{false, length, filter, codes, if◌then◌else◌},
+  Prelude.{false, length, filter, codes, if◌then◌else◌, slice_get},
   List.Contains,
 };
 ghost use Rattle.ports_core.specs.declared.fault.UsageKind.{
@@ -14,6 +14,7 @@ ghost use Rattle.words_core.specs.{
     format.Format.Format as Written,
     table.Letters.TheVariants.{OfHead, OfTail},
   },
+  Called.{IsCalled, calling_of, words_of},
   Given.{Given, asked_by, GivenOperand, bare, joined, one_operand, one_option},
   Division.{division_in, way_of_division},
   Choice.choice_in,
@@ -52,6 +53,14 @@ use ports_core::{Alphabet, Base, Calling, Fault, Filling, Mode, OnBroken, Tool};
 use seg_core::count::{Count, Sign};
 use seg_core::cut::{Cut, Limit, Way};
 use seg_core::unit::Unit;
+
+/// Where the arguments are one list, its first one says how the program is called, and the others are its words: in their order,
+/// none left out and none twice.
+pub fn words_are_the_arguments()
+    ensures { (arguments words : List (List ℕ)) (calling : Calling)
+        → IsCalled (λ place found. found ≡ slice_get arguments place) calling words
+        → (calling ≡ calling_of arguments) × (words ≡ words_of arguments) }
+{}
 
 /// Of several counts for `head` or `tail` the last decides, as if it stood alone, whatever options stand before it;
 /// and so does the last option for headers. Other options change neither (POSIX.1-2017, XBD 12.2, guideline 11,

@@ -21,7 +21,7 @@ mod tee_words;
 mod value;
 mod words;
 
-pub use args::{Args, ArgsFault, read_args};
+pub use args::{Args, ArgsFault, Arguments, read_args};
 pub use choice::{Choice, Kind};
 pub use csplit_settings::CsplitSettings;
 pub use division::{Dealing, Division};
@@ -36,6 +36,7 @@ pub use laws::{
     numbers_keep_their_width, one_way_at_most, operands_follow_the_end, operands_keep_their_order,
     operands_may_mix, options_stand_anywhere, reading_ends, some_have_no_effect, split_options_ask,
     starts_ask, tail_options_ask, tee_options_ask, values_are_spelled_alike,
+    words_are_the_arguments,
 };
 pub use settings::{Headers, Settings, Topic};
 pub use spelled::{Chosen, Operand, Spelled};
@@ -45,4 +46,4 @@ pub use table::{Letters, OptionRow, Takes, ToolRow, all_tools, find_row};
 pub use tail_words::TailSettings;
 pub use tee_words::TeeSettings;
 pub use value::{Followed, MOST_LOOKS};
-pub use words::{find_tool, read_words};
+pub use words::{find_tool, read_words, read_words_as};

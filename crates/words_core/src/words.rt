@@ -21,14 +21,30 @@ use crate::value::MOST_LOOKS;
 use ports_core::{Calling, Fault, Tool, UsageKind};
 use std::alloc::Global;
 
-/// Reads what the words ask for, by how the program was called. The first is the tool's name.
+/// Reads what the words ask for where the program is called `cutters`. The first is the tool's name.
 ///
 /// # Errors
 ///
 /// `Usage`: what is wrong, and with which word; the faults of single words come first, from left to right, then those
 /// of the line as a whole, and then those of `csplit`'s operands, in their order. `Memory` where there is no room for what
 /// they spell.
-pub fn read_words<'a>(
+pub fn read_words<'a>(alloc: Global, words: &[&'a str]) -> Result<Settings<'a>, Fault>
+    ensures ok { IfOk result (λ settings.
+        settings_of Calling.Cutters (map (λ word. word.now) words.now) ≡ Ok settings) }
+    ensures err { IfErr result (IsRefused HasBadOperands
+        (settings_of Calling.Cutters (map (λ word. word.now) words.now))) }
+    ensures can { IfOk result CanRun }
+    ensures operands { IfOk result HasOperands }
+{
+    read_words_as(alloc, Calling::Cutters, words)
+}
+
+/// Reads what the words ask for as `read_words` does, where the program is called so.
+///
+/// # Errors
+///
+/// Those of `read_words`.
+pub fn read_words_as<'a>(
     alloc: Global,
     calling: Calling,
     words: &[&'a str],

@@ -3,7 +3,7 @@ use crate::refused::CALLINGS;
 use ports_core::Calling;
 use std::alloc::Global;
 use std::process::Abort;
-use words_core::{Settings, read_words};
+use words_core::{Settings, read_words_as};
 
 /// What words are to ask of a tool.
 pub(crate) trait Asked {
@@ -26,7 +26,7 @@ pub(crate) fn check_called(
     words: &[&str],
     wanted: &impl Asked,
 ) {
-    match read_words(alloc, calling, words) {
+    match read_words_as(alloc, calling, words) {
         Ok(settings) => assert!(rt; wanted.is_met(&settings), "{calling:?} at {words:?}"),
         Err(fault) => assert!(rt; false, "{fault:?} at {words:?}"),
     }

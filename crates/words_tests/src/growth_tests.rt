@@ -3,7 +3,7 @@
 use ports_core::{Calling, Fault};
 use std::alloc::Global;
 use std::test::Fail;
-use words_core::read_words;
+use words_core::read_words_as;
 
 const WORDS: &[&[&str]] = &[
     &["head", "-qn", "1", "f", "g"],
@@ -39,7 +39,7 @@ fn words_are_read_or_are_refused(rt: HostRuntime) -> Result<(), Fail> {
 }
 
 fn reads(alloc: Global, words: &[&str]) -> Result<(), Fault> {
-    match read_words(alloc, Calling::OwnName, words) {
+    match read_words_as(alloc, Calling::OwnName, words) {
         Ok(_) => Ok(()),
         Err(fault) => Err(fault),
     }

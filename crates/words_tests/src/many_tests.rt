@@ -1,5 +1,5 @@
 //! Lines of many words are read: no clause says for how many there is memory.
-use ports_core::{Calling, Fault, UsageKind};
+use ports_core::{Fault, UsageKind};
 use std::alloc::Global;
 use std::process::Abort;
 use std::test::Fail;
@@ -39,7 +39,7 @@ fn many_words_are_read(rt: HostRuntime) -> Result<(), Fail> {
 fn reads(rt: &impl Abort, alloc: Global, row: &Row<'_>) -> Result<(), Fail> {
     let (tool, word, wanted) = *row;
     let words = line(alloc, tool, word)?;
-    let found = match read_words(alloc, Calling::Cutters, &words) {
+    let found = match read_words(alloc, &words) {
         Ok(settings) => Ok(count_of(&settings)),
         Err(fault) => Err(fault),
     };

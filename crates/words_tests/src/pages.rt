@@ -2,11 +2,10 @@
 mod followed_words;
 
 use followed_words::follows_files;
-use ports_core::Calling;
 
 #[test]
 fn sees_what_follows(rt: HostRuntime) {
     let words: [&str; 3] = ["tail", "-f", "log"];
-    let follows = follows_files(rt.alloc(), Calling::Cutters, &words);
+    let follows = follows_files(rt.alloc(), &words);
     assert_eq!(rt; follows, Ok(true));
 }

@@ -2,7 +2,7 @@
 use ports_core::{Calling, Fault, UsageKind};
 use std::alloc::Global;
 use std::process::Abort;
-use words_core::read_words;
+use words_core::read_words_as;
 
 /// Words, what is wrong, and the place of the word that is told.
 pub(crate) type Refused<'a> = (&'a [&'a str], UsageKind, usize);
@@ -31,7 +31,7 @@ pub(crate) fn refuse_called(
 
 fn refuses(rt: &impl Abort, alloc: Global, calling: Calling, row: &Refused<'_>) {
     let (words, kind, word) = *row;
-    match read_words(alloc, calling, words) {
+    match read_words_as(alloc, calling, words) {
         Ok(_) => assert!(rt; false, "{calling:?} at {words:?}"),
         Err(fault) => assert_eq!(rt; fault, Fault::Usage(kind, word), "{calling:?} at {words:?}"),
     }

@@ -1,11 +1,13 @@
 -- What private calls say: the one stage of `head` and `tail`, as contracts see it.
-use Rattle.std.specs.Prelude.{◌≡◌, ℕ, ◌-◌, ◌^◌, max, ◌==◌, ◌≤◌, ◌<◌, Bool, false, List, [], ◌++◌, length}
+use Rattle.std.specs.Prelude.{◌≡◌, ℕ, ◌+◌, ◌-◌, ◌^◌, max, nat_le, ◌==◌, ◌≤◌, ◌<◌, Bool, false, List, [], ◌++◌, drop}
+use Rattle.std.specs.Prelude.{length, ◌⊎◌}
 use Rattle.seg_core.specs.declared.unit.Unit.{Unit as Counted, TheVariants.{Lines, Bytes}}
 use Rattle.ends_core.specs.{
-  declared.ends.Ends.{Ends, TheVariants.{First, ButLast, FromNth, Last}},
+  declared.ends.Ends.{Ends, TheVariants.{First, ButLast, FromNth, Last, Between}},
   Ends.{first_of, after_of, last_of, but_last_of, measure},
   Kept.{held_of, most_of, delim_of as kept_delim, unit_of as kept_unit},
-  Stage.{stretch_of, unit_of, delim_of, count_of, waiting_of, may_lack, least_of, missing_of},
+  Shown.bytes_between,
+  Stage.{stretch_of, unit_of, delim_of, count_of, waiting_of, may_lack, missing_of},
   inner.Kept.Stops,
 }
 use Rattle.ports_core.specs.{Slot.Slot, declared.{fault.Fault.Fault, verdict.Verdict.TheVariants.Changed}}
@@ -21,10 +23,12 @@ due (First count front) piece = first_of front.delim front.unit front.left piece
 due (ButLast kept) piece = but_last_of (kept_delim kept) (kept_unit kept) (most_of kept) (held_of kept ++ piece)
 due (FromNth count front) piece = after_of front.delim front.unit front.left piece
 due (Last kept) piece = []
+due (Between span) piece = bytes_between (span.from - span.came) (span.end - span.came) piece
 
--- with these bytes nothing is written where they are the first: where all from the nth on is asked for, they stand before
--- it, and else there are none
+-- With these bytes nothing is written where they are the first: where all from the nth on is asked for, or from a place on,
+-- they stand before it, and they aren't all up to the end; else there are none.
 abbrev pub WritesNothing : Ends → List ℕ → Type 0
+WritesNothing (Between span) x = (length x ≤ span.from) × ((x ≡ []) ⊎ (length x < span.end))
 WritesNothing (FromNth count front) x = after_of front.delim front.unit front.left x ≡ []
 WritesNothing ends x = x ≡ []
 
@@ -32,13 +36,14 @@ WritesNothing ends x = x ≡ []
 abbrev pub passed : Ends → List ℕ → Ends
 passed (FromNth count front) x = FromNth count (record front {
   left = front.left - measure front.delim front.unit x;
-  missing = front.missing - length x;
 })
+passed (Between span) x = Between (record span { came = span.came + length x })
 passed ends x = ends
 
--- what of a piece comes in after a head
+-- what of a piece comes in after the last byte that is written
 abbrev pub unused_of : Ends → List ℕ → List ℕ
 unused_of (First count front) piece = after_of front.delim front.unit front.left piece
+unused_of (Between span) piece = drop (span.end - span.came) piece
 unused_of ends piece = []
 
 -- how many bytes a piece may have where this many lines or bytes are still to come
@@ -49,6 +54,7 @@ piece_for Bytes left = left
 -- how many bytes the next piece may have
 abbrev pub wanted_by : Ends → ℕ
 wanted_by (First count front) = piece_for front.unit front.left
+wanted_by (Between span) = span.end - span.came
 wanted_by ends = 2 ^ 64 - 1
 
 -- what waits after the piece
@@ -65,6 +71,7 @@ due_at_end ends = []
 -- nothing more is to come
 abbrev pub is_full : Ends → Bool
 is_full (First count front) = front.left == 0
+is_full (Between span) = nat_le span.end span.came
 is_full ends = false
 
 -- both were asked for the same
@@ -73,7 +80,6 @@ pub record SameAsked (old new : Ends) : Type 0 where
   pub delim : delim_of new ≡ delim_of old
   pub unit : unit_of new ≡ unit_of old
   pub count : count_of new ≡ count_of old
-  pub least : least_of new ≡ least_of old
 
 -- Why the end stopped, with the outputs as they are then: fewer bytes came than were shown, and nothing was to be written; or
 -- the output broke.

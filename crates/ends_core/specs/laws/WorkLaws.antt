@@ -1,27 +1,24 @@
 -- The laws of the work of `head` and of `tail`.
 use Rattle.std.proofs.{
-  lemmas.{Grind.common_steps, Bool.{leb-true, le-leb, le-ltb, lt-ltb}},
-  Common.{◌≡◌, ℕ, ◌-◌, ◌<◌, ◌≤◌, ◌&&◌, zero, suc, not, List, ◌++◌, length, Bool, true, false, Option, Some, None},
-  Common.{cond, nat_le, refl, sym, ◌∙◌, ap, arith, rules},
+  lemmas.{Grind.common_steps, Bool.{cases_lt, leb-true, le-leb, le-ltb, lt-ltb}, List.{drop_all, take_all, take-append-le}},
+  Common.{◌≡◌, ℕ, ◌-◌, ◌<◌, ◌≤◌, ◌&&◌, zero, suc, not, List, [], ◌++◌, length, Bool, true, false, Some, None},
+  Common.{cond, nat_le, refl, sym, ◌∙◌, ap, arith, rules, drop, take, inl, inr, length-append},
 }
 use Rattle.ports_core.{
   specs.{
     Part.{nothing, only_out, Begins},
-    Work.{IsComplete, IsLawful, always_well},
-    declared.verdict.Verdict.{Verdict, TheVariants.Changed},
+    Work.{IsComplete, IsLawful},
+    declared.verdict.Verdict.TheVariants.Changed,
   },
   proofs.PartLemmas.{out_begins, part_begins_itself},
 }
-use Rattle.seg_core.{
-  proofs.Delimiters.delimiters-le-length,
-  specs.declared.unit.Unit.{Unit as Counted, TheVariants.{Lines, Bytes}},
-}
+use Rattle.seg_core.specs.declared.unit.Unit.{Unit as Counted, TheVariants.Bytes}
 use Rattle.ends_core.specs.{
-  declared.ends.Ends.{Ends, TheVariants.{First, ButLast, FromNth, Last}},
+  declared.ends.Ends.{Ends, TheVariants.{First, ButLast, FromNth, Last, Between}},
   Ends.{measure, first_of, after_of, last_of, but_last_of, head_of, tail_of},
   Head.head_work,
   Tail.tail_work,
-  Shown.changed_below,
+  Shown.{between_work, bytes_between, changed_below},
   Stage.{count_of, delim_of, unit_of, work},
   laws.EndsLaws.{measure-append, first_of-append, first_of-full, but_last_of-append, after_of-append},
 }
@@ -50,49 +47,19 @@ pub fewer_came : (n : ℕ) (x : List ℕ) → length x < n → changed_below n x
 fewer_came zero x few = absurd (omega arith)
 fewer_came (suc n) x few = grind (arith, common_steps, lt-ltb)
 
--- there are no more lines than bytes
-pub measure-le-length : (delim : ℕ) (unit : Counted) (x : List ℕ) → measure delim unit x ≤ length x
-measure-le-length delim Lines x = delimiters-le-length delim x
-measure-le-length delim Bytes x = omega arith
-
--- once a head is complete, its bytes came
-pub complete_came : (delim : ℕ) (unit : Counted) {least n : ℕ} (x : List ℕ) → least ≤ n
-    → nat_le n (measure delim unit x) ≡ true → changed_below least x ≡ None
-complete_came delim unit {least} {n} x within full =
-    let all = leb-true n (measure delim unit x) full in
-    enough_came least x (omega (arith, measure-le-length delim unit x))
-
--- so what its input has changed below stays as it is
-came_stays : (delim : ℕ) (unit : Counted) {least n : ℕ} (x y : List ℕ) → least ≤ n
-    → nat_le n (measure delim unit x) ≡ true → changed_below least (x ++ y) ≡ changed_below least x
-came_stays delim unit {n = n} x y within full =
-    complete_came delim unit (x ++ y) within (full_head delim unit false n x y full).0
-    ∙ sym (complete_came delim unit x within full)
-
--- with whatever verdict that stays once it is complete, a head is lawful
-module _ (delim : ℕ) (unit : Counted) (but_last : Bool) (n : ℕ) (verdict : List ℕ → Option Verdict)
-    (keeps : (x y : List ℕ) → (head_work delim unit but_last n).is_complete x ≡ true
-    → verdict (x ++ y) ≡ verdict x) where
+-- a head is lawful
+module _ (delim : ℕ) (unit : Counted) (but_last : Bool) (n : ℕ) where
   stays : (x y : List ℕ) → (head_work delim unit but_last n).is_complete x ≡ true
-      → IsComplete (record (head_work delim unit but_last n) { verdict = verdict }) x y
+      → IsComplete (head_work delim unit but_last n) x y
   stays x y full = let more = full_head delim unit but_last n x y full in record {
     still = more.0;
     settled_stays = ap only_out more.1;
     whole_stays = ap only_out more.1;
-    verdict_stays = keeps x y full;
+    verdict_stays = refl;
   }
 
-  pub head_lawful_by : IsLawful (record (head_work delim unit but_last n) { verdict = verdict })
-  head_lawful_by = search (rules, out_begins, head_of-grows, part_begins_itself, stays)
-
-pub head_lawful : (delim : ℕ) (unit : Counted) (but_last : Bool) (n : ℕ) → IsLawful (head_work delim unit but_last n)
-head_lawful delim unit but_last n = head_lawful_by delim unit but_last n always_well (λ x y full. refl)
-
--- and one that has changed below no more bytes than it needs
-pub head_lawful_below : (delim : ℕ) (unit : Counted) {least : ℕ} (n : ℕ) → least ≤ n
-    → IsLawful (record (head_work delim unit false n) { verdict = changed_below least })
-head_lawful_below delim unit {least} n within =
-    head_lawful_by delim unit false n (changed_below least) (λ x y full. came_stays delim unit x y within full)
+  pub head_lawful : IsLawful (head_work delim unit but_last n)
+  head_lawful = search (rules, out_begins, head_of-grows, part_begins_itself, stays)
 
 tail_grows : (delim : ℕ) (unit : Counted) (from_nth : Bool) (n : ℕ) (x y : List ℕ)
     → Begins (cond from_nth (only_out (tail_of delim unit true n x)) nothing)
@@ -107,22 +74,54 @@ tail_ends : (delim : ℕ) (unit : Counted) (from_nth : Bool) (n : ℕ) (x : List
 tail_ends delim unit true n x = grind (arith, common_steps)
 tail_ends delim unit false n x = grind (arith, common_steps)
 
--- a tail is never complete, so it is lawful with whatever verdict
-pub tail_lawful_by : (delim : ℕ) (unit : Counted) (from_nth : Bool) (n : ℕ) (verdict : List ℕ → Option Verdict)
-    → IsLawful (record (tail_work delim unit from_nth n) { verdict = verdict })
-tail_lawful_by delim unit from_nth n verdict = record {
+-- a tail is never complete
+pub tail_lawful : (delim : ℕ) (unit : Counted) (from_nth : Bool) (n : ℕ) → IsLawful (tail_work delim unit from_nth n)
+tail_lawful delim unit from_nth n = record {
   grows = tail_grows delim unit from_nth n;
   ends = tail_ends delim unit from_nth n;
   stays = λ x y never. absurd (cc);
 }
 
-pub tail_lawful : (delim : ℕ) (unit : Counted) (from_nth : Bool) (n : ℕ) → IsLawful (tail_work delim unit from_nth n)
-tail_lawful delim unit from_nth n = tail_lawful_by delim unit from_nth n always_well
+-- Bytes between two places
+
+drop_of-nil : (n : ℕ) → drop {A = ℕ} n [] ≡ []
+drop_of-nil n = drop_all n [] (omega arith)
+
+-- of a text that goes on: those of the text, and of what follows as many as are missing
+pub bytes_between-append : (from end : ℕ) (x y : List ℕ)
+    → bytes_between from end (x ++ y)
+    ≡ bytes_between from end x ++ bytes_between (from - length x) (end - length x) y
+bytes_between-append from end x y =
+    ap (drop from) (first_of-append 0 Bytes end x y)
+    ∙ after_of-append 0 Bytes from (take end x) (take (end - length x) y)
+    ∙ ap (λ rest. bytes_between from end x ++ rest) after where
+      after : drop (from - length (take end x)) (take (end - length x) y)
+          ≡ drop (from - length x) (take (end - length x) y)
+      after = elim (cases_lt (length x) end) [
+        | inl short ↦ ap (λ z. drop (from - length z) (take (end - length x) y)) (take_all end x (omega arith))
+        | inr full ↦ let none : end - length x ≡ 0 = omega arith in rw none (drop_of-nil _ ∙ sym (drop_of-nil _))
+      ]
+
+-- once all came, what follows adds nothing
+pub between_full : (from end : ℕ) (x y : List ℕ) → end ≤ length x
+    → bytes_between from end (x ++ y) ≡ bytes_between from end x
+between_full from end x y full = ap (drop from) (take-append-le end x y full)
+
+pub between_lawful : (from end : ℕ) → IsLawful (between_work from end)
+between_lawful from end = record {
+  grows = λ x y. out_begins _ _ (bytes_between (from - length x) (end - length x) y, bytes_between-append from end x y);
+  ends = λ x. part_begins_itself _;
+  stays = λ x y full. (let all = leb-true end (length x) full in record {
+    still = le-leb end (length (x ++ y)) (omega (arith, length-append x y));
+    settled_stays = ap only_out (between_full from end x y all);
+    whole_stays = ap only_out (between_full from end x y all);
+    verdict_stays = enough_came end (x ++ y) (omega (arith, length-append x y)) ∙ sym (enough_came end x all);
+  });
+}
 
 pub lawful : (ends : Ends) → IsLawful (work ends)
-lawful (First count front) = head_lawful_below front.delim front.unit count (omega arith)
-lawful (ButLast kept) = head_lawful_by (delim_of (ButLast kept)) (unit_of (ButLast kept)) true (count_of (ButLast kept))
-    (changed_below 0) (λ x y full. refl)
-lawful (FromNth count front) = tail_lawful_by front.delim front.unit true count (changed_below front.least)
-lawful (Last kept) = tail_lawful_by (delim_of (Last kept)) (unit_of (Last kept)) false (count_of (Last kept))
-    (changed_below 0)
+lawful (First count front) = head_lawful front.delim front.unit false count
+lawful (ButLast kept) = head_lawful (delim_of (ButLast kept)) (unit_of (ButLast kept)) true (count_of (ButLast kept))
+lawful (FromNth count front) = tail_lawful front.delim front.unit true count
+lawful (Last kept) = tail_lawful (delim_of (Last kept)) (unit_of (Last kept)) false (count_of (Last kept))
+lawful (Between span) = between_lawful span.from span.end

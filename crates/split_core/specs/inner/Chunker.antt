@@ -1,9 +1,11 @@
 -- What private calls say: chunks of an input, as a stage.
-use Rattle.std.specs.Prelude.{◌≡◌, ℕ, Bool, List, length, Option, Result}
+use Rattle.std.specs.Prelude.{◌≡◌, ℕ, max, Bool, List, length, Option, Result}
+use Rattle.seg_core.specs.declared.unit.Unit.{Unit as Counted}
 use Rattle.ports_core.specs.{Engine.TookIn, Part.Part, Slot.Slot, declared.fault.Fault.Fault}
 use Rattle.split_core.specs.{
   Alike.as_if,
   ChunkerState.{ChunkerState, Holds, course, work},
+  ChunkWork.ahead_of,
   Ways.terms,
   declared.splitter.Splitter.TheVariants.Chunks,
   inner.Brings.{Brings, Stays},
@@ -19,6 +21,10 @@ passed_to chunker front place within = record chunker {
     sink = record chunker.cutter.sink { place = place };
   };
 }
+
+-- how many bytes a piece may have where this many are missing to the chunk's end
+abbrev pub piece_for : Counted → ℕ → ℕ
+piece_for unit missing = max missing (max (ahead_of unit) 1)
 
 -- whatever these bytes are, that takes them in
 abbrev pub TakesFront : ChunkerState → ℕ × ℕ × Bool → Type 0

@@ -5,4 +5,4 @@ use Rattle.watch_core.specs.DirWatchState.{DirWatchState}
 
 -- no name and no look
 abbrev pub no_turns : DirWatchState
-no_turns = record { turns = 0; watched = []; forgives = false; within = 1000 }
+no_turns = record { turns = 0; watched = []; forgives = false; within = 1000; rested = 0 }

@@ -6,10 +6,11 @@ use std::alloc::Global;
 use words_core::read_words;
 
 /// Whether words ask to follow files.
-pub(crate) fn follows_files(alloc: Global, calling: Calling, words: &[&str]) -> Result<bool, Fault>
-    ensures err { IfErr result (IsRefused HasBadOperands (settings_of calling (map (λ word. word.now) words.now))) }
+pub(crate) fn follows_files(alloc: Global, words: &[&str]) -> Result<bool, Fault>
+    ensures err { IfErr result (IsRefused HasBadOperands
+        (settings_of Calling.Cutters (map (λ word. word.now) words.now))) }
 {
-    match read_words(alloc, calling, words) {
+    match read_words(alloc, words) {
         Ok(settings) => Ok(settings.follows()),
         Err(fault) => Err(fault),
     }

@@ -12,7 +12,7 @@ use Rattle.words_core.specs.{declared.settings.Settings.Settings, Words.{follows
 use Rattle.tools_core.specs.{
   Outcome.names_at,
   Program.ProgramEnds,
-  Promises.{HasInput, IsOfProgram, Ran, Run},
+  Promises.{HasInput, IsOfProgram, Ran, Run, in_full},
   Tasks.names_of,
 }
 use Rattle.run_tests.proofs.law_tests.ran.Goals as goal
@@ -41,7 +41,7 @@ ran_so law words asked bytes laid old sources shows seen watched outs status fre
     let is_of : IsOfProgram one = subst (λ old. ProgramEnds Cutters true true true words laid old sources shows seen watched outs status) fresh ends in (
       one,
       (law one asked is_of read none).0,
-      record { name = codes "-"; only = ap (λ (meant : Result Settings Fault). names_at meant) read ∙ only; shown = None; holds = refl; steady = inl refl },
+      record { name = codes "-"; only = ap (λ (meant : Result Settings Fault). names_at meant) read ∙ only; content = unshown bytes; holds = refl; gives = λ asked read. in_full refl refl (λ looks. inl refl) },
       refl,
       refl,
       refl,

@@ -1,5 +1,5 @@
 use Rattle.std.proofs.Common.{◌≡◌, length}
-use Rattle.words_core.{specs.inner.Called.last_part, proofs.CalledLemmas.part_among}
+use Rattle.words_core.{specs.Called.last_part, proofs.CalledLemmas.part_among}
 use Rattle.words_core.proofs.args.last_part.Given as goal
 
 abbrev pub invariant-loop-left : goal.invariant-loop-left

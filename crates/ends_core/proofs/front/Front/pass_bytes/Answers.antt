@@ -12,5 +12,5 @@ returns-then-not-pass_over-clause-passes g c = rw (← c.shown.ensures.same) (pa
     (λ x long so. rw (nil_from_length x (sym long)) (stays c.args.self.now Bytes)))
 
 pub returns-clause-passes : goal.returns-clause-passes
-returns-clause-passes g c = rw (← c.shown.ensures.same, c.saturating_sub-self.ensures) (passes_so _ (passes_by _ c.pass_over.result c.if-not-pass_over.false c.pass_over.ensures.passes)
+returns-clause-passes g c = rw (← c.shown.ensures.same) (passes_so _ (passes_by _ c.pass_over.result c.if-not-pass_over.false c.pass_over.ensures.passes)
     (λ x long so. fewer_left c.args.self.now c.min-count.result x (omega arith) (sym long)))

@@ -1,9 +1,9 @@
 use Rattle.std.proofs.{Common.{refl, rules, ap, subst, ◌∙◌, arith}, lemmas.Grind.common_steps}
 use Rattle.mem_core.{
-  specs.MemWatchState.{MemWatchState, shown, world_at},
+  specs.MemWatchState.{MemWatchState, world_at},
   proofs.MemWatchLemmas.{finds_any, finds_now, may_break},
 }
-use Rattle.watch_core.{specs.Watched.{Watched, Finds}, proofs.NameLemmas.names_within}
+use Rattle.watch_core.{specs.{Edits.shown, Watched.{Watched, Finds}}, proofs.NameLemmas.names_within}
 use Rattle.mem_core.proofs.mem_watch.MemWatchWatch.look.Goals as goal
 
 pub index-requires : goal.index-requires

@@ -1,9 +1,9 @@
 use Rattle.std.proofs.{Common.{refl, ap, sym, ◌∙◌, arith}, lemmas.Grind.common_steps}
 use Rattle.mem_core.{
-  specs.MemWatchState.{MemWatchState, shown, world_at},
+  specs.MemWatchState.{MemWatchState, world_at},
   proofs.MemWatchLemmas.{may_break, reopens_now},
 }
-use Rattle.watch_core.{specs.Watched.Watched, proofs.NameLemmas.{name_there, names_within}}
+use Rattle.watch_core.{specs.{Edits.shown, Watched.Watched}, proofs.NameLemmas.{name_there, names_within}}
 use Rattle.mem_core.proofs.mem_watch.MemWatchWatch.reopen.Goals as goal
 
 pub index-requires : goal.index-requires

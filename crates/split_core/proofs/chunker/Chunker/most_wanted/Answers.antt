@@ -1,6 +1,6 @@
-use Rattle.std.proofs.Common.{◌∙◌, ◌-◌, max, ap, sym}
+use Rattle.std.proofs.Common.{◌∙◌, ◌-◌, ap, sym}
 use Rattle.split_core.{
-  specs.{ChunkerState.{ChunkerState, course, course_of}, inner.Seen.seen_aim},
+  specs.{ChunkerState.{ChunkerState, course, course_of}, inner.{Chunker.piece_for, Seen.seen_aim}},
   proofs.WantedLemmas.{few_of_chunk, few_of_files, few_unsaid},
 }
 use Rattle.split_core.proofs.chunker.Chunker.most_wanted.Goals as goal
@@ -9,8 +9,8 @@ pub returns-in-Some-Output-clause-few : goal.returns-in-Some-Output-clause-few
 returns-in-Some-Output-clause-few c = few_of_chunk _ _ _ _
     (ap (λ (state : ChunkerState). state.said) (sym c.self.view_is) ∙ c.in-Some-Output.is-0)
     (ap (λ (state : ChunkerState). course state.cutter) (sym c.self.view_is) ∙ ap (λ aim. course_of (seen_aim aim)) c.in-Some-Output.is-1)
-    (rw (← c.self.view_is) (c.max.ensures
-    ∙ ap (λ n. max n 1) (c.saturating_sub.ensures ∙ ap (λ n. n - c.self.inside.cutter.at) c.chunk_start-end.ensures)))
+    (rw (← c.self.view_is) (c.piece_size.ensures ∙ ap (piece_for c.self.inside.cutter.chunks.unit)
+    (c.saturating_sub-missing.ensures ∙ ap (λ n. n - c.self.inside.cutter.at) c.chunk_start-end.ensures)))
 
 pub returns-in_default-clause-few : goal.returns-in_default-clause-few
 returns-in_default-clause-few c = few_of_files _ _ _ _

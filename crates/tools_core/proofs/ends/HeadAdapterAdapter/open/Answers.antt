@@ -1,9 +1,8 @@
 use Rattle.std.proofs.{Common.{Ok, None, Some, true, false, refl, sym, ◌∙◌, ap}, lemmas.Bool.false≢true}
 use Rattle.run_core.{proofs.InputLemmas.shows_something}
-use Rattle.seg_core.specs.declared.unit.Unit.TheVariants.{Bytes}
 use Rattle.ends_core.specs.Shown.{place_of}
 use Rattle.words_core.specs.EndsWords.{EndsAsked}
-use Rattle.tools_core.{specs.Tasks.is_minus, proofs.AdapterLemmas.{head_by, head_begins, no_memory_for, opened_still}}
+use Rattle.tools_core.{specs.Tasks.is_minus, proofs.AdapterLemmas.{head_by, between_starts, head_begins, no_memory_for, opened_still}}
 use Rattle.tools_core.proofs.ends.HeadAdapterAdapter.open.Goals as goal
 
 pub returns-then-not-is_minus-clause-opens : goal.returns-then-not-is_minus-clause-opens
@@ -27,7 +26,7 @@ returns-in-Some-clause-opens g c =
       rw at (λ t. sym (seen.shown t)),
       opened_still _ _ (Ok c.up_to.result) is c.up_to.ensures.holds
           (c.up_to.ensures.does asked.delim asked.unit asked.count.amount seen.text (sym seen.place)) c.up_to.ensures.bound c.requires.output
-          (head_begins 0 Bytes false (place_of asked.delim asked.unit asked.count.amount seen.text) c.requires.streams),
+          (between_starts 0 (place_of asked.delim asked.unit asked.count.amount seen.text) c.requires.streams),
       tt,
     )
 

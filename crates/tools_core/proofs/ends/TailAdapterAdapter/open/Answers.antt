@@ -1,9 +1,7 @@
-use Rattle.std.proofs.{Common.{suc, Ok, None, Some, true, false, refl, sym, ◌∙◌, ap}, lemmas.Bool.false≢true}
+use Rattle.std.proofs.{Common.{Ok, None, Some, true, false, refl, sym, ◌∙◌, ap}, lemmas.Bool.false≢true}
 use Rattle.run_core.{proofs.InputLemmas.shows_something}
-use Rattle.seg_core.specs.declared.unit.Unit.TheVariants.{Bytes}
-use Rattle.ends_core.specs.Shown.{place_of}
 use Rattle.words_core.specs.EndsWords.{EndsAsked}
-use Rattle.tools_core.{specs.Tasks.is_plus, proofs.AdapterLemmas.{tail_by, tail_starts, no_memory_for, opened_still}}
+use Rattle.tools_core.{specs.Tasks.is_plus, proofs.AdapterLemmas.{between_starts, tail_by, tail_starts, no_memory_for, opened_still}}
 use Rattle.tools_core.proofs.ends.TailAdapterAdapter.open.Goals as goal
 
 pub returns-then-is_plus-clause-opens : goal.returns-then-is_plus-clause-opens
@@ -28,7 +26,7 @@ returns-in-Some-clause-opens g c =
       opened_still _ _ (Ok c.after.result) is c.after.ensures.holds
           (c.after.ensures.does asked.delim asked.unit asked.count.amount seen.text (sym seen.place)
           (sym seen.len)) c.after.ensures.bound c.requires.output
-          (tail_starts 0 Bytes true (suc (place_of asked.delim asked.unit asked.count.amount seen.text)) c.requires.streams),
+          (between_starts _ _ c.requires.streams),
       tt,
     )
 

@@ -1,5 +1,5 @@
 use Rattle.words_core.proofs.{LimitLemmas.read-can, WordsLemmas.returned}
-use Rattle.words_core.proofs.words.read_words.Goals as goal
+use Rattle.words_core.proofs.words.read_words_as.Goals as goal
 
 pub returns : goal.returns
 returns c =

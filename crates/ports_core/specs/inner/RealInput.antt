@@ -1,0 +1,39 @@
+-- What private calls say of one real input.
+use Rattle.std.specs.Prelude.{ℕ, ◌+◌, ◌-◌, ◌^◌, Bool, false, List, map, min, if◌then◌else◌}
+use Rattle.ports_core.specs.{
+  Source.{Source, fails, gives, gets_back, skips},
+  declared.reason.Reason.{Reason, TheVariants.Other},
+}
+
+pub record RealInput : Type 0 where
+  pub source : Source
+  -- how many of its bytes were given and not given back, or passed over; it stays at the greatest number of 64 bits
+  pub place : ℕ
+  -- it is standard input in whose place something stands that says nothing of why it can't be read
+  pub is_closed : Bool
+
+abbrev pub sources_of : List RealInput → List Source
+sources_of inputs = map (λ input. input.source) inputs
+
+-- one of which nothing was read
+abbrev pub input_of : Source → RealInput
+input_of source = record { source = source; place = 0; is_closed = false }
+
+-- a read into a buffer of this size gave the next n bytes
+abbrev pub input_gives : ℕ → ℕ → RealInput → RealInput
+input_gives size n input = record input {
+  source = gives size n input.source;
+  place = min (input.place + n) (2 ^ 64 - 1);
+}
+
+-- why it can't be read, where the system says this
+abbrev pub why_of : RealInput → Reason → Reason
+why_of input why = if input.is_closed then Other else why
+
+-- a read into a buffer of this size failed, and the system says why
+abbrev pub input_fails : Reason → ℕ → RealInput → RealInput
+input_fails why size input = record input { source = fails (why_of input why) size input.source }
+
+-- the next n bytes were passed over
+abbrev pub input_skips : ℕ → RealInput → RealInput
+input_skips n input = record input { source = skips n input.source; place = input.place + n }
