@@ -163,26 +163,19 @@ const TAILS: &[Row<'static>] = &[
     (LAST, b"a\nb\nc\nd", &[], b"d2\n", &[], TAIL_CHANGED),
     (LAST, b"a\nb", &[], b"2\n", &[], TAIL_CHANGED),
     (LAST, b"", &[], b"2\n", &[], TAIL_CHANGED),
-    // What is more is written too, as it came after the sixth byte.
-    (LAST, b"a\nb\nc\nd\ne\n", &[], b"d\ne\n2\n", &[], b""),
+    // Of what is more nothing is written: the eighth byte is the last that was shown.
+    (LAST, b"a\nb\nc\nd\ne\n", &[], b"d\n2\n", &[], b""),
     // The seventh byte and the eighth, whichever these are.
     (LAST, b"vwxyz\n\nA", &[], b"\nA2\n", &[], b""),
     // It breaks off after the sixth byte, or before it.
     (LAST, SHOWN, &[Plan::Break(1, 7)], b"d2\n", &[], TAIL_BROKEN),
     (LAST, SHOWN, &[Plan::Break(1, 3)], b"2\n", &[], TAIL_BROKEN),
-    // A break after all that was shown is met, since a tail reads to the end.
-    (
-        LAST,
-        SHOWN,
-        &[Plan::Break(1, 8)],
-        b"d\n2\n",
-        &[],
-        TAIL_BROKEN,
-    ),
+    // A break after all that was shown isn't met, since nothing is read after it.
+    (LAST, SHOWN, &[Plan::Break(1, 8)], b"d\n2\n", &[], b""),
     // Before the last three of eight bytes stand five.
     (LAST_THREE, SHOWN, &[], b"\nd\n\n2\n", &[], b""),
     (LAST_THREE, b"uvwxyz", &[], b"z\n2\n", &[], TAIL_CHANGED),
-    (LAST_THREE, b"0123456789", &[], b"56789\n2\n", &[], b""),
+    (LAST_THREE, b"0123456789", &[], b"567\n2\n", &[], b""),
     (LAST_THREE, b"vwxyzABC", &[], b"ABC\n2\n", &[], b""),
     (
         LAST_THREE,
@@ -208,7 +201,7 @@ const TAILS: &[Row<'static>] = &[
         &["tail", "-n", "0", "f"],
         b"0123456789",
         &[],
-        b"89",
+        b"",
         &[],
         b"",
     ),
