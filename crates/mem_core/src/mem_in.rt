@@ -531,6 +531,9 @@ impl Inputs for MemIn {
         self.sources[slot].read_at(place, buffer)
     }
 
+    /// Nothing in memory is a device.
+    fn limit(&mut self, _slot: usize) {}
+
     /// Passes over the next bytes, wherever there are as many.
     fn skip(&mut self, slot: usize, count: u64) -> bool
         requires { IsTrue (is_readable self.old.sources slot) }

@@ -1,9 +1,9 @@
 -- Why outputs, inputs and names break, and what is said of it: the numbers of Linux, and the texts of the C library.
-use Rattle.std.specs.Prelude.{ℕ, ℤ, pos, negsuc, ◌==◌, List, [], ◌∷◌, codes, Option, Some, None, if◌then◌else◌}
+use Rattle.std.specs.Prelude.{ℕ, ℤ, pos, negsuc, ◌==◌, List, [], ◌∷◌, codes, Option, Some, None, Bool, true, false, if◌then◌else◌}
 use Rattle.ports_core.specs.declared.reason.Reason.{
   Reason,
   TheVariants.{Gone, Missing, Denied, Folder, NoFolder, Full, TooLarge, ReadOnly, Quota, TooMany, Device, Busy},
-  TheVariants.{LongName, Circle, Input, MayBeInput, Other},
+  TheVariants.{LongName, Circle, Input, MayBeInput, Endless, Other},
 }
 
 -- what a message says of it after the name
@@ -24,7 +24,13 @@ reason_text LongName = codes ": File name too long"
 reason_text Circle = codes ": Too many levels of symbolic links"
 reason_text Input = codes ": is an input"
 reason_text MayBeInput = codes ": cannot tell whether it is an input"
+reason_text Endless = []
 reason_text Other = []
+
+-- an input that goes on without an end isn't read to its end
+abbrev pub is_endless : Reason → Bool
+is_endless Endless = true
+is_endless why = false
 
 -- the numbers that the system has for them
 abbrev pub reasons : List (ℕ × Reason)

@@ -6,7 +6,7 @@ use std::alloc::Global;
 use std::cell::Cell;
 use std::fs;
 use std::fs::{Metadata, OpenFile};
-use std::os::unix::fs::MetadataExt;
+use std::os::unix::fs::{FileTypeExt, MetadataExt};
 use std::rt::Files;
 
 /// The system's name for standard input, whatever other names lead to.
@@ -118,6 +118,11 @@ pub(crate) fn is_standard_output(files: &impl Files, id: u128, len: u64) -> bool
 fn is_stream(files: &impl Files, stream: &str, id: u128) -> Option<bool> {
     let about = fs::metadata(files, stream).ok()?;
     Some(id_of(&about) == id)
+}
+
+/// Whether it is a character device, as a terminal or `/dev/zero`.
+pub(crate) fn is_device(about: &Metadata) -> bool {
+    about.file_type().is_char_device()
 }
 
 /// The identity of a file: no two files of one system have the same device and the same number there.

@@ -38,17 +38,19 @@ pub enum Reason {
     Input,
     /// The system doesn't say whether it is an input.
     MayBeInput,
+    /// It is a device that goes on without an end, as `/dev/zero`, where its length was needed.
+    Endless,
     /// Any other, or none that is known.
     Other,
 }
 
 impl Reason {
-    /// What a message says of it, after the name: nothing of `Gone` and `Other`. It is the system's own text in English.
+    /// What a message says of it, after the name: nothing of `Gone`, `Endless` and `Other`. It is the system's own text in English.
     pub fn text(self) -> &'static [u8]
         ensures { result.now ≡ reason_text self }
     {
         match self {
-            Reason::Gone | Reason::Other => b"",
+            Reason::Gone | Reason::Endless | Reason::Other => b"",
             Reason::Missing => b": No such file or directory",
             Reason::Denied => b": Permission denied",
             Reason::Folder => b": Is a directory",

@@ -68,7 +68,7 @@ impl<'a, 'b> Adapter for SplitAdapter<'a, 'b> {
     }
 }
 
-/// How many bytes a source shows, where that matters and it shows them.
+/// How many bytes a source shows, where that matters and it shows them. Else a device without an end isn't waited for.
 fn said_by<I: Inputs>(way: &Way, source: Option<usize>, inputs: &mut I) -> Option<u64>
     requires input { IfSome source (λ slot. IsTrue (is_readable (I.sources inputs.old) slot)) }
     ensures said { (shown : Option (List ℕ)) × IsShown I.told source (I.sources inputs.old) shown
@@ -81,10 +81,12 @@ fn said_by<I: Inputs>(way: &Way, source: Option<usize>, inputs: &mut I) -> Optio
     let (Way::Chunks(_) | Way::Chunk(_, _)) = way else {
         return None;
     };
-    match source {
-        Some(slot) => inputs.shown(slot),
-        None => None,
+    let slot = source?;
+    let said = inputs.shown(slot);
+    if said.is_none() {
+        inputs.limit(slot);
     }
+    said
 }
 
 /// What standard output is told of its files.
