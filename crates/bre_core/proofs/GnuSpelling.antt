@@ -1,23 +1,7 @@
 -- A text that has a tree, or no backslash, stays as it is where GNU's spelling is written as POSIX's.
-use Rattle.std.proofs.{lemmas.{Grind.common_steps, Bool.{cond-true, cond-false, cond_both, cases_Bool, eqb-true, and_parts, or_parts, and_left, and_right, ne_eqb}, Bool.{MatchBool-at_true, MatchBool-at_false}, Option.{none-some, same_Some}}, Common.{◌≡◌, ◌≢◌, ◌⊎◌, inl, inr, ℕ, Bool, true, false, ◌||◌, ◌&&◌, eqb, List, [], ◌∷◌, ◌++◌, Option, Some}, Common.{refl, sym, ap, subst, ◌∙◌, append_assoc, arith}}
+use Rattle.std.proofs.{lemmas.{Grind.common_steps, Bool.{cond-true, cases_Bool, eqb-true, and_right, ne_eqb}, Bool.{MatchBool-at_true, MatchBool-at_false}, Option.{none-some, same_Some}}, Common.{◌≡◌, ◌≢◌, ◌⊎◌, inl, inr, ℕ, Bool, true, false, ◌||◌, eqb, List, [], ◌∷◌, ◌++◌, Option, Some}, Common.{refl, sym, ap, subst, ◌∙◌, append_assoc, arith}}
 use Rattle.std.specs.List.{list_all, list_any}
-use Rattle.bre_core.specs.{
-  declared.{
-    class.Class.{Class, TheVariants.Upper},
-    gnu_spelling.Place.{Place, TheVariants.{Outside, Escaped, Opened, First, Inside, Bracket, Named, Marked}},
-    token.{Context.{Context, TheVariants.{Opening, Inner}}, Token.Token},
-  },
-  Bracket.{IsBracket, begins_with},
-  Class.is_between,
-  GnuSpelling.{after_member, escape_of, place_after, respelled, respelled_from, written_for},
-  Match.Contains,
-  Pattern.{Pattern, Reads, written, nothing, append, group},
-  Spelled.{AreBounds, exactly, at_least, between, IsNumber, IsInterval, Spelling, plain, symbol, Part, single, range},
-  Spelled.{equivalents, class, name_of, byte_before, part_before, parts_before, list_before, is_opening, IsItself},
-  Spelled.{Stand, IsBracketList},
-  Steps.Steps,
-  Token.{BeginsWithToken, ReadsToken, plain_at, escaped_at, is_special},
-}
+use Rattle.bre_core.specs.{declared.{class.Class.{Class, TheVariants.Upper}, gnu_spelling.Place.{Place, TheVariants.{Outside, Escaped, Opened, First, Inside, Bracket, Named}}, token.{Context.{Context, TheVariants.{Opening, Inner}}, Token.Token}}, Bracket.{IsBracket, begins_with}, Class.is_between, GnuSpelling.{after_member, escape_of, place_after, respelled, respelled_from, written_for}, Match.Contains, Pattern.{Pattern, Reads, written, nothing, append, group}, Spelled.{AreBounds, exactly, at_least, between, IsNumber, IsInterval, Spelling, plain, symbol, Part, single, range}, Spelled.{equivalents, class, name_of, byte_before, part_before, parts_before, list_before, is_opening, IsItself}, Spelled.{Stand, IsBracketList}, Steps.Steps, Token.{BeginsWithToken, ReadsToken, plain_at, escaped_at}}
 use Rattle.bre_core.proofs.{Spelled.{interval_read, list_found}, Existence.one_tree_alone}
 
 -- it stays as it is from this place on
@@ -36,17 +20,14 @@ never_escaped place byte other = grind (arith, common_steps)
 
 written_plainly : (place : Place) (byte : ℕ) (text : List ℕ) → is_escaped place ≡ false → eqb byte 92 ≡ false
     → written_for place (byte ∷ text) ≡ byte ∷ []
-written_plainly Outside byte text free other = cond-false _ _ _ other
-written_plainly Escaped byte text free other = cc
-written_plainly place byte text free other = refl
+written_plainly Outside byte text free other = grind (arith, common_steps)
+written_plainly place byte text free other = grind (arith, common_steps)
 
 plain_stays : (place : Place) (text : List ℕ) → is_escaped place ≡ false
     → list_any (λ byte. eqb byte 92) text ≡ false → Stays place text
 plain_stays place [] free none = refl
 plain_stays place (byte ∷ text) free none =
-    let parts = or_parts (eqb byte 92) (list_any (λ other. eqb other 92) text) none in
-    ap (λ w. w ++ respelled_from (place_after place byte) text) (written_plainly place byte text free parts.0)
-    ∙ ap (λ t. byte ∷ t) (plain_stays (place_after place byte) text (never_escaped place byte parts.0) parts.1)
+    grind (arith, common_steps, written_plainly, never_escaped, (plain_stays (place_after place byte) text))
 
 pub plain_text : (text : List ℕ) → text ≢ [] → list_any (λ byte. eqb byte 92) text ≡ false → respelled text ≡ text
 plain_text [] some none = absurd (some refl)
@@ -66,24 +47,19 @@ MayStart false text = begins_with 93 text ≡ false
 
 enter : (first : Bool) (byte : ℕ) {text : List ℕ} → MayStart first (byte ∷ text) → Stays (after_member byte) text
     → Stays (place_of first) (byte ∷ text)
-enter true byte may stays = ap (λ t. byte ∷ t) stays
-enter false byte {text} may stays =
-    ap (λ t. byte ∷ t) (ap (λ place. respelled_from place text) (cond-false _ _ _ may) ∙ stays)
+enter true byte may stays = grind (arith, common_steps)
+enter false byte may stays = grind (arith, common_steps)
 
 -- after a `[` that begins nothing
 no_mark : (text : List ℕ) → (begins_with 46 text || begins_with 61 text || begins_with 58 text) ≡ false
     → Stays Inside text → Stays Bracket text
 no_mark [] none stays = refl
-no_mark (byte ∷ text) none stays = ap (λ place. byte ∷ respelled_from place text) (cond-false _ _ _ none) ∙ stays
+no_mark (byte ∷ text) none stays = grind (arith, common_steps)
 
 -- a byte after a mark, and the mark and `]` that close it
 closes : (mark byte : ℕ) {text : List ℕ} → eqb mark mark ≡ true → eqb mark 93 ≡ false → Stays Inside text
     → Stays (Named mark) (byte ∷ mark ∷ 93 ∷ text)
-closes mark byte {text} same other stays =
-    let closed : Stays (Marked mark) (93 ∷ text) = ap (λ t. 93 ∷ t) stays in
-    let named : Stays (Named mark) (mark ∷ 93 ∷ text) = ap (λ t. mark ∷ t) (ap (λ place. respelled_from place (93 ∷ text)) (cond-true _ _ _ same) ∙ closed) in
-    let marked : Stays (Marked mark) (mark ∷ 93 ∷ text) = ap (λ t. mark ∷ t) (ap (λ place. respelled_from place (93 ∷ text)) (cond-false _ _ _ other ∙ cond-true _ _ _ same) ∙ closed) in
-    ap (λ t. byte ∷ t) (cond_both (eqb byte mark) (Marked mark) (Named mark) (λ place. Stays place (mark ∷ 93 ∷ text)) (λ _. marked) (λ _. named))
+closes mark byte same other stays = grind (arith, common_steps)
 
 class_stays : (name : Class) {text : List ℕ} → Stays Inside text
     → Stays Bracket (58 ∷ (name_of name ++ (58 ∷ 93 ∷ text)))
@@ -93,10 +69,7 @@ class_stays name stays = ap (λ t. 58 ∷ (name_of name ++ (58 ∷ 93 ∷ t))) s
 byte_stays : (first : Bool) (spelling : Spelling) {text : List ℕ} → MayStart first (byte_before spelling text)
     → is_opening spelling text ≡ false → Stays Inside text → Stays (place_of first) (byte_before spelling text)
 byte_stays first (symbol byte) may opening stays = enter first 91 may (ap (λ t. 46 ∷ t) (closes 46 byte refl refl stays))
-byte_stays first (plain byte) {text} may opening stays =
-    enter first byte may (cond_both (eqb byte 91) Bracket Inside (λ place. Stays place text)
-    (λ is. no_mark text (sym (ap (λ b. b && (begins_with 46 text || begins_with 61 text || begins_with 58 text)) is) ∙ opening) stays)
-    (λ _. stays))
+byte_stays first (plain byte) may opening stays = grind (arith, common_steps, enter, no_mark)
 
 -- a `-` begins nothing after `[`
 no_opening : (spelling : Spelling) (text : List ℕ) → is_opening spelling (45 ∷ text) ≡ false
@@ -123,7 +96,7 @@ parts_stay (part ∷ parts) some stand stays = part_stays true part tt stand.1 (
 
 no_caret : (text : List ℕ) → begins_with 94 text ≡ false → Stays First text → Stays Opened text
 no_caret [] other stays = refl
-no_caret (byte ∷ text) other stays = ap (λ place. byte ∷ respelled_from place text) (cond-false _ _ _ other) ∙ stays
+no_caret (byte ∷ text) other stays = grind (arith, common_steps)
 
 list_stays : (complemented : Bool) (parts : List Part) {rest : List ℕ} → IsBracketList complemented parts rest
     → Stays Outside rest → Stays Opened (list_before complemented parts rest)
@@ -140,36 +113,27 @@ bracket_stays {text} {set} {rest} found stays =
 
 outside : (byte : ℕ) {text : List ℕ} → eqb byte 92 ≡ false → eqb byte 91 ≡ false → Stays Outside text
     → Stays Outside (byte ∷ text)
-outside byte {text} no_escape no_bracket stays =
-    ap (λ w. w ++ respelled_from (place_after Outside byte) text) (cond-false _ _ _ no_escape)
-    ∙ ap (λ place. byte ∷ respelled_from place text) (cond-false _ _ _ no_escape ∙ cond-false _ _ _ no_bracket)
-    ∙ ap (λ t. byte ∷ t) stays
+outside byte no_escape no_bracket stays = grind (arith, common_steps)
 
 -- a digit is none of these
 not_digit : (digit other : ℕ) → is_between 48 57 digit ≡ true → is_between 48 57 other ≡ false → eqb digit other ≡ false
-not_digit digit other is none = ne_eqb digit other (λ same. let e : is_between 48 57 digit ≡ is_between 48 57 other = ap (is_between 48 57) same in cc (e, is, none))
+not_digit digit other is none = ne_eqb digit other (λ same. let e = ap (is_between 48 57) same in cc (e, is, none))
 
 digits_stay : (digits : List ℕ) {text : List ℕ} → list_all (is_between 48 57) digits ≡ true → Stays Outside text
     → Stays Outside (digits ++ text)
 digits_stay [] all stays = stays
-digits_stay (digit ∷ digits) all stays =
-    let parts = and_parts (is_between 48 57 digit) (list_all (is_between 48 57) digits) all in
-    outside digit (not_digit digit 92 parts.0 refl) (not_digit digit 91 parts.0 refl) (digits_stay digits parts.1 stays)
+digits_stay (digit ∷ digits) all stays = grind (arith, common_steps, outside, not_digit, (digits_stay digits))
 
 bounds_stay : {inner text : List ℕ} {low : ℕ} {high : Option ℕ} → AreBounds inner low high → Stays Outside text
     → Stays Outside (inner ++ text)
-bounds_stay (exactly digits number n) stays = digits_stay digits n.are_digits stays
-bounds_stay {text} (at_least digits low n) stays =
-    subst (Stays Outside) (sym (append_assoc digits (44 ∷ []) text)) (digits_stay digits n.are_digits (outside 44 refl refl stays))
-bounds_stay {text} (between first second low high m n ordered) stays =
-    subst (Stays Outside) (sym (append_assoc first (44 ∷ second) text))
-    (digits_stay first m.are_digits (outside 44 refl refl (digits_stay second n.are_digits stays)))
+bounds_stay (exactly digits number n) stays = grind (arith, common_steps, digits_stay)
+bounds_stay (at_least digits low n) stays = grind (arith, common_steps, digits_stay, outside)
+bounds_stay (between first second low high m n ordered) stays = grind (arith, common_steps, digits_stay, outside)
 
 no_comma : (digits : List ℕ) {number : ℕ} (text : List ℕ) → IsNumber digits number
     → begins_with 44 (digits ++ text) ≡ false
 no_comma [] text n = absurd (n.some refl)
-no_comma (digit ∷ digits) text n =
-    not_digit digit 44 (and_parts (is_between 48 57 digit) (list_all (is_between 48 57) digits) n.are_digits).0 refl
+no_comma (digit ∷ digits) text n = grind (arith, common_steps, not_digit)
 
 bounds_begin : {inner : List ℕ} (text : List ℕ) {low : ℕ} {high : Option ℕ} → AreBounds inner low high
     → begins_with 44 (inner ++ text) ≡ false
@@ -184,56 +148,35 @@ interval_stays : {text rest : List ℕ} {token : Token} → IsInterval text toke
 interval_stays {text} {rest} is stays =
     let all : Stays Outside text = subst (Stays Outside) (sym is.whole) (bounds_stay is.bounds (ap (λ t. 92 ∷ 125 ∷ t) stays)) in
     let begins : begins_with 44 text ≡ false = ap (begins_with 44) is.whole ∙ bounds_begin (92 ∷ 125 ∷ rest) is.bounds in
-    ap (λ w. w ++ respelled_from Outside text) (cond-false _ _ _ (and_left _ _ begins)) ∙ ap (λ t. 92 ∷ 123 ∷ t) all
+    grind (arith, common_steps)
 
 -- a token that no bracket expression and no backslash begins
 one_byte : (context : Context) (byte : ℕ) (text : List ℕ) {token : Token} {rest : List ℕ} → eqb byte 92 ≡ false
     → plain_at context byte text ≡ Some (token, rest) → text ≡ rest
 one_byte context byte text other is = grind (arith, common_steps, same_Some)
 
-kept : (byte : ℕ) (text : List ℕ) → is_special byte ≡ true → escape_of (byte ∷ text) ≡ 92 ∷ byte ∷ []
-kept byte text is = grind (arith, common_steps)
+-- a `\` and a byte but `{` that make a token
+kept : (context : Context) (byte : ℕ) (text : List ℕ) {token : Token} {rest : List ℕ} → eqb byte 123 ≡ false
+    → escaped_at context (byte ∷ text) ≡ Some (token, rest) → escape_of (byte ∷ text) ≡ 92 ∷ byte ∷ []
+kept context byte text other is = grind (arith, common_steps)
 
-special_stays : (byte : ℕ) (text : List ℕ) → is_special byte ≡ true → Stays Outside text → Stays Outside (92 ∷ byte ∷ text)
-special_stays byte text is stays = ap (λ w. w ++ respelled_from Outside text) (kept byte text is) ∙ ap (λ t. 92 ∷ byte ∷ t) stays
+goes_on : (context : Context) (byte : ℕ) (text : List ℕ) {token : Token} {rest : List ℕ} → eqb byte 123 ≡ false
+    → escaped_at context (byte ∷ text) ≡ Some (token, rest) → text ≡ rest
+goes_on context byte text other is = grind (arith, common_steps, same_Some)
 
-same_rest : {one other : Token} {text rest : List ℕ}
-    → ◌≡◌ {A = Option (Token × List ℕ)} (Some (one, text)) (Some (other, rest)) → rest ≡ text
-same_rest same = ap (λ p. p.1) (sym (same_Some _ _ same))
-
-at_byte : (wanted : ℕ) {byte : ℕ} {text : List ℕ} → eqb byte wanted ≡ true → Stays Outside (92 ∷ wanted ∷ text)
-    → Stays Outside (92 ∷ byte ∷ text)
-at_byte wanted {byte} {text} is stays = subst (λ b. Stays Outside (92 ∷ b ∷ text)) (sym (eqb-true byte wanted is)) stays
-
--- after a `\`: `(`, `)`, an interval, or a special byte
 escape_stays : (context : Context) (text : List ℕ) {token : Token} {rest : List ℕ}
     → escaped_at context text ≡ Some (token, rest) → Stays Outside rest → Stays Outside (92 ∷ text)
 escape_stays context [] is stays = absurd (none-some _ is)
-escape_stays context (byte ∷ text) {token} {rest} is stays = begins (cases_Bool (eqb byte 40))
+escape_stays context (byte ∷ text) {token} {rest} is stays = by_brace (cases_Bool (eqb byte 123))
   where
-    other : eqb byte 40 ≡ false → eqb byte 41 ≡ false → eqb byte 123 ≡ false
-        → (is_special byte ≡ true) ⊎ (is_special byte ≡ false) → Stays Outside (92 ∷ byte ∷ text)
-    other e f g (inl special) =
-        special_stays byte text special (subst (Stays Outside) (same_rest (sym (cond-false _ _ _ e ∙ cond-false _ _ _ f ∙ cond-false _ _ _ g ∙ cond-true _ _ _ special) ∙ is)) stays)
-    other e f g (inr none) =
-        absurd (none-some _ (sym (cond-false _ _ _ e ∙ cond-false _ _ _ f ∙ cond-false _ _ _ g ∙ cond-false _ _ _ none) ∙ is))
-
-    repeats : eqb byte 40 ≡ false → eqb byte 41 ≡ false → (eqb byte 123 ≡ true) ⊎ (eqb byte 123 ≡ false)
-        → Stays Outside (92 ∷ byte ∷ text)
-    repeats e f (inl brace) =
-        let at : escaped_at context (123 ∷ text) ≡ Some (token, rest) = subst (λ b. escaped_at context (b ∷ text) ≡ Some (token, rest)) (eqb-true byte 123 brace) is in
-        at_byte 123 brace (interval_stays ((interval_read context text rest token).0 at).1 stays)
-    repeats e f (inr none) = other e f none (cases_Bool (is_special byte))
-
-    closes : eqb byte 40 ≡ false → (eqb byte 41 ≡ true) ⊎ (eqb byte 41 ≡ false) → Stays Outside (92 ∷ byte ∷ text)
-    closes e (inl close) =
-        at_byte 41 close (ap (λ t. 92 ∷ 41 ∷ t) (subst (Stays Outside) (same_rest (sym (cond-false _ _ _ e ∙ cond-true _ _ _ close) ∙ is)) stays))
-    closes e (inr none) = repeats e none (cases_Bool (eqb byte 123))
-
-    begins : (eqb byte 40 ≡ true) ⊎ (eqb byte 40 ≡ false) → Stays Outside (92 ∷ byte ∷ text)
-    begins (inl is_open) =
-        at_byte 40 is_open (ap (λ t. 92 ∷ 40 ∷ t) (subst (Stays Outside) (same_rest (sym (cond-true _ _ _ is_open) ∙ is)) stays))
-    begins (inr none) = closes none (cases_Bool (eqb byte 41))
+    by_brace : (eqb byte 123 ≡ true) ⊎ (eqb byte 123 ≡ false) → Stays Outside (92 ∷ byte ∷ text)
+    by_brace (inl brace) =
+        let same = eqb-true byte 123 brace in
+        let at : escaped_at context (123 ∷ text) ≡ Some (token, rest) = subst (λ b. escaped_at context (b ∷ text) ≡ Some (token, rest)) same is in
+        subst (λ b. Stays Outside (92 ∷ b ∷ text)) (sym same) (interval_stays ((interval_read context text rest token).0 at).1 stays)
+    by_brace (inr other) =
+        ap (λ w. w ++ respelled_from Outside text) (kept context byte text other is)
+        ∙ ap (λ t. 92 ∷ byte ∷ t) (subst (Stays Outside) (sym (goes_on context byte text other is)) stays)
 
 token_stays : (context : Context) (text : List ℕ) (token : Token) {rest : List ℕ}
     → BeginsWithToken context text token rest → Stays Outside rest → Stays Outside text

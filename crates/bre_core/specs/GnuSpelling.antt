@@ -1,6 +1,6 @@
 -- Patterns in GNU's spelling (GNU's manual of grep, Regular Expressions), and the text that POSIX has for them. What
--- stands in a bracket expression stays as it is. The bytes that have a meaning: 44 `,`, 46 `.`, 58 `:`, 61 `=`, 91 `[`,
--- 92 `\`, 93 `]`, 94 `^`, 123 `{`.
+-- stands in a bracket expression stays as it is. The bytes that have a meaning: 43 `+`, 44 `,`, 46 `.`, 58 `:`, 61 `=`,
+-- 63 `?`, 83 `S`, 87 `W`, 91 `[`, 92 `\`, 93 `]`, 94 `^`, 115 `s`, 119 `w`, 123 `{`.
 use Rattle.std.specs.{
   Prelude.{ℕ, suc, ◌-◌, Bool, ◌==◌, ◌&&◌, ◌||◌, not, nat_lt, List, [], ◌∷◌, ◌++◌, drop, length, codes, if◌then◌else◌},
   List.list_any,
@@ -11,6 +11,8 @@ use Rattle.bre_core.specs.{
   Class.is_alnum,
   Interval.begins_with_digit,
 }
+
+-- Where a byte stands, by the bytes before it: what the places are, the code's type says.
 
 -- the place after a byte that is a member or begins one
 abbrev pub after_member : ℕ → Place
@@ -40,7 +42,8 @@ place_after (Marked mark) byte = if byte == 93 then Inside else after_named mark
 abbrev pub is_itself : ℕ → Bool
 is_itself byte = not (is_alnum byte || list_any (λ other. other == byte) (codes ".[\\*^$<>`'|+?(){}"))
 
--- what is written for a `\` and the byte after it, from that byte on
+-- What is written for a `\` before this text, and for the byte after it. What has no other spelling stays, and where it
+-- is no pattern of POSIX's it is refused.
 abbrev pub escape_of : List ℕ → List ℕ
 escape_of [] = codes "\\"
 escape_of (byte ∷ text) =
@@ -53,7 +56,7 @@ escape_of (byte ∷ text) =
     (if byte == 123 && begins_with 44 text && begins_with_digit (drop 1 text) then codes "\\{0" else
     (if is_itself byte then byte ∷ [] else 92 ∷ byte ∷ [])))))))
 
--- what is written for the byte at a text's front: a byte after a `\` is written with that
+-- what is written for the byte at a text's front; a byte after a `\` has been written with that
 abbrev pub written_for : Place → List ℕ → List ℕ
 written_for place [] = []
 written_for Outside (byte ∷ text) = if byte == 92 then escape_of text else byte ∷ []
@@ -69,7 +72,7 @@ abbrev pub respelled : List ℕ → List ℕ
 respelled [] = codes "\\(\\)"
 respelled (byte ∷ text) = respelled_from Outside (byte ∷ text)
 
--- how many bytes of the text stand before the one for which the byte at an offset is written
+-- how many bytes of the text stand before the one for which the byte at this offset was written
 abbrev pub typed_from : Place → List ℕ → (offset : ℕ) → ℕ
 typed_from place [] offset = 0
 typed_from place (byte ∷ text) offset =
