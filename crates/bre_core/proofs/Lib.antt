@@ -1,5 +1,6 @@
 pub mod Chains
 pub mod Existence
+pub mod GnuSpelling
 pub mod Searching
 pub mod Spelled
 pub mod Tokens

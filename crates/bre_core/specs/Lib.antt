@@ -4,6 +4,7 @@ pub mod Class
 pub mod Code
 pub mod Fault
 pub mod Flat
+pub mod GnuSpelling
 pub mod Interval
 pub mod Match
 pub mod Pattern

@@ -3,12 +3,13 @@ use Rattle.std.proofs.{
   Common.{◌≡◌, ℕ, suc, ◌+◌, ◌-◌, take, drop, add-one, ◌<◌, ◌&&◌, Bool, true, false, not, cond, List, [], ◌∷◌, ◌++◌},
   Common.{Option, Some, None, refl, sym, ◌∙◌, ap, arith, rules, ◌≤◌, subst, Result, Ok, Err, zero, inl, inr},
   Common.{append_assoc, append-nil, eq-eqb, ne_eqb, lt-ltb, le-ltb, ◌==◌, ◌≢◌, option_map, length, IfSome, IsErrAnd},
+  Common.{IfOk, IfErr, IsErrOf},
   lemmas.{List.take_rest, Result.err_from_is_err_and},
 }
 use Rattle.operand_core.specs.{
   Operand.{Offset, Target, Number, Search, Times},
   Word.{is_escape, closing, before_brace, closed_at, searched, offset_of, number, spelling},
-  inner.{Seen.seen, Aiming.{IsAimed, is_target, is_wrong, is_refused, no_memory}},
+  inner.{Seen.seen, Aiming.{IsAimed, IsReadAs, is_target, is_wrong, is_refused, no_memory}},
   Reading.{line, match, Aimed, aims, fails, aim_of, IsPattern},
   Aiming.refusal_of,
   declared.{word.Word.Word, operand_fault.OperandFaultKind.OperandFaultKind},
@@ -16,6 +17,7 @@ use Rattle.operand_core.specs.{
 use Rattle.bre_core.specs.{
   Pattern.{Pattern, Reads, depth_of, positions_of, nothing, append, Item, set, front, end, group, repeat, written},
   Pattern.{written_item, depth_after, depth_of_item},
+  Fault.number_of,
   Refusal.{IsOfText, IsTooLarge},
   declared.{
     fault.BreFault.{BreFault, TheVariants.{TooLarge, Memory}},
@@ -23,6 +25,7 @@ use Rattle.bre_core.specs.{
   },
   Token.ReadsToken,
 }
+use Rattle.ports_core.specs.declared.calling.Calling.{Calling}
 use Rattle.bre_core.proofs.{Chains.left_of_way, Existence.one_tree_alone, Tokens.{tokens_decided, end_stuck}}
 use Rattle.operand_core.specs.declared.word.Word.TheVariants as word_is
 use Rattle.operand_core.specs.declared.operand_fault.OperandFaultKind.TheVariants as kind
@@ -74,11 +77,11 @@ search_closed delimiter text {place} is at read then =
 
 -- What a word aims at.
 
-pub below_last : (least n : ℕ) → n < least → IsAimed (aim_of least (number n)) (Err kind.LineOrder)
-below_last least n less = is_wrong kind.LineOrder (ap (λ b. cond b (fails kind.LineOrder) (aims (line n))) (lt-ltb n least less))
+pub below_last : (calling : Calling) (least n : ℕ) → n < least → IsAimed (aim_of calling least (number n)) (Err kind.LineOrder)
+below_last calling least n less = is_wrong kind.LineOrder (ap (λ b. cond b (fails kind.LineOrder) (aims (line n))) (lt-ltb n least less))
 
-pub not_below : (least n : ℕ) → least ≤ n → IsAimed (aim_of least (number n)) (Ok (Number n))
-not_below least n more = is_target (line n) (Number n) (ap (λ b. cond b (fails kind.LineOrder) (aims (line n))) (le-ltb n least more)) refl
+pub not_below : (calling : Calling) (least n : ℕ) → least ≤ n → IsAimed (aim_of calling least (number n)) (Ok (Number n))
+not_below calling least n more = is_target (line n) (Number n) (ap (λ b. cond b (fails kind.LineOrder) (aims (line n))) (le-ltb n least more)) refl
 
 -- how a `?` ends
 
@@ -90,31 +93,47 @@ pub goes_wrong : (aimed : Aimed) (what : OperandFaultKind) (result : Result Targ
     → aimed ≡ fails what → IsErrAnd result (λ e. e ≡ what) → IsAimed aimed result
 goes_wrong aimed what result is ends = let at = err_from_is_err_and result ends in subst (IsAimed aimed) (sym (at.1 ∙ ap Err at.2)) (is_wrong what is)
 
-refused_so : {kept : Bool} {text : List ℕ} {offset : Offset} (fault : BreFault)
-    → (IsOfText fault → (pattern : Pattern) → Reads text pattern → ⊥) → (fault ≡ TooLarge → IsTooLarge text)
+pub posix_read : {text : List ℕ} (result : Result Pattern BreFault) → IfOk result (Reads text)
+    → IfOk result (λ pattern. depth_of pattern ≤ 255) → IfOk result (λ pattern. positions_of pattern ≤ 65535)
+    → IfErr result (λ fault. IsOfText fault → (pattern : Pattern) → Reads text pattern → ⊥)
+    → (IsErrOf result TooLarge → IsTooLarge text) → IsReadAs text result
+posix_read (Ok pattern) reads groups size none large = record { reads = reads; groups = groups; size = size }
+posix_read (Err TooLarge) reads groups size none large = large refl
+posix_read (Err Memory) reads groups size none large = tt
+posix_read (Err fault) reads groups size none large = none tt
+
+-- another place in the text, for the same reason
+pub read_elsewhere : (text : List ℕ) (fault other : BreFault) → number_of other ≡ number_of fault
+    → IsReadAs text (Err fault) → IsReadAs text (Err other)
+read_elsewhere text TooLarge TooLarge same is = is
+read_elsewhere text fault Memory same is = tt
+read_elsewhere text TooLarge other same is = absurd (omega arith)
+read_elsewhere text Memory other same is = absurd (omega arith)
+read_elsewhere text fault TooLarge same is = absurd (omega arith)
+read_elsewhere text fault other same is = is
+
+refused_so : {kept : Bool} {text : List ℕ} {offset : Offset} (fault : BreFault) → IsReadAs text (Err fault)
     → IsAimed (aims (match kept text offset)) (Err (refusal_of fault))
-refused_so {kept} {text} {offset} TooLarge none large = is_refused (match kept text offset) TooLarge refl (large refl)
-refused_so Memory none large = no_memory
-refused_so {kept} {text} {offset} fault none large = is_refused (match kept text offset) fault refl (none tt)
+refused_so {kept} {text} {offset} TooLarge is = is_refused (match kept text offset) TooLarge refl is
+refused_so Memory is = no_memory
+refused_so {kept} {text} {offset} fault is = is_refused (match kept text offset) fault refl is
 
-pub is_refused_so : (kept : Bool) (text plain : List ℕ) (offset : Offset) (fault : BreFault)
-    (result : Result Target OperandFaultKind) → plain ≡ text
-    → (IsOfText fault → (pattern : Pattern) → Reads plain pattern → ⊥) → (fault ≡ TooLarge → IsTooLarge plain)
-    → IsErrAnd result (λ e. e ≡ refusal_of fault)
+pub is_refused_so : {kept : Bool} {text : List ℕ} {offset : Offset} (fault : BreFault)
+    (result : Result Target OperandFaultKind) → IsReadAs text (Err fault) → IsErrAnd result (λ e. e ≡ refusal_of fault)
     → IsAimed (aims (match kept text offset)) result
-is_refused_so kept text plain offset fault result is none large ends =
+is_refused_so {kept} {text} {offset} fault result is ends =
     let at = err_from_is_err_and result ends in
-    subst (λ those. IsAimed (aims (match kept those offset)) result) is (subst (IsAimed (aims (match kept plain offset))) (sym (at.1 ∙ ap Err at.2)) (refused_so fault none large))
+    subst (IsAimed (aims (match kept text offset))) (sym (at.1 ∙ ap Err at.2)) (refused_so fault is)
 
-pub is_read : (kept : Bool) (text plain : List ℕ) (offset : Offset) (pattern : Pattern) → plain ≡ text
-    → Reads plain pattern → depth_of pattern ≤ 255 → positions_of pattern ≤ 65535
+pub is_read : (kept : Bool) (text : List ℕ) (offset : Offset) (pattern : Pattern) → IsReadAs text (Ok pattern)
     → IsAimed (aims (match kept text offset)) (Ok (Search pattern kept offset))
-is_read kept text plain offset pattern is reads groups size =
-    is_target (match kept text offset) (Search pattern kept offset) refl (record { reads = subst (λ those. Reads those pattern) is reads; groups = groups; size = size }, refl, refl)
+is_read kept text offset pattern is = is_target (match kept text offset) (Search pattern kept offset) refl (is, refl, refl)
 
-pub no_target : (least : ℕ) (word : Word) (text : List ℕ) (times : Times) → seen word ≡ spelling text
-    → word ≡ word_is.Again times → IsAimed (aim_of least (spelling text)) (Err kind.RepeatFirst)
-no_target least word text times is at = is_wrong kind.RepeatFirst (ap (aim_of least) (sym is ∙ ap seen at))
+pub no_target : (calling : Calling) (least : ℕ) (word : Word) (text : List ℕ) (times : Times)
+    → seen word ≡ spelling text → word ≡ word_is.Again times
+    → IsAimed (aim_of calling least (spelling text)) (Err kind.RepeatFirst)
+no_target calling least word text times is at =
+    is_wrong kind.RepeatFirst (ap (aim_of calling least) (sym is ∙ ap seen at))
 
 -- A pattern that is too large is none that is read: no more groups are open after any of its first tokens than its tree has
 -- within one another.

@@ -17,6 +17,7 @@ use Rattle.operand_core.specs.{
   declared.operand_fault.{OperandFaultKind.OperandFaultKind, OperandFault.OperandFault},
 }
 use Rattle.operand_core.proofs.AimLemmas.{read_or_too_large}
+use Rattle.ports_core.specs.declared.calling.Calling.{Calling}
 use Rattle.bre_core.{
   specs.declared.fault.BreFault.{BreFault, TheVariants.{TooLarge, Memory}},
   proofs.Existence.one_tree_alone,
@@ -31,19 +32,19 @@ abbrev pub after_front : List Spelled → Words → Words
 after_front front words = record { operands = front ++ words.operands; fault = words.fault }
 
 -- a step over an operand and the words that say how often it is performed again
-pub step_over : (index least : ℕ) (word : List ℕ) {words : List (List ℕ)} {aim : Aim} {times : Times} {said : ℕ}
-    → aim_of least (spelling word) ≡ aims aim → SayTimes words times said
-    → words_from index least (word ∷ words)
-    ≡ with_operand index aim times (words_from (index + (1 + said)) (least_after least aim) (drop said words))
-step_over index least word is no_word = cc
-step_over index least word is (again next rest times' says) = cc
-step_over index least word is (other next rest says) = cc
+pub step_over : (calling : Calling) (index least : ℕ) (word : List ℕ) {words : List (List ℕ)} {aim : Aim} {times : Times} {said : ℕ}
+    → aim_of calling least (spelling word) ≡ aims aim → SayTimes words times said
+    → words_from calling index least (word ∷ words)
+    ≡ with_operand index aim times (words_from calling (index + (1 + said)) (least_after least aim) (drop said words))
+step_over calling index least word is no_word = cc
+step_over calling index least word is (again next rest times' says) = cc
+step_over calling index least word is (other next rest says) = cc
 
 -- a word that is wrong ends the list
-pub stop_at : {index : ℕ} (least : ℕ) (word : List ℕ) (words : List (List ℕ)) {what : OperandFaultKind}
-    → aim_of least (spelling word) ≡ fails what → words_from index least (word ∷ words) ≡ failed what index
-stop_at least word [] is = cc
-stop_at least word (next ∷ words) is = cc
+pub stop_at : (calling : Calling) {index : ℕ} (least : ℕ) (word : List ℕ) (words : List (List ℕ)) {what : OperandFaultKind}
+    → aim_of calling least (spelling word) ≡ fails what → words_from calling index least (word ∷ words) ≡ failed what index
+stop_at calling least word [] is = cc
+stop_at calling least word (next ∷ words) is = cc
 
 -- the words as texts
 abbrev pub texts : List (Bor (List ℕ)) → List (List ℕ)
@@ -66,12 +67,12 @@ first_is_other [] default some is reads at = search rules
 first_is_other (word ∷ words) default some is reads at = other word.now (texts words) (sym (ap (λ those. times_by (spelling those)) is) ∙ sym reads ∙ at)
 
 -- Some words were read, and these are left.
-pub record Reads (words : List (Bor (List ℕ))) (read : List Operand) (least : ℕ) (left : List (Bor (List ℕ)))
+pub record Reads (calling : Calling) (words : List (Bor (List ℕ))) (read : List Operand) (least : ℕ) (left : List (Bor (List ℕ)))
     : Type 0 where
   pub front : List Spelled
   pub are : AreRead front read
   pub within : length left ≤ length words
-  pub asks : words_of (texts words) ≡ after_front front (words_from (length words - length left) least (texts left))
+  pub asks : words_of calling (texts words) ≡ after_front front (words_from calling (length words - length left) least (texts left))
 
 -- what a word that is no operand makes of the list
 
@@ -88,31 +89,31 @@ says : (words : List (List ℕ)) → (times : Times) × (said : ℕ) × SayTimes
 says [] = (Count 0, 0, no_word)
 says (next ∷ words) = says_by (times_by (spelling next)) refl
 
-ends_by : (words : List (List ℕ)) (read : List Operand) (front : List Spelled) (index least : ℕ) (word : List ℕ)
+ends_by : (calling : Calling) (words : List (List ℕ)) (read : List Operand) (front : List Spelled) (index least : ℕ) (word : List ℕ)
     (left : List (List ℕ)) (what : OperandFaultKind)
-    → AreRead front read → words_of words ≡ after_front front (words_from index least (word ∷ left))
-    → IsAimed (aim_of least (spelling word)) (Err what) → IsFault words (record { kind = what; index = index })
-ends_by words read front index least word left what are asks (is_wrong what' is) =
-    let at : words_of words ≡ after_front front (failed what index) = asks ∙ ap (after_front front) (stop_at least word left is) in
+    → AreRead front read → words_of calling words ≡ after_front front (words_from calling index least (word ∷ left))
+    → IsAimed (aim_of calling least (spelling word)) (Err what) → IsFault calling words (record { kind = what; index = index })
+ends_by calling words read front index least word left what are asks (is_wrong what' is) =
+    let at : words_of calling words ≡ after_front front (failed what index) = asks ∙ ap (after_front front) (stop_at calling least word left is) in
     reading.is_wrong (record { kind = what; index = index }) read (ap (λ (w : Words). w.fault) at) (subst (λ those. AreRead those read) (sym (ap (λ (w : Words). w.operands) at ∙ append-nil front)) are)
-ends_by words read front index least word left what are asks (is_refused aim fault is refused) =
+ends_by calling words read front index least word left what are asks (is_refused aim fault is refused) =
     let said = says left in
     reading.is_refused fault front (spelled_as index aim said.0) _ read
-    (ap (λ (w : Words). w.operands) (asks ∙ ap (after_front front) (step_over index least word is said.2))) are refused
-ends_by words read front index least word left what are asks no_memory = reading.no_memory index
+    (ap (λ (w : Words). w.operands) (asks ∙ ap (after_front front) (step_over calling index least word is said.2))) are refused
+ends_by calling words read front index least word left what are asks no_memory = reading.no_memory index
 
-pub ends_at : {words : List (Bor (List ℕ))} {read : List Operand} {least : ℕ} (left : List (Bor (List ℕ)))
+pub ends_at : {calling : Calling} {words : List (Bor (List ℕ))} {read : List Operand} {least : ℕ} (left : List (Bor (List ℕ)))
     {text : List ℕ} (default : Bor (List ℕ)) {result : Result Target OperandFaultKind} {what : OperandFaultKind}
-    → Reads words read least left → 1 ≤ length left → text ≡ (get_or left 0 default).now
-    → IsAimed (aim_of least (spelling text)) result → result ≡ Err what
-    → IsFault (texts words) (record { kind = what; index = length words - length left })
+    → Reads calling words read least left → 1 ≤ length left → text ≡ (get_or left 0 default).now
+    → IsAimed (aim_of calling least (spelling text)) result → result ≡ Err what
+    → IsFault calling (texts words) (record { kind = what; index = length words - length left })
 ends_at [] default reads some is aimed at = search rules
-ends_at {words} {read} {least} (word ∷ left) default {result} {what} reads some is aimed at = grind (arith, common_steps, ends_by)
+ends_at {calling} {words} {read} {least} (word ∷ left) default {result} {what} reads some is aimed at = grind (arith, common_steps, ends_by)
 
-pub no_operand : (words : List (Bor (List ℕ))) → (length words == 0) ≡ true
-    → IsFault (texts words) (record { kind = kind.Missing; index = 0 })
-no_operand [] none = reading.is_wrong (record { kind = kind.Missing; index = 0 }) [] refl tt
-no_operand (word ∷ words) none = grind (arith, common_steps)
+pub no_operand : (calling : Calling) (words : List (Bor (List ℕ))) → (length words == 0) ≡ true
+    → IsFault calling (texts words) (record { kind = kind.Missing; index = 0 })
+no_operand calling [] none = reading.is_wrong (record { kind = kind.Missing; index = 0 }) [] refl tt
+no_operand calling (word ∷ words) none = grind (arith, common_steps)
 
 are_more : (front : List Spelled) (read : List Operand) {spelled : Spelled} {operand : Operand} → AreRead front read
     → IsRead spelled operand → AreRead (front ++ spelled ∷ []) (read ++ operand ∷ [])
@@ -126,32 +127,32 @@ least_same least (line n) (Number m) is = sym is
 least_same least (match kept text offset) (Search pattern kept' offset') is = refl
 least_same least aim target is = absurd is
 
-next_by : (words : List (List ℕ)) (read : List Operand) (front : List Spelled) (index least : ℕ) (word : List ℕ)
+next_by : (calling : Calling) (words : List (List ℕ)) (read : List Operand) (front : List Spelled) (index least : ℕ) (word : List ℕ)
     {left : List (List ℕ)} {target : Target} {times : Times} {said : ℕ}
-    → AreRead front read → words_of words ≡ after_front front (words_from index least (word ∷ left))
-    → IsAimed (aim_of least (spelling word)) (Ok target) → SayTimes left times said
+    → AreRead front read → words_of calling words ≡ after_front front (words_from calling index least (word ∷ left))
+    → IsAimed (aim_of calling least (spelling word)) (Ok target) → SayTimes left times said
     → (front' : List Spelled) × AreRead front' (read ++ record { index = index; target = target; times = times } ∷ [])
-    × (words_of words ≡ after_front front' (words_from (index + (1 + said)) (least_by least target) (drop said left)))
-next_by words read front index least word {left} {target} {times} {said} are asks (is_target aim target' is hits) says = (
+    × (words_of calling words ≡ after_front front' (words_from calling (index + (1 + said)) (least_by least target) (drop said left)))
+next_by calling words read front index least word {left} {target} {times} {said} are asks (is_target aim target' is hits) says = (
   front ++ spelled_as index aim times ∷ [],
   are_more front read are (record { index = refl; target = hits; times = refl }),
-  asks ∙ ap (after_front front) (step_over index least word is says)
-      ∙ ap (λ those. record { operands = those; fault = (words_from (index + (1 + said)) (least_after least aim) (drop said left)).fault })
-      (sym (append_assoc front (spelled_as index aim times ∷ []) (words_from (index + (1 + said)) (least_after least aim) (drop said left)).operands))
-      ∙ ap (λ n. after_front (front ++ spelled_as index aim times ∷ []) (words_from (index + (1 + said)) n (drop said left))) (least_same least aim target hits),
+  asks ∙ ap (after_front front) (step_over calling index least word is says)
+      ∙ ap (λ those. record { operands = those; fault = (words_from calling (index + (1 + said)) (least_after least aim) (drop said left)).fault })
+      (sym (append_assoc front (spelled_as index aim times ∷ []) (words_from calling (index + (1 + said)) (least_after least aim) (drop said left)).operands))
+      ∙ ap (λ n. after_front (front ++ spelled_as index aim times ∷ []) (words_from calling (index + (1 + said)) n (drop said left))) (least_same least aim target hits),
 )
 
-pub reads_next : {words : List (Bor (List ℕ))} {read : List Operand} {least : ℕ} (left : List (Bor (List ℕ)))
+pub reads_next : {calling : Calling} {words : List (Bor (List ℕ))} {read : List Operand} {least : ℕ} (left : List (Bor (List ℕ)))
     {text : List ℕ} (default : Bor (List ℕ)) {result : Result Target OperandFaultKind} {target : Target}
     {rest : List (Bor (List ℕ))} {times : Times} {said : ℕ} {now : List Operand} {after : List (Bor (List ℕ))}
     {least' : ℕ}
-    → Reads words read least left → 1 ≤ length left → text ≡ (get_or left 0 default).now
-    → IsAimed (aim_of least (spelling text)) result → result ≡ Ok target
+    → Reads calling words read least left → 1 ≤ length left → text ≡ (get_or left 0 default).now
+    → IsAimed (aim_of calling least (spelling text)) result → result ≡ Ok target
     → rest ≡ drop 1 left → SayTimes (texts rest) times said → said ≤ length rest
     → now ≡ read ++ record { index = length words - length left; target = target; times = times } ∷ []
-    → after ≡ drop said rest → least' ≡ least_by least target → Reads words now least' after
+    → after ≡ drop said rest → least' ≡ least_by least target → Reads calling words now least' after
 reads_next [] default reads some is aimed at rest_is says within now_is after_is least_is = search rules
-reads_next {words} {read} {least} (word ∷ left) default {result} {target} {times} {said} {after} {least'} reads some is aimed at rest_is says within now_is after_is least_is = grind (arith, common_steps, next_by, says, drop-map)
+reads_next {calling} {words} {read} {least} (word ∷ left) default {result} {target} {times} {said} {after} {least'} reads some is aimed at rest_is says within now_is after_is least_is = grind (arith, common_steps, (next_by calling), says, drop-map)
 
 -- Words are read in one way.
 
@@ -176,9 +177,9 @@ read_once [] (a ∷ one) another is are = absurd is
 read_once (first ∷ spelled) [] another is are = absurd is
 read_once spelled one another is are = absurd are
 
-pub asks_once : (words : List (List ℕ)) (one another : List Operand) → Asks words one → Asks words another
+pub asks_once : (calling : Calling) (words : List (List ℕ)) (one another : List Operand) → Asks calling words one → Asks calling words another
     → one ≡ another
-asks_once words one another is are = read_once (words_of words).operands one another is.read are.read
+asks_once calling words one another is are = read_once (words_of calling words).operands one another is.read are.read
 
 -- an operand that is read isn't refused
 
@@ -195,9 +196,9 @@ aim_not_both (match has text by) (Search pattern kept offset) TooLarge hits larg
 aim_not_both (match has text by) (Search pattern kept offset) Memory hits refused = refused
 aim_not_both (match has text by) (Search pattern kept offset) fault hits none = search rules
 
-pub reads_or_fails : (words : List (List ℕ)) (operands : List Operand) (fault : OperandFault) → Asks words operands
-    → IsFault words fault → IsOfWords fault.kind → ⊥
-reads_or_fails words operands fault asks (is_wrong another read at are) is = cc (asks.well, at)
-reads_or_fails words operands fault asks (is_refused another front refused rest read at are has) is =
+pub reads_or_fails : (calling : Calling) (words : List (List ℕ)) (operands : List Operand) (fault : OperandFault) → Asks calling words operands
+    → IsFault calling words fault → IsOfWords fault.kind → ⊥
+reads_or_fails calling words operands fault asks (is_wrong another read at are) is = cc (asks.well, at)
+reads_or_fails calling words operands fault asks (is_refused another front refused rest read at are has) is =
     let found = read_at front rest operands (subst (λ those. AreRead those operands) at asks.read) in aim_not_both refused.aim found.0.target another found.1.target has
-reads_or_fails words operands fault asks (no_memory index) is = is
+reads_or_fails calling words operands fault asks (no_memory index) is = is

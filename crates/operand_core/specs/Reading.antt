@@ -5,8 +5,10 @@ use Rattle.std.specs.{
 use Rattle.bre_core.specs.{
   Pattern.{Pattern, Reads, depth_of, positions_of},
   Refusal.IsTooLarge,
+  GnuSpelling.respelled,
   declared.fault.BreFault.{BreFault, TheVariants.{TooLarge, Memory}},
 }
+use Rattle.ports_core.specs.declared.calling.Calling.{Calling, TheVariants.{Cutters, OwnName}}
 use Rattle.operand_core.specs.{
   Operand.{Offset, Target, Number, Search, Times, Count, Operand},
   declared.operand_fault.{OperandFault.OperandFault, OperandFaultKind.OperandFaultKind},
@@ -29,13 +31,19 @@ pub data Aimed : Type 0 where
   aims : Aim → Aimed
   fails : OperandFaultKind → Aimed
 
+-- The text of a pattern as POSIX spells it. Where a tool is called by its own name, it may be in GNU's spelling.
+abbrev pub posix_text : Calling → List ℕ → List ℕ
+posix_text Cutters text = text
+posix_text OwnName text = respelled text
+
 -- What a word aims at that no repetition before it takes in. `least` is the nearest line number before it, 0 where
 -- there is none. Only a pattern between `/` and `/` is kept.
-abbrev pub aim_of : (least : ℕ) → Spelling → Aimed
-aim_of least (number n) = if nat_lt n least then fails kind.LineOrder else aims (line n)
-aim_of least (search delimiter text offset) = aims (match (delimiter == 47) (unescaped delimiter text) offset)
-aim_of least (again times) = fails kind.RepeatFirst
-aim_of least (wrong fault) = fails fault
+abbrev pub aim_of : Calling → (least : ℕ) → Spelling → Aimed
+aim_of calling least (number n) = if nat_lt n least then fails kind.LineOrder else aims (line n)
+aim_of calling least (search delimiter text offset) =
+    aims (match (delimiter == 47) (posix_text calling (unescaped delimiter text)) offset)
+aim_of calling least (again times) = fails kind.RepeatFirst
+aim_of calling least (wrong fault) = fails fault
 
 -- the nearest line number before what follows
 abbrev pub least_after : (least : ℕ) → Aim → ℕ
@@ -65,23 +73,23 @@ with_operand index aim times words = record {
 }
 
 -- What words ask for, of which the first has this index. A repetition belongs to the operand directly before it.
-abbrev pub words_from : (index least : ℕ) → List (List ℕ) → Words
-words_from index least [] = no_more
-words_from index least (word ∷ []) = elim (aim_of least (spelling word)) [
+abbrev pub words_from : Calling → (index least : ℕ) → List (List ℕ) → Words
+words_from calling index least [] = no_more
+words_from calling index least (word ∷ []) = elim (aim_of calling least (spelling word)) [
   | fails what ↦ failed what index
   | aims aim ↦ with_operand index aim (Count 0) no_more
 ]
-words_from index least (word ∷ next ∷ words) = elim (aim_of least (spelling word)) [
+words_from calling index least (word ∷ next ∷ words) = elim (aim_of calling least (spelling word)) [
   | fails what ↦ failed what index
   | aims aim ↦ elim (times_by (spelling next)) [
-    | Some times ↦ with_operand index aim times (words_from (index + 2) (least_after least aim) words)
-    | None ↦ with_operand index aim (Count 0) (words_from (index + 1) (least_after least aim) (next ∷ words))
+    | Some times ↦ with_operand index aim times (words_from calling (index + 2) (least_after least aim) words)
+    | None ↦ with_operand index aim (Count 0) (words_from calling (index + 1) (least_after least aim) (next ∷ words))
   ]
 ]
 
-abbrev pub words_of : List (List ℕ) → Words
-words_of [] = failed kind.Missing 0
-words_of (word ∷ words) = words_from 0 0 (word ∷ words)
+abbrev pub words_of : Calling → List (List ℕ) → Words
+words_of calling [] = failed kind.Missing 0
+words_of calling (word ∷ words) = words_from calling 0 0 (word ∷ words)
 
 -- The text is read as this pattern: it has this tree, with at most 255 groups open at once and at most 65,535
 -- positions.
@@ -114,9 +122,9 @@ AreRead (spelled ∷ more) (operand ∷ operands) = IsRead spelled operand × Ar
 AreRead spelled operands = ⊥
 
 -- the words ask for these operands
-pub record Asks (words : List (List ℕ)) (operands : List Operand) : Type 0 where
-  pub well : (words_of words).fault ≡ None
-  pub read : AreRead (words_of words).operands operands
+pub record Asks (calling : Calling) (words : List (List ℕ)) (operands : List Operand) : Type 0 where
+  pub well : (words_of calling words).fault ≡ None
+  pub read : AreRead (words_of calling words).operands operands
 
 abbrev pub HasRefused : Aim → BreFault → Type 0
 HasRefused (line n) fault = ⊥
@@ -124,13 +132,13 @@ HasRefused (match is_kept text offset) fault = IsRefused text fault
 
 -- The first fault of the words, in their order: a word is wrong and all patterns before it are read, or a pattern is
 -- refused and those before it are read. Want of memory may come at any word.
-pub data IsFault (words : List (List ℕ)) : OperandFault → Type 0 where
-  is_wrong : (fault : OperandFault) (read : List Operand) → (words_of words).fault ≡ Some fault
-      → AreRead (words_of words).operands read → IsFault words fault
+pub data IsFault (calling : Calling) (words : List (List ℕ)) : OperandFault → Type 0 where
+  is_wrong : (fault : OperandFault) (read : List Operand) → (words_of calling words).fault ≡ Some fault
+      → AreRead (words_of calling words).operands read → IsFault calling words fault
   is_refused : (fault : BreFault) (front : List Spelled) (refused : Spelled) (rest : List Spelled) (read : List Operand)
-      → (words_of words).operands ≡ front ++ refused ∷ rest → AreRead front read → HasRefused refused.aim fault
-      → IsFault words (record { kind = kind.Bre fault; index = refused.index })
-  no_memory : (index : ℕ) → IsFault words (record { kind = kind.Memory; index = index })
+      → (words_of calling words).operands ≡ front ++ refused ∷ rest → AreRead front read → HasRefused refused.aim fault
+      → IsFault calling words (record { kind = kind.Bre fault; index = refused.index })
+  no_memory : (index : ℕ) → IsFault calling words (record { kind = kind.Memory; index = index })
 
 -- the fault says what is wrong with a word; it is no want of memory
 abbrev pub IsOfWords : OperandFaultKind → Type 0

@@ -1,5 +1,6 @@
 //! A law of the definitions, with no code: it stands on the contract of a function whose body is empty.
 ghost use Rattle.std.specs.Prelude.{◌≡◌, List, ℕ};
+ghost use Rattle.ports_core.specs.declared.calling.Calling.{Calling};
 ghost use Rattle.operand_core.specs.{
   Reading.{Asks, IsFault, IsOfWords},
   declared.{operand_fault.OperandFault.OperandFault, operand.Operand.Operand},
@@ -7,8 +8,8 @@ ghost use Rattle.operand_core.specs.{
 
 /// Words ask for one list of operands at most, and for none where a word is no operand, or its pattern is none or too large.
 pub fn one_reading()
-    ensures only { (words : List (List ℕ)) (one other : List Operand) → Asks words one → Asks words other
-        → one ≡ other }
-    ensures either { (words : List (List ℕ)) (operands : List Operand) (fault : OperandFault) → Asks words operands
-        → IsFault words fault → IsOfWords fault.kind → ⊥ }
+    ensures only { (calling : Calling) (words : List (List ℕ)) (one other : List Operand) → Asks calling words one
+        → Asks calling words other → one ≡ other }
+    ensures either { (calling : Calling) (words : List (List ℕ)) (operands : List Operand) (fault : OperandFault)
+        → Asks calling words operands → IsFault calling words fault → IsOfWords fault.kind → ⊥ }
 {}

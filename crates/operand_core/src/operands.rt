@@ -9,6 +9,7 @@ ghost use Rattle.operand_core.specs.{
 use crate::target::read_target;
 use crate::word::{Word, read_word};
 use crate::{Operand, OperandFault, OperandFaultKind, Target, Times};
+use ports_core::Calling;
 use std::alloc::Global;
 use std::marker::Model;
 
@@ -39,8 +40,9 @@ impl Operands {
     }
 }
 
-/// Reads the words that are `csplit`'s operands after its file: line numbers, patterns and repetitions. It takes memory for
-/// each pattern, and a fixed amount for each operand.
+/// Reads the words that are `csplit`'s operands after its file: line numbers, patterns and repetitions. Where the tool was
+/// called by its own name, a pattern may be in GNU's spelling. It takes memory for each pattern, and a fixed amount for each
+/// operand.
 ///
 /// # Errors
 ///
@@ -48,9 +50,13 @@ impl Operands {
 /// comes before what is wrong with its place: `RepeatText` before `RepeatFirst`; `Unclosed`, then `Offset`, then `Bre`;
 /// `Number`, then `LineZero`, then `LineOrder`. `Missing` where there is no word, at index 0. `Memory` where there is no
 /// room, at any word.
-pub fn read_operands(alloc: Global, words: &[&str]) -> Result<Operands, OperandFault>
-    ensures ok { IfOk result (Asks (map (λ word. word.now) words.now)) }
-    ensures err { IfErr result (IsFault (map (λ word. word.now) words.now)) }
+pub fn read_operands(
+    alloc: Global,
+    calling: Calling,
+    words: &[&str],
+) -> Result<Operands, OperandFault>
+    ensures ok { IfOk result (Asks calling (map (λ word. word.now) words.now)) }
+    ensures err { IfErr result (IsFault calling (map (λ word. word.now) words.now)) }
 {
     if words.is_empty() {
         return Err(OperandFault {
@@ -63,7 +69,7 @@ pub fn read_operands(alloc: Global, words: &[&str]) -> Result<Operands, OperandF
     let mut left = words;
     while let [word, rest @ ..] = left {
         let index = words.len() - left.len();
-        let target = match read_target(alloc, least, word.as_bytes()) {
+        let target = match read_target(alloc, calling, least, word.as_bytes()) {
             Ok(target) => target,
             Err(kind) => return Err(OperandFault { kind, index }),
         };

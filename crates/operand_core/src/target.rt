@@ -1,14 +1,17 @@
 //! Where an operand cuts, from the word that says it.
 ghost use Rattle.std.specs.Prelude.{◌≡◌, ◌<◌, ◌++◌, IfOk, length};
+ghost use Rattle.ports_core.specs.declared.calling.Calling.{Calling};
 ghost use Rattle.operand_core.specs.{
-  inner.Aiming.IsAimed,
-  Reading.aim_of,
+  inner.Aiming.{IsAimed, IsReadAs},
+  Reading.{aim_of, posix_text},
   Word.{search, spelling, unescaped, number as line_number},
 };
 
 use crate::word::{Word, read_word};
 use crate::{Offset, OperandFaultKind, Target};
-use scan_core::Bre;
+use bre_core::respell;
+use ports_core::Calling;
+use scan_core::{Bre, BreFault};
 use std::alloc::{AllocError, Global};
 
 /// Reads where an operand cuts. `least` is the nearest line number before it, 0 where there is none. It takes memory for
@@ -17,8 +20,13 @@ use std::alloc::{AllocError, Global};
 /// # Errors
 ///
 /// All kinds but `Missing`.
-pub fn read_target(alloc: Global, least: u64, word: &[u8]) -> Result<Target, OperandFaultKind>
-    ensures { IsAimed (aim_of least (spelling word.now)) result }
+pub fn read_target(
+    alloc: Global,
+    calling: Calling,
+    least: u64,
+    word: &[u8],
+) -> Result<Target, OperandFaultKind>
+    ensures { IsAimed (aim_of calling least (spelling word.now)) result }
 {
     match read_word(word)? {
         Word::Number(number) => in_order(least, number),
@@ -26,14 +34,14 @@ pub fn read_target(alloc: Global, least: u64, word: &[u8]) -> Result<Target, Ope
             delimiter,
             text,
             offset,
-        } => read_pattern(alloc, delimiter, text, offset),
+        } => read_pattern(alloc, calling, delimiter, text, offset),
         Word::Again(_) => Err(OperandFaultKind::RepeatFirst),
     }
 }
 
 /// A line number, unless it is below the one before it.
 fn in_order(least: u64, number: u64) -> Result<Target, OperandFaultKind>
-    ensures { IsAimed (aim_of least (line_number number)) result }
+    ensures { (calling : Calling) → IsAimed (aim_of calling least (line_number number)) result }
 {
     if number < least {
         Err(OperandFaultKind::LineOrder)
@@ -45,20 +53,44 @@ fn in_order(least: u64, number: u64) -> Result<Target, OperandFaultKind>
 /// Reads a pattern from what stands between its delimiters.
 fn read_pattern(
     alloc: Global,
+    calling: Calling,
     delimiter: u8,
     text: &[u8],
     offset: Offset,
 ) -> Result<Target, OperandFaultKind>
-    ensures { IsAimed (aim_of 0 (search delimiter text.now offset)) result }
+    ensures { IsAimed (aim_of calling 0 (search delimiter text.now offset)) result }
 {
     let text = unescape(alloc, delimiter, text)?;
-    let pattern = Bre::read(alloc, &text)?;
+    let pattern = read_text(alloc, calling, &text)?;
     let is_kept = delimiter == b'/';
     Ok(Target::Search {
         pattern,
         is_kept,
         offset,
     })
+}
+
+/// Reads the text of a pattern. The place in a fault is one in this text, also where it is in GNU's spelling.
+fn read_text(alloc: Global, calling: Calling, text: &[u8]) -> Result<Bre, BreFault>
+    ensures { IsReadAs (posix_text calling text.now) result }
+{
+    match calling {
+        Calling::Cutters => read_posix(alloc, text),
+        Calling::OwnName => {
+            let posix = respell(alloc, text)?;
+            match read_posix(alloc, &posix) {
+                Ok(pattern) => Ok(pattern),
+                Err(fault) => Err(fault.as_typed(text)),
+            }
+        }
+    }
+}
+
+/// Reads the text of a pattern in POSIX's spelling.
+fn read_posix(alloc: Global, text: &[u8]) -> Result<Bre, BreFault>
+    ensures { IsReadAs text.now result }
+{
+    Bre::read(alloc, text)
 }
 
 /// The text of a pattern, in which a backslash and the delimiter have become the delimiter.

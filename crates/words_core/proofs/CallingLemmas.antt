@@ -4,6 +4,7 @@ use Rattle.std.proofs.{
   Common.{Option, Some, None, Result, Ok, Err, option_map},
   Math.Bool.and-false,
 }
+use Rattle.operand_core.specs.Style.{Style}
 use Rattle.ports_core.specs.declared.{
   calling.Calling.TheVariants.{Cutters, OwnName},
   fault.Fault.Fault,
@@ -12,18 +13,20 @@ use Rattle.ports_core.specs.declared.{
 use Rattle.words_core.specs.{
   declared.{
     choice.{Choice.Choice, Kind.Kind},
+    settings.{Settings.TheVariants.Csplit, Topic.Topic},
     spelled.Chosen.Chosen,
     spelling.State.TheVariants.First,
     table.Letters.{Letters, TheVariants.{Never, OfHead}},
   },
-  Given.{Given, asked_by, one_operand, texts_of},
-  Laws.{has, say_nothing, says_on_broken},
+  CsplitWords.{asked_of, style_of},
+  Given.{Given, GivenOperand, asked_by, one_operand, texts_of},
+  Laws.{by_own_name, has, say_nothing, says_on_broken},
   Lettered.is_start,
   Spelling.{foremost, mixed, onward, reading, spelled},
   Table.{OptionRow, ToolRow},
   TeeWords.{TeeAsked, fresh, tee_asked, tee_by},
   Value.then_check,
-  Words.{settings_for, tool_settings},
+  Words.{about_or, settings_for, tool_settings, topic_in},
 }
 use Rattle.ports_core.specs.declared.tool.Tool.TheVariants as tool
 use Rattle.words_core.specs.declared.choice.Choice.TheVariants as choice
@@ -111,3 +114,18 @@ same_tee (Ok given) is = rw (said given (says_so (has says_on_broken given.optio
   says_so true is = refl
   says_so false is = absurd (cc)
 same_tee (Err fault) is = refl
+
+-- `csplit` asks for the same, but for how it is called
+
+own_topic : (topic : Option Topic) (style : Style) (operands : List GivenOperand)
+    → about_or tool.Csplit topic (then_check (asked_of OwnName style operands) (λ asked. Ok (Csplit asked)))
+    ≡ by_own_name (about_or tool.Csplit topic (then_check (asked_of Cutters style operands) (λ asked. Ok (Csplit asked))))
+own_topic (Some topic) style operands = refl
+own_topic None style [] = refl
+own_topic None style (file ∷ []) = refl
+own_topic None style (file ∷ operand ∷ operands) = refl
+
+pub own_csplit : (meant : Result Given Fault) → then_check meant (settings_for OwnName tool.Csplit)
+    ≡ by_own_name (then_check meant (settings_for Cutters tool.Csplit))
+own_csplit (Ok given) = own_topic (topic_in given.options) (style_of given.options) given.operands
+own_csplit (Err fault) = refl

@@ -4,7 +4,7 @@ use Rattle.std.proofs.{
   Common.{◌≡◌, ◌-◌, ◌≤◌, arith, get_or, take, drop, length, map, List, Result, Ok, IfOk, IfErr, ◌⊎◌},
 }
 use Rattle.operand_core.specs.Style.{Style}
-use Rattle.ports_core.specs.declared.fault.Fault.{Fault, TheVariants.Memory}
+use Rattle.ports_core.specs.declared.{calling.Calling.Calling, fault.Fault.{Fault, TheVariants.Memory}}
 use Rattle.words_core.specs.{
   declared.spelled.{Chosen.Chosen, Operand.Operand},
   CsplitWords.{CsplitAsked, HasBadOperand, asked_with, csplit_asked, style_of},
@@ -13,19 +13,20 @@ use Rattle.words_core.specs.{
 }
 
 -- what these operands ask for, of which the first is the file
-abbrev pub asked_first : Style → Operand → List Operand → CsplitAsked
-asked_first style none all = asked_with style (get_or all 0 none).text.now (map operand_seen (take (length all - 1) (drop 1 all)))
+abbrev pub asked_first : Calling → Style → Operand → List Operand → CsplitAsked
+asked_first calling style none all =
+    asked_with calling style (get_or all 0 none).text.now (map operand_seen (take (length all - 1) (drop 1 all)))
 
 -- the first operand is the file
 
 -- what a call returns for the style of these options and for these operands is what is asked, or why it is refused
-pub settled : (given : Given) (options : List Chosen) (none : Operand) (all : List Operand) {style : Style}
+pub settled : (calling : Calling) (given : Given) (options : List Chosen) (none : Operand) (all : List Operand) {style : Style}
     (result : Result CsplitAsked Fault)
     → map option_seen options ≡ given.options → map operand_seen all ≡ given.operands
     → style ≡ style_of (map option_seen options)
     → 1 ≤ length all → 1 ≤ length (take (length all - 1) (drop 1 all))
-    → IfOk result (λ settings. settings ≡ asked_first style none all)
-    → IfErr result (λ fault. (fault ≡ Memory) ⊎ HasBadOperand (asked_first style none all) fault)
-    → IfOk result (λ settings. csplit_asked given ≡ Ok settings)
-    × IfErr result (IsRefused HasBadOperand (csplit_asked given))
-settled given options none all {style} result are these is some more equal bad = grind (arith, common_steps)
+    → IfOk result (λ settings. settings ≡ asked_first calling style none all)
+    → IfErr result (λ fault. (fault ≡ Memory) ⊎ HasBadOperand (asked_first calling style none all) fault)
+    → IfOk result (λ settings. csplit_asked calling given ≡ Ok settings)
+    × IfErr result (IsRefused HasBadOperand (csplit_asked calling given))
+settled calling given options none all {style} result are these is some more equal bad = grind (arith, common_steps)

@@ -10,9 +10,12 @@ use Rattle.operand_core.specs.{
   declared.{operand.Operand.Operand, operand_fault.{OperandFault.OperandFault, OperandFaultKind.OperandFaultKind}},
 }
 pub use Rattle.ports_core.specs.Name.{decimal_form}
-use Rattle.ports_core.specs.declared.fault.{
-  Fault.{Fault, TheVariants.{Memory, Usage}},
-  UsageKind.{UsageKind, TheVariants.{MissingOperand, BadOperand, BadPattern, PatternTooLarge}},
+use Rattle.ports_core.specs.declared.{
+  calling.Calling.Calling,
+  fault.{
+    Fault.{Fault, TheVariants.{Memory, Usage}},
+    UsageKind.{UsageKind, TheVariants.{MissingOperand, BadOperand, BadPattern, PatternTooLarge}},
+  },
 }
 use Rattle.words_core.specs.{
   declared.{choice.Choice.Choice, spelled.Chosen.Chosen, csplit_words.CsplitOptions.CsplitOptions},
@@ -26,6 +29,8 @@ use Rattle.words_core.specs.declared.choice.Choice.TheVariants as choice
 
 -- what words ask of `csplit`
 pub record CsplitAsked : Type 0 where
+  -- how the program is called, which says how patterns may be spelled
+  pub calling : Calling
   -- how files are made
   pub style : Style
   -- the name of the input
@@ -85,17 +90,23 @@ style_by asked = style_with asked (format_or asked.digits asked.format)
 abbrev pub style_of : List Chosen → Style
 style_of options = style_by (chosen_by options)
 
-abbrev pub asked_with : Style → List ℕ → List GivenOperand → CsplitAsked
-asked_with style input rest = record { style = style; input = input; operands = texts_of rest; places = places_of rest }
+abbrev pub asked_with : Calling → Style → List ℕ → List GivenOperand → CsplitAsked
+asked_with calling style input rest = record {
+  calling = calling;
+  style = style;
+  input = input;
+  operands = texts_of rest;
+  places = places_of rest;
+}
 
 -- the file and at least one operand
-abbrev pub asked_of : Style → List GivenOperand → Result CsplitAsked Fault
-asked_of style [] = Err (Usage MissingOperand 0)
-asked_of style (file ∷ []) = Err (Usage MissingOperand 0)
-asked_of style (file ∷ operand ∷ operands) = Ok (asked_with style file.text (operand ∷ operands))
+abbrev pub asked_of : Calling → Style → List GivenOperand → Result CsplitAsked Fault
+asked_of calling style [] = Err (Usage MissingOperand 0)
+asked_of calling style (file ∷ []) = Err (Usage MissingOperand 0)
+asked_of calling style (file ∷ operand ∷ operands) = Ok (asked_with calling style file.text (operand ∷ operands))
 
-abbrev pub csplit_asked : Given → Result CsplitAsked Fault
-csplit_asked given = asked_of (style_of given.options) given.operands
+abbrev pub csplit_asked : Calling → Given → Result CsplitAsked Fault
+csplit_asked calling given = asked_of calling (style_of given.options) given.operands
 
 -- What tells that operands are refused: the number of the rule that is broken, and for a pattern its rule and the place
 -- in it. A pattern that is too large has no such place.
@@ -115,9 +126,9 @@ operand_fault places fault = fault_in (slice_index_or places fault.index 0) faul
 
 -- the operands can be read
 abbrev pub HasRead : CsplitAsked → Type 0
-HasRead asked = (operands : List Operand) × Asks asked.operands operands
+HasRead asked = (operands : List Operand) × Asks asked.calling asked.operands operands
 
 -- The operands can't be read, and this fault tells the first that is wrong. It may also be want of memory.
 abbrev pub HasBadOperand : CsplitAsked → Fault → Type 0
-HasBadOperand asked fault = (found : OperandFault) × IsFault asked.operands found
+HasBadOperand asked fault = (found : OperandFault) × IsFault asked.calling asked.operands found
     × (fault ≡ operand_fault asked.places found)

@@ -21,7 +21,7 @@ use Rattle.ports_core.specs.declared.{
 use Rattle.operand_core.specs.Style.{Style}
 use Rattle.words_core.specs.{
   declared.choice.{Choice.Choice, Kind.Kind},
-  declared.settings.{Settings.TheVariants.{Head, Tail, Split, Csplit, Tee, About}, Topic.TheVariants.{Help, Version}},
+  declared.settings.{Settings.{Settings, TheVariants.{Head, Tail, Split, Csplit, Tee, About}}, Topic.TheVariants.{Help, Version}},
   declared.table.{Letters.TheVariants.OfTail, Takes.Takes},
   declared.spelled.Chosen.Chosen,
   declared.spelling.State.{State, TheVariants.Reading},
@@ -248,6 +248,11 @@ is_plain (byte ∷ next ∷ rest) = not (byte == 45)
 abbrev pub MeanTheSame : List (List ℕ) → Type 0
 MeanTheSame words = settings_of OwnName words ≡ settings_of Cutters words
 
+-- the settings of `csplit`, called by its own name
+abbrev pub by_own_name : Result Settings Fault → Result Settings Fault
+by_own_name (Ok (Csplit asked)) = Ok (Csplit (record asked { calling = OwnName }))
+by_own_name other = other
+
 -- the first of these words of `tail` says where it begins (43 is a `+`)
 abbrev pub begin_with_start : List (List ℕ) → Bool
 begin_with_start ((byte ∷ text) ∷ words) = byte == 43 && is_start OwnName tail_table OfTail text
@@ -324,6 +329,7 @@ SplitAsks words asked = (calling : Calling) → settings_of calling (codes "spli
 abbrev pub CsplitAsks : List (List ℕ) → Style → Type 0
 CsplitAsks words style = (calling : Calling)
     → settings_of calling (codes "csplit" ∷ words ++ codes "-" ∷ codes "1" ∷ []) ≡ Ok (Csplit (record {
+      calling = calling;
       style = style;
       input = codes "-";
       operands = codes "1" ∷ [];

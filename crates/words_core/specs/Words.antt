@@ -37,7 +37,7 @@ abbrev pub work_for : Calling → Tool → Given → Result Settings Fault
 work_for calling tool.Head given = Ok (Head (ends_asked given))
 work_for calling tool.Tail given = then_check (tail_asked given) (λ asked. Ok (Tail asked))
 work_for calling tool.Split given = then_check (split_asked given) (λ asked. Ok (Split asked))
-work_for calling tool.Csplit given = then_check (csplit_asked given) (λ asked. Ok (Csplit asked))
+work_for calling tool.Csplit given = then_check (csplit_asked calling given) (λ asked. Ok (Csplit asked))
 work_for calling tool.Tee given = Ok (Tee (tee_asked calling given))
 work_for calling tool.Cutters given = Err (Usage UnknownTool 0)
 

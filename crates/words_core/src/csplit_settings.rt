@@ -8,13 +8,15 @@ ghost use Rattle.words_core.specs.{
 
 use crate::spelled::{Operand, places_of, texts_of};
 use operand_core::{OperandFault, OperandFaultKind, Operands, Style, read_operands};
-use ports_core::{Fault, UsageKind};
+use ports_core::{Calling, Fault, UsageKind};
 use std::alloc::Global;
 use std::marker::Model;
 
 /// What `csplit` is to do with its input. Its operands are those that their words spell.
 #[derive(Drop)]
 pub struct CsplitSettings<'a> {
+    /// How the program is called: by the tool's own name patterns may be in GNU's spelling.
+    pub calling: Calling,
     /// How files are made.
     pub style: Style,
     /// The input's name; `-` is standard input.
@@ -32,19 +34,20 @@ impl<'a> Model for CsplitSettings<'a> {
     ghost Value = { CsplitAsked };
 
     ghost view = { λ s. record {
+      calling = s.calling;
       style = s.style;
       input = s.input.now;
       operands = map (λ word. word.now) s.words.items;
       places = s.places.items;
     } };
 
-    ghost invariant = { λ s. Asks (map (λ word. word.now) s.words.items) s.operands };
+    ghost invariant = { λ s. Asks s.calling (map (λ word. word.now) s.words.items) s.operands };
 }
 
 impl<'a> CsplitSettings<'a> {
     /// The operands, with their patterns compiled.
     pub fn operands(&self) -> &Operands
-        ensures { Asks self.now.operands result.now }
+        ensures { Asks self.now.calling self.now.operands result.now }
     {
         &self.operands
     }
@@ -65,20 +68,22 @@ impl<'a> CsplitSettings<'a> {
 /// `Memory` where there is no room.
 pub fn read_settings<'a>(
     alloc: Global,
+    calling: Calling,
     style: Style,
     input: &'a str,
     operands: &[Operand<'a>],
 ) -> Result<CsplitSettings<'a>, Fault>
-    ensures ok { IfOk result (λ settings. settings ≡ asked_with style input.now (map operand_seen operands.now)) }
+    ensures ok { IfOk result (λ settings. settings ≡ asked_with calling style input.now (map operand_seen operands.now)) }
     ensures operands { IfOk result HasRead }
     ensures err { IfErr result
         (λ fault. (fault ≡ Fault.Memory)
-        ⊎ HasBadOperand (asked_with style input.now (map operand_seen operands.now)) fault) }
+        ⊎ HasBadOperand (asked_with calling style input.now (map operand_seen operands.now)) fault) }
 {
     let words = texts_of(alloc, operands)?;
     let places = places_of(alloc, operands)?;
-    match read_operands(alloc, &words) {
+    match read_operands(alloc, calling, &words) {
         Ok(operands) => Ok(CsplitSettings {
+            calling,
             style,
             input,
             words,

@@ -14,7 +14,7 @@ use crate::csplit_settings::{CsplitSettings, read_settings};
 use crate::format::{Format, push_plain};
 use crate::spelled::{Chosen, Spelled};
 use operand_core::Style;
-use ports_core::{Base, Fault, Filling, Form, UsageKind};
+use ports_core::{Base, Calling, Fault, Filling, Form, UsageKind};
 use std::alloc::Global;
 
 /// What the options of `csplit` ask for: how files are made.
@@ -96,15 +96,19 @@ impl<'a> CsplitOptions<'a> {
 ///
 /// `Usage`: `MissingOperand` at word 0 where there is no file, or none but the file; else the first operand that is wrong, at
 /// the place of its word. `Memory` where there is no room.
-pub fn settle_csplit<'a>(alloc: Global, spelled: &Spelled<'a>) -> Result<CsplitSettings<'a>, Fault>
-    ensures ok { IfOk result (λ settings. csplit_asked spelled.now ≡ Ok settings) }
-    ensures err { IfErr result (IsRefused HasBadOperand (csplit_asked spelled.now)) }
+pub fn settle_csplit<'a>(
+    alloc: Global,
+    calling: Calling,
+    spelled: &Spelled<'a>,
+) -> Result<CsplitSettings<'a>, Fault>
+    ensures ok { IfOk result (λ settings. csplit_asked calling spelled.now ≡ Ok settings) }
+    ensures err { IfErr result (IsRefused HasBadOperand (csplit_asked calling spelled.now)) }
     ensures operands { IfOk result HasRead }
 {
     match spelled.operands.as_slice() {
         [file, operands @ ..] if !operands.is_empty() => {
             let style = choose_style(alloc, &spelled.options)?;
-            read_settings(alloc, style, file.text, operands)
+            read_settings(alloc, calling, style, file.text, operands)
         }
         _ => Err(Fault::Usage(UsageKind::MissingOperand, 0)),
     }

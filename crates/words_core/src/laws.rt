@@ -23,7 +23,7 @@ ghost use Rattle.words_core.specs.{
   Laws.{AreAlike, AreAmong, AreNames, CsplitAsks, EndsAsk, FollowAsks, Gives, HasLetters, IsLetter, IsLong},
   Laws.{IsNumberWithLetters, IsSwitch, IsTold, LastDecides, LeaveTheRest, MeanTheSame, NumberAsks, OnBrokenAsks},
   Laws.{SplitAsks, StartAsks, TeeAsks, amount_of, appends, as_operands, as_wide, begin_with_start, counts},
-  Laws.{counts_looks, counts_pause, drops_sizes, elides_files, ends_with_zero, following, fresh_file, gives_ending},
+  Laws.{by_own_name, counts_looks, counts_pause, drops_sizes, elides_files, ends_with_zero, following, fresh_file, gives_ending},
   Laws.{gives_format, has, heads, how_many, is_plain, keeps_files, kind_of, leave_open, leaves_lines_out, names_prefix},
   Laws.{names_process, plain_style, retries, says_followed, says_on_broken, separates, spells, tells_of_files},
   Laws.{ten_of_input, thousands, widens},
@@ -350,8 +350,9 @@ pub fn letters_ask()
         }))) }
 {}
 
-/// What words mean doesn't depend on how the program is called, but for two things: a first word of `tail` that is a `+` and
-/// what may follow it, and what `tee` does once an output is broken where no option says it.
+/// What words mean doesn't depend on how the program is called, but for three things: a first word of `tail` that is a `+` and
+/// what may follow it, how patterns of `csplit` may be spelled, and what `tee` does once an output is broken where no option
+/// says it.
 #[tactic(auto, unfolding(crate::specs::Spelling::foremost, crate::specs::Table::tools))]
 pub fn callings_mean_the_same()
     ensures none { MeanTheSame [] }
@@ -359,7 +360,8 @@ pub fn callings_mean_the_same()
     ensures head { (words : List (List ℕ)) → MeanTheSame (codes "head" ∷ words) }
     ensures tail { (words : List (List ℕ)) → begin_with_start words ≡ false → MeanTheSame (codes "tail" ∷ words) }
     ensures split { (words : List (List ℕ)) → MeanTheSame (codes "split" ∷ words) }
-    ensures csplit { (words : List (List ℕ)) → MeanTheSame (codes "csplit" ∷ words) }
+    ensures csplit { (words : List (List ℕ)) → settings_of Calling.OwnName (codes "csplit" ∷ words)
+        ≡ by_own_name (settings_of Calling.Cutters (codes "csplit" ∷ words)) }
     ensures tee { (words : List (List ℕ)) → leave_open words ≡ false → MeanTheSame (codes "tee" ∷ words) }
     ensures left_open { (given : Given) → has says_on_broken given.options ≡ false
         → tee_asked Calling.OwnName given

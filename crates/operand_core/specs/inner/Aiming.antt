@@ -1,12 +1,18 @@
--- What private calls say: what reading one target returns.
-use Rattle.std.specs.Prelude.{◌≡◌, Result, Ok, Err}
-use Rattle.bre_core.specs.declared.fault.BreFault.{BreFault}
+-- What private calls say: what reading one pattern, and one target, returns.
+use Rattle.std.specs.Prelude.{◌≡◌, ℕ, List, Result, Ok, Err}
+use Rattle.bre_core.specs.{Pattern.Pattern, declared.fault.BreFault.{BreFault, TheVariants.Memory}}
 use Rattle.operand_core.specs.{
   Operand.Target,
-  Reading.{Aim, Aimed, aims, fails, IsTarget, HasRefused},
+  Reading.{Aim, Aimed, aims, fails, IsPattern, IsRefused, IsTarget, HasRefused},
   declared.operand_fault.OperandFaultKind.OperandFaultKind,
 }
 use Rattle.operand_core.specs.declared.operand_fault.OperandFaultKind.TheVariants as kind
+
+-- a text is read as this pattern, or refused with this fault, or there is no memory
+abbrev pub IsReadAs : List ℕ → Result Pattern BreFault → Type 0
+IsReadAs text (Ok pattern) = IsPattern text pattern
+IsReadAs text (Err Memory) = Unit {0}
+IsReadAs text (Err fault) = IsRefused text fault
 
 pub data IsAimed (aimed : Aimed) : Result Target OperandFaultKind → Type 0 where
   is_target : (aim : Aim) (target : Target) → aimed ≡ aims aim → IsTarget aim target → IsAimed aimed (Ok target)

@@ -3,7 +3,7 @@ use Rattle.operand_core.{specs.Reading.no_memory, proofs.ReadingLemmas.{no_opera
 use Rattle.operand_core.proofs.operands.read_operands.Goals as goal
 
 pub returns-then-is_empty-clause-err : goal.returns-then-is_empty-clause-err
-returns-then-is_empty-clause-err c = no_operand c.args.words.now (sym c.if-is_empty.ensures)
+returns-then-is_empty-clause-err c = no_operand c.args.calling c.args.words.now (sym c.if-is_empty.ensures)
 
 pub returns-in-Err-clause-err : goal.returns-in-Err-clause-err
 returns-in-Err-clause-err c = search (rules, ends_at)

@@ -8,11 +8,11 @@ use Rattle.words_core.specs.{
     table.Letters.TheVariants.{Never, OfHead, OfTail},
   },
   Spelling.spelled,
-  Table.{head_table, row_named, split_table, tail_table, tee_table, tools},
+  Table.{csplit_table, head_table, row_named, split_table, tail_table, tee_table, tools},
   Value.then_check,
   Words.settings_for,
 }
-use Rattle.words_core.proofs.CallingLemmas.{begins_head, begins_never, left_open, same_tee, same_unknown, same_words}
+use Rattle.words_core.proofs.CallingLemmas.{begins_head, begins_never, left_open, own_csplit, same_tee, same_unknown, same_words}
 use Rattle.ports_core.specs.declared.tool.Tool.TheVariants as tool
 use Rattle.words_core.proofs.laws.callings_mean_the_same.Goals as goal
 
@@ -24,7 +24,7 @@ returns c = record {
   head = λ words. ap (λ given. then_check given (settings_for Cutters tool.Head)) (same_words head_table (Amount Lines) OfHead words (begins_head head_table words));
   tail = λ words other. ap (λ given. then_check given (settings_for Cutters tool.Tail)) (same_words tail_table (Amount Lines) OfTail words other);
   split = λ words. ap (λ given. then_check given (settings_for Cutters tool.Split)) (same_words split_table LinesEach Never words (begins_never split_table words));
-  csplit = λ words. refl;
+  csplit = λ words. own_csplit (spelled csplit_table words 1 Reading);
   tee = λ words said. same_tee (spelled tee_table words 1 Reading) said;
   left_open = left_open;
 }
