@@ -1,13 +1,13 @@
 -- A watch over real files, where one of its names changes.
 use Rattle.std.proofs.{
-  Common.{◌≡◌, ℕ, zero, suc, refl, replicate, Bool, true, false, IsTrue, List, ap, subst, get_or, set, is_some},
+  Common.{◌≡◌, ℕ, zero, suc, refl, replicate, Bool, true, false, IsTrue, List, ap, subst, get_or, set, is_some, ◌⊎◌, inl, inr},
   lemmas.Bool.false≢true,
 }
 use Rattle.ports_core.specs.Slot.{changed_at}
 use Rattle.watch_core.{
   specs.{
     DirWatchState.{files_by, DirWatchState, seen},
-    Snapshot.{Snapshot, Finding, Found, latest, opens_as},
+    Snapshot.{Snapshot, Finding, Found, has_zero, latest, opens_as},
     Watched.{Watched, Reopens, watched_at, is_watchable, opens},
   },
   proofs.NameLemmas.{name_changes, names_within},
@@ -31,16 +31,19 @@ finds_any true within (suc zero) name finding = refl
 finds_any forgives within (suc (suc n)) name finding = finds_any forgives within (suc n) name finding
 
 -- and any may have failed, where that isn't forgiven
-pub breaks_any : {forgives : Bool} (within n : ℕ) → forgives ≡ false
-    → (latest (replicate n (files_by forgives within))).breaks ≡ true
+pub breaks_any : {forgives : Bool} {name : List ℕ} (within n : ℕ) → (forgives ≡ false) ⊎ (has_zero name ≡ true)
+    → (latest (replicate n (files_by forgives within))).breaks name ≡ true
 breaks_any within zero is = refl
-breaks_any within (suc zero) is = rw is refl
+breaks_any within (suc zero) (inl is) = rw is refl
+breaks_any {forgives = false} within (suc zero) (inr is) = refl
+breaks_any {forgives = true} within (suc zero) (inr is) = is
 breaks_any within (suc (suc n)) is = breaks_any within (suc n) is
 
 pub may_break : {watch : DirWatchState} {names : List Watched} {turns : ℕ} {forgives : Bool} {within rested : ℕ}
-    → record { turns = turns; watched = names; forgives = forgives; within = within; rested = rested } ≡ watch
-    → forgives ≡ false → (latest (seen watch)).breaks ≡ true
-may_break {turns} is unforgiven = subst (λ (those : DirWatchState). (latest (seen those)).breaks ≡ true) is (breaks_any _ turns unforgiven)
+    → {name : List ℕ} → record { turns = turns; watched = names; forgives = forgives; within = within; rested = rested } ≡ watch
+    → (forgives ≡ false) ⊎ (has_zero name ≡ true) → (latest (seen watch)).breaks name ≡ true
+may_break {turns} {name} is unforgiven =
+    subst (λ (those : DirWatchState). (latest (seen those)).breaks name ≡ true) is (breaks_any _ turns unforgiven)
 
 -- what was opened is not told
 pub opened_some : {watch : DirWatchState} {snapshot : Snapshot} {names : List Watched} {forgives : Bool}
