@@ -1,6 +1,6 @@
 -- What one look can see: which file each name leads to, what each file holds, and which processes are gone; and how it
 -- is where a name that can't be read counts as missing; and how soon it begins.
-use Rattle.std.specs.Prelude.{◌≡◌, ℕ, ◌==◌, Bool, true, false, List, [], ◌∷◌, list_any, Option, None, if◌then◌else◌}
+use Rattle.std.specs.{Prelude.{◌≡◌, ℕ, ◌==◌, Bool, true, false, List, [], ◌∷◌, Option, None, if◌then◌else◌}, List.list_any}
 
 -- what a call on a name finds
 pub data Finding : Type 0 where

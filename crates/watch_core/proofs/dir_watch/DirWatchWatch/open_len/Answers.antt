@@ -16,7 +16,7 @@ pub returns-clause-found : goal.returns-clause-found
 returns-clause-found g c = search (rules, finds_any)
 
 pub returns-in_default-clause-breaks : goal.returns-in_default-clause-breaks
-returns-in_default-clause-breaks g c = may_break c.self.view_is (inl c.if-self.false)
+returns-in_default-clause-breaks g c = may_break _ c.self.view_is (inl c.if-self.false)
 
 pub returns-then-self-clause-found : goal.returns-then-self-clause-found
 returns-then-self-clause-found g c = search (rules, finds_any)
