@@ -2,6 +2,7 @@
 use Rattle.std.proofs.{
   lemmas.{
     Grind.common_steps,
+    List.map-append,
     Option.{get_or_from_slice_get, slice_get_cases, slice_get_within},
     Slice.Eq.bytes_eq-Decides,
     Str.{IsUtf8-from_is_utf8, is_utf8-from_IsUtf8},
@@ -9,7 +10,7 @@ use Rattle.std.proofs.{
   Math.{ListN.drop_of_length-le, Seq.drop-cons},
   Common.{◌≡◌, ℕ, Bool, true, false, List, [], ◌∷◌, ◌++◌, Option, Some, None, Result, Ok, Err, IfOk, if◌then◌else◌},
   Common.{codes, map, option_map, bytes_eq, string_bytes, refl, sym, ◌∙◌, ap, subst, arith, ◌+◌, ◌<◌, inl, inr},
-  Common.{length, drop, get_or, add-one},
+  Common.{length, drop, get_or, add-one, append_assoc},
 }
 use Rattle.std.specs.{List.slice_get, Str.{IsUtf8, is_utf8, Lossy.utf8_lossy}}
 use Rattle.ports_core.specs.declared.tool.Tool.{Tool}
@@ -75,10 +76,18 @@ no_text true text none = absurd (none (text refl))
 no_text false text none = refl
 
 -- and what isn't is marked, where it is read
-pub marked_is : {tool : Option Tool} (argument : List ℕ) {word : List ℕ} → reads_any tool ≡ true → (IsUtf8 argument → ⊥)
+pub marked_is : (tool : Option Tool) (argument : List ℕ) {word : List ℕ} → reads_any tool ≡ true → (IsUtf8 argument → ⊥)
     → word ≡ utf8_lossy argument ++ 0 ∷ [] → word ≡ word_of tool argument
-marked_is argument any none is =
+marked_is tool argument any none is =
     rw (any, no_text (is_utf8 argument) (IsUtf8-from_is_utf8 argument) none) is
+
+-- one more is read
+pub read_on : (tool : Option Tool) (argument : List ℕ) (first read : List (List ℕ)) {words more : List (List ℕ)}
+    → words ≡ first ++ map (word_of tool) read → more ≡ words ++ word_of tool argument ∷ []
+    → more ≡ first ++ map (word_of tool) (read ++ argument ∷ [])
+read_on tool argument first read so_far is = is ∙ ap (λ words. words ++ word_of tool argument ∷ []) so_far
+    ∙ append_assoc first (map (word_of tool) read) (word_of tool argument ∷ [])
+    ∙ ap (λ rest. first ++ rest) (sym (map-append (word_of tool) read (argument ∷ [])))
 
 -- Of a program whose own name is given, and calls this tool, the first words and those that follow are all its words.
 pub all_words : (gives : ℕ → Option (List ℕ) → Type 0) {name : List ℕ} {tool : Option Tool} (first : Args)
@@ -89,12 +98,12 @@ pub all_words : (gives : ℕ → Option (List ℕ) → Type 0) {name : List ℕ}
     × (map string_bytes args.words.items ≡ map string_bytes first.words.items ++ map (word_of tool) rest))
     → IfOk result (λ args. args.calling ≡ first.calling)
     → IfOk result (λ args. IsCalled gives args.calling (map string_bytes args.words.items))
-all_words gives {name} first (Ok args) given is words calling rest same = record {
+all_words gives {name} {tool} first (Ok args) given is words calling rest same = record {
   arguments = name ∷ rest.0;
   given = (given, rest.1);
   called = same ∙ calling ∙ ap called_by is;
-  read = rest.2 ∙ ap (λ before. before ++ map (word_of _) rest.0) words
-      ∙ ap (λ tool. words_called tool ++ map (word_of tool) rest.0) is;
+  read = rest.2 ∙ ap (λ before. before ++ map (word_of tool) rest.0) words
+      ∙ ap (λ called. words_called called ++ map (word_of called) rest.0) is;
 }
 all_words gives first (Err fault) given is words calling rest same = tt
 
