@@ -36,7 +36,7 @@ use Rattle.std.proofs.{
   lemmas.Grind.common_steps,
   Common.{◌⊎◌, ◌≡◌, ◌<◌, ◌+◌, arith, zero, suc, ℕ, Bool, true, false, not, List, [], ◌∷◌, ◌++◌, length, Option, Some},
   Common.{None, refl, sym, ◌∙◌, ap, if◌then◌else◌, subst, inl, inr, ◌&&◌, Result, Ok, Err, IsTrue, IfOk, is_none},
-  Common.is_some,
+  Common.{get_or, is_some},
   lemmas.{List.{append-nil, map-append}, Bool.{false≢true, not-true}, Result.IfOk-weaker},
   Math.Bool.and-false,
 }
@@ -372,7 +372,7 @@ pub first_unopened : {told_in told : Bool} {ways : Ways} {snapshot : Snapshot} {
     {printer : PrinterState}
     {slots slots_new : List Slot} {old new : List Watched} {why : Fault} {now : Standing} {result : Result Bool Fault}
     → (watched_at old place).name ≡ name → IsTrue (is_watchable old place)
-    → why ≡ Open place → NameBreaks (λ file. broken.Open) place old new → snapshot.breaks ≡ true
+    → why ≡ Open place → NameBreaks (λ file. broken.Open) place old new → snapshot.breaks name ≡ true
     → TellsStop told printer.calling name slots now slots_new (Broke why) result
     → Visits told_in told ways snapshot place name New old printer slots now new printer slots_new result
 first_unopened {place} {name} {old} {why} named can is broke fails (tells, left, says) =
@@ -583,24 +583,24 @@ left_visited {told_in} {ways} {snapshot} {place} {name} looks left = elim left.w
 -- where no call can fail
 
 sound_among : {before : List Look} {look : Look} (from : ℕ) (names : List (List ℕ)) {shares : List Share}
-    → AreAtLook before look from names shares → look.snapshot.breaks ≡ false → (place : ℕ) → place < length names
-    → failed_in (from + place) before ≡ None → fate_at (from + place) look ≡ sound
-sound_among from [] given unbroken place within kept = absurd (omega arith)
-sound_among {before} {look} from (name ∷ names) (names_more given rest) unbroken zero within kept = grind (arith, common_steps)
-sound_among {before} {look} from (name ∷ names) (names_more given rest) unbroken (suc place) within kept =
+    → AreAtLook before look from names shares → (place : ℕ) → place < length names
+    → look.snapshot.breaks (get_or names place []) ≡ false → failed_in (from + place) before ≡ None → fate_at (from + place) look ≡ sound
+sound_among from [] given place within unbroken kept = absurd (omega arith)
+sound_among {before} {look} from (name ∷ names) (names_more given rest) zero within unbroken kept = grind (arith, common_steps)
+sound_among {before} {look} from (name ∷ names) (names_more given rest) (suc place) within unbroken kept =
     let at : from + 1 + place ≡ from + suc place = omega arith in
-    rw at at (sound_among (from + 1) names rest unbroken place (omega arith) (rw (← at) at kept))
+    rw at at (sound_among (from + 1) names rest place (omega arith) unbroken (rw (← at) at kept))
 
-none_breaks_before : (looks : List Look) (look : Look) → NoneBreaks (looks ++ look ∷ [])
-    → NoneBreaks looks × (look.snapshot.breaks ≡ false)
+none_breaks_before : {name : List ℕ} (looks : List Look) (look : Look) → NoneBreaks name (looks ++ look ∷ [])
+    → NoneBreaks name looks × (look.snapshot.breaks name ≡ false)
 none_breaks_before [] look none = (tt, none.0)
 none_breaks_before (first ∷ looks) look none = let rest = none_breaks_before looks look none.1 in ((none.0, rest.0), rest.1)
 
 pub names_stay : (ways : Ways) (names : List (List ℕ)) (looks : List Look) (shares : List Share)
-    → AreFound ways names looks shares → NoneBreaks looks → (place : ℕ) → place < length names
-    → failed_in (ways.first + place) looks ≡ None
-names_stay ways names looks shares no_looks none place within = refl
-names_stay ways names looks shares (looks_more {looks = before} {look} {shares = given} found at_look) none place within =
+    → AreFound ways names looks shares → (place : ℕ) → place < length names
+    → NoneBreaks (get_or names place []) looks → failed_in (ways.first + place) looks ≡ None
+names_stay ways names looks shares no_looks place within none = refl
+names_stay ways names looks shares (looks_more {looks = before} {look} {shares = given} found at_look) place within none =
     let (so_far, unbroken) = none_breaks_before before look none in
-    let kept = names_stay ways names before given found so_far place within in
-    failed_sound (ways.first + place) before look (sound_among ways.first names at_look unbroken place within kept) ∙ kept
+    let kept = names_stay ways names before given found place within so_far in
+    failed_sound (ways.first + place) before look (sound_among ways.first names at_look place within unbroken kept) ∙ kept

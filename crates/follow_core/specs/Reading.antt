@@ -73,7 +73,7 @@ pub record IsFound (before : List Look) (snapshot : Snapshot) (name : List ℕ) 
   pub failed : share.failure ≡ failure_of fate
   pub events : AllGive (IsTold before snapshot name) (IsWhole (StartsIn before name) snapshot name fate) share.events
   -- a call on it failed only where one can fail in this look
-  pub broke : (fate ≡ sound) ⊎ (snapshot.breaks ≡ true)
+  pub broke : (fate ≡ sound) ⊎ (snapshot.breaks name ≡ true)
   -- at the first look a file was opened
   pub there : share.is_opened ≡ true → (file : ℕ) × Found snapshot name (opens_as (Some file))
 
@@ -104,10 +104,10 @@ pub data AreFound (ways : Ways) (names : List (List ℕ)) : List Look → List S
   looks_more : {looks : List Look} {look : Look} {shares more : List Share} → AreFound ways names looks shares
       → AreAtLook looks look ways.first names more → AreFound ways names (looks ++ look ∷ []) (shares ++ more)
 
--- in none of these looks a call on a name can fail
-abbrev pub NoneBreaks : List Look → Type 0
-NoneBreaks [] = Unit {0}
-NoneBreaks (look ∷ looks) = (look.snapshot.breaks ≡ false) × NoneBreaks looks
+-- in none of these looks a call on this name can fail
+abbrev pub NoneBreaks : List ℕ → List Look → Type 0
+NoneBreaks name [] = Unit {0}
+NoneBreaks name (look ∷ looks) = (look.snapshot.breaks name ≡ false) × NoneBreaks name looks
 
 -- a beginning of what a look gives for a name for which no call failed
 pub record IsBegun (before : List Look) (snapshot : Snapshot) (name : List ℕ) (share : Share) : Type 0 where

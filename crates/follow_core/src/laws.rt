@@ -1,5 +1,5 @@
 //! Laws of the definitions, with no code: each stands on the contract of a function whose body is empty.
-ghost use Rattle.std.specs.Prelude.{◌≡◌, ◌<◌, ◌+◌, ◌++◌, ◌∷◌, [], ◌||◌, ℕ, List, Bool, None, length};
+ghost use Rattle.std.specs.Prelude.{◌≡◌, ◌<◌, ◌+◌, ◌++◌, ◌∷◌, [], ◌||◌, ℕ, List, Bool, None, length, slice_index_or};
 ghost use Rattle.watch_core.specs.Edits.{Edit};
 ghost use Rattle.follow_core.specs.{
   Version.Entry,
@@ -51,11 +51,11 @@ pub fn looks_agree()
         (one other : List (List Edit)) → Agree forgives start by_name name first one other }
 {}
 
-/// Where no call can fail no name is dropped: of no name a call failed in these looks.
+/// Where no call on a name can fail, it isn't dropped: no call on it failed in these looks.
 pub fn forgiven_names_stay()
     ensures { (ways : Ways) (names : List (List ℕ)) (looks : List Look) (shares : List Share)
-        → AreFound ways names looks shares → NoneBreaks looks → (place : ℕ) → place < length names
-        → failed_in (ways.first + place) looks ≡ None }
+        → AreFound ways names looks shares → (place : ℕ) → place < length names
+        → NoneBreaks (slice_index_or names place []) looks → failed_in (ways.first + place) looks ≡ None }
 {}
 
 /// A line that tells what a look found is never the message of a failure: so it is told whole, or following ends before it.

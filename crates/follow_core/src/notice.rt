@@ -1,7 +1,7 @@
 ghost use Rattle.std.specs.Prelude.{◌≡◌, IfOk, IfErr};
 ghost use Rattle.follow_core.specs.Notice.{line_of, notice_of, notice_words};
 
-use ports_core::{Fault, Tool};
+use ports_core::{Fault, Tool, write_quoted};
 use std::alloc::{AllocError, Global};
 
 /// What a look can find of a name that was looked at before.
@@ -47,9 +47,9 @@ fn written(alloc: Global, words: &str, name: &str) -> Result<Vec<u8>, AllocError
     ensures { IfOk result (λ text. text.items ≡ line_of words.now name.now) }
 {
     let mut text = Vec::from_slice(alloc, Tool::Tail.name().as_bytes())?;
-    text.extend_from_slice(b": '")?;
-    text.extend_from_slice(name.as_bytes())?;
-    text.extend_from_slice(b"': ")?;
+    text.extend_from_slice(b": ")?;
+    write_quoted(&mut text, name)?;
+    text.extend_from_slice(b": ")?;
     text.extend_from_slice(words.as_bytes())?;
     text.extend_from_slice(b"\n")?;
     Ok(text)

@@ -2,7 +2,7 @@
 ghost use Rattle.std.specs.Prelude.{◌≡◌, ◌≤◌, ◌<◌, ◌+◌, ◌^◌, true, length, take, drop, IsTrue, IfOk, IfErr, OnOk};
 ghost use Rattle.seg_core.specs.{Line.after_lines, inner.Lines.last_lines};
 ghost use Rattle.ends_core.specs.Ends.{tail_of};
-ghost use Rattle.watch_core.specs.{Snapshot.latest, Watched.{is_readable, open_contents, watched_at}};
+ghost use Rattle.watch_core.specs.{Snapshot.latest, Watched.{CanBreak, is_readable, open_contents, watched_at}};
 ghost use Rattle.follow_core.specs.{Look.is_sought, inner.Giving.FailsToRead};
 
 use ends_core::Unit;
@@ -52,7 +52,7 @@ impl Start {
         ensures same { OnOk result (W.watched watch.new ≡ W.watched watch.old) }
         ensures err { IfErr result
             (λ fault. (fault ≡ Fault.Read place) × FailsToRead place (W.watched watch.old) (W.watched watch.new)) }
-        ensures breaks { IfErr result (λ _. (latest (W.seen watch.old)).breaks ≡ true) }
+        ensures breaks { IfErr result (λ _. CanBreak (W.seen watch.old) (W.watched watch.old) place) }
         ensures sought { IfErr result (λ _. IsTrue (is_sought self.unit)) }
         ensures seen { W.seen watch.new ≡ W.seen watch.old }
         ensures shows { W.shows watch.new ≡ W.shows watch.old }
@@ -93,7 +93,7 @@ fn find_last_lines<W: Watch>(
     ensures same { OnOk result (W.watched watch.new ≡ W.watched watch.old) }
     ensures err { IfErr result
         (λ fault. (fault ≡ Fault.Read place) × FailsToRead place (W.watched watch.old) (W.watched watch.new)) }
-    ensures breaks { IfErr result (λ _. (latest (W.seen watch.old)).breaks ≡ true) }
+    ensures breaks { IfErr result (λ _. CanBreak (W.seen watch.old) (W.watched watch.old) place) }
     ensures seen { W.seen watch.new ≡ W.seen watch.old }
     ensures shows { W.shows watch.new ≡ W.shows watch.old }
 {
@@ -136,7 +136,7 @@ fn pass_lines<W: Watch>(
     ensures same { OnOk result (W.watched watch.new ≡ W.watched watch.old) }
     ensures err { IfErr result
         (λ fault. (fault ≡ Fault.Read place) × FailsToRead place (W.watched watch.old) (W.watched watch.new)) }
-    ensures breaks { IfErr result (λ _. (latest (W.seen watch.old)).breaks ≡ true) }
+    ensures breaks { IfErr result (λ _. CanBreak (W.seen watch.old) (W.watched watch.old) place) }
     ensures seen { W.seen watch.new ≡ W.seen watch.old }
     ensures shows { W.shows watch.new ≡ W.shows watch.old }
 {
@@ -176,7 +176,7 @@ fn read_block<W: Watch>(
     ensures same { OnOk result (W.watched watch.new ≡ W.watched watch.old) }
     ensures err { IfErr result
         (λ fault. (fault ≡ Fault.Read place) × FailsToRead place (W.watched watch.old) (W.watched watch.new)) }
-    ensures breaks { IfErr result (λ _. (latest (W.seen watch.old)).breaks ≡ true) }
+    ensures breaks { IfErr result (λ _. CanBreak (W.seen watch.old) (W.watched watch.old) place) }
     ensures seen { W.seen watch.new ≡ W.seen watch.old }
     ensures shows { W.shows watch.new ≡ W.shows watch.old }
 {

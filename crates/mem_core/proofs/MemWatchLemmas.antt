@@ -109,7 +109,7 @@ finds_any forgives within worlds (suc n) name finding = ap (λ (those : Snapshot
 
 -- all of a look but whether calls can fail, and how soon it begins
 abbrev pub kept : Snapshot → Snapshot
-kept snapshot = record snapshot { breaks = false; within = 0 }
+kept snapshot = record snapshot { breaks = λ name. false; within = 0 }
 
 -- what the last look sees are the files of its turn
 pub latest_seen : (forgives : Bool) (within : ℕ) (worlds : List World) (n : ℕ) → world_at worlds 0 ≡ empty_world
@@ -119,13 +119,14 @@ latest_seen true within worlds zero is = ap (λ world. kept (shown true world)) 
 latest_seen forgives within worlds (suc n) is = ap kept (latest-last (seen_by forgives within worlds n) _)
 
 -- where nothing is forgiven, a call may have failed
-latest_breaks : (forgives : Bool) (within : ℕ) (worlds : List World) (n : ℕ) → forgives ≡ false
-    → (latest (seen_by forgives within worlds n)).breaks ≡ true
-latest_breaks forgives within worlds zero is = refl
-latest_breaks forgives within worlds (suc n) is = ap (λ (those : Snapshot). those.breaks) (latest-last (seen_by forgives within worlds n) _) ∙ rw is refl
+latest_breaks : (forgives : Bool) (within : ℕ) (worlds : List World) (n : ℕ) (name : List ℕ) → forgives ≡ false
+    → (latest (seen_by forgives within worlds n)).breaks name ≡ true
+latest_breaks forgives within worlds zero name is = refl
+latest_breaks forgives within worlds (suc n) name is =
+    ap (λ (those : Snapshot). those.breaks name) (latest-last (seen_by forgives within worlds n) _) ∙ rw is refl
 
-pub may_break : (watch : MemWatchState) → watch.forgives ≡ false → (latest (seen watch)).breaks ≡ true
-may_break watch unforgiven = latest_breaks watch.forgives watch.within watch.worlds watch.turns unforgiven
+pub may_break : (watch : MemWatchState) (name : List ℕ) → watch.forgives ≡ false → (latest (seen watch)).breaks name ≡ true
+may_break watch name unforgiven = latest_breaks watch.forgives watch.within watch.worlds watch.turns name unforgiven
 
 -- what was forgiven is
 

@@ -1,9 +1,14 @@
 -- Why outputs, inputs and names break, and what is said of it: the numbers of Linux, and the texts of the C library.
-use Rattle.std.specs.Prelude.{ℕ, ℤ, pos, negsuc, ◌==◌, List, [], ◌∷◌, codes, Option, Some, None, Bool, true, false, if◌then◌else◌}
+use Rattle.std.specs.{
+  Prelude.{ℕ, ℤ, pos, negsuc, ◌==◌, List, [], ◌∷◌, codes, Option, Some, None, Bool, true, false},
+  Prelude.{if◌then◌else◌},
+  IoError.{error_kind, raw_os_error},
+  declared.io.{Error.Error, ErrorKind.{ErrorKind, TheVariants.InvalidInput}},
+}
 use Rattle.ports_core.specs.declared.reason.Reason.{
   Reason,
   TheVariants.{Gone, Missing, Denied, Folder, NoFolder, Full, TooLarge, ReadOnly, Quota, TooMany, Device, Busy},
-  TheVariants.{LongName, Circle, Input, MayBeInput, Endless, Other},
+  TheVariants.{LongName, Circle, Input, MayBeInput, Endless, NotUtf8, Other},
 }
 
 -- what a message says of it after the name
@@ -25,6 +30,7 @@ reason_text Circle = codes ": Too many levels of symbolic links"
 reason_text Input = codes ": is an input"
 reason_text MayBeInput = codes ": cannot tell whether it is an input"
 reason_text Endless = []
+reason_text NotUtf8 = codes ": name is not UTF-8"
 reason_text Other = []
 
 -- an input that goes on without an end isn't read to its end
@@ -41,7 +47,19 @@ abbrev pub reason_in : List (ℕ × Reason) → ℕ → Reason
 reason_in [] number = Other
 reason_in (row ∷ rows) number = if number == row.0 then row.1 else reason_in rows number
 
-abbrev pub reason_by : Option ℤ → Reason
-reason_by (Some (pos number)) = reason_in reasons number
-reason_by (Some (negsuc n)) = Other
-reason_by None = Other
+abbrev pub reason_at : ℤ → Reason
+reason_at (pos number) = reason_in reasons number
+reason_at (negsuc n) = Other
+
+-- Of an error without a number: the library itself refuses a name with a byte 0, as input that isn't valid.
+abbrev pub reason_without : ErrorKind → Reason
+reason_without InvalidInput = NotUtf8
+reason_without kind = Other
+
+abbrev pub reason_by : Option ℤ → ErrorKind → Reason
+reason_by (Some number) kind = reason_at number
+reason_by None kind = reason_without kind
+
+-- why a call failed with this error
+abbrev pub reason_of : Error → Reason
+reason_of error = reason_by (raw_os_error error) (error_kind error)

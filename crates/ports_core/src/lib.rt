@@ -58,7 +58,7 @@ pub use slot::{Mode, State};
 pub use slots::{Slots, Unopened};
 pub use stage::Stage;
 pub use sweep::sweep_files;
-pub use text::{header, is_quiet, memory_exhausted, message, message_for};
+pub use text::{header, is_quiet, memory_exhausted, message, message_for, write_quoted};
 pub use tool::Tool;
 pub use verdict::Verdict;
 pub use whole::{WriteCut, write_whole};

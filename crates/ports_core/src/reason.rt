@@ -1,7 +1,7 @@
-ghost use Rattle.std.specs.{Prelude.{◌≡◌, Some}, IoError.raw_os_error};
-ghost use Rattle.ports_core.specs.Reason.{reason_by, reason_in, reason_text};
+ghost use Rattle.std.specs.{Prelude.◌≡◌, IoError.error_kind};
+ghost use Rattle.ports_core.specs.Reason.{reason_at, reason_in, reason_of, reason_text, reason_without};
 
-use std::io::Error;
+use std::io::{Error, ErrorKind};
 
 /// Why an output, an input or a watched name broke, as far as the system says.
 #[derive(Clone, Copy, Debug, PartialEq, Eq)]
@@ -40,6 +40,8 @@ pub enum Reason {
     MayBeInput,
     /// It is a device that goes on without an end, as `/dev/zero`, where its length was needed.
     Endless,
+    /// Its name isn't UTF-8: it was read as a text with a byte 0, which no file's name has.
+    NotUtf8,
     /// Any other, or none that is known.
     Other,
 }
@@ -66,16 +68,17 @@ impl Reason {
             Reason::Circle => b": Too many levels of symbolic links",
             Reason::Input => b": is an input",
             Reason::MayBeInput => b": cannot tell whether it is an input",
+            Reason::NotUtf8 => b": name is not UTF-8",
         }
     }
 
-    /// Why a call failed, by the number that Linux has for its error.
+    /// Why a call failed, by the number that Linux has for its error. A name with a byte 0 the library refuses itself, without a number.
     pub fn of(error: &Error) -> Reason
-        ensures { result ≡ reason_by (raw_os_error error.now) }
+        ensures { result ≡ reason_of error.now }
     {
         match error.raw_os_error() {
             Some(code) => by_code(code),
-            None => Reason::Other,
+            None => without_code(error),
         }
     }
 }
@@ -102,11 +105,22 @@ const REASONS: &[(u32, Reason)] = &[
 /// clears no room for an error.
 #[inline(never)]
 fn by_code(code: i32) -> Reason
-    ensures { result ≡ reason_by (Some code) }
+    ensures { result ≡ reason_at code }
 {
     match u32::try_from(code) {
         Ok(number) => in_table(REASONS, number),
         Err(_) => Reason::Other,
+    }
+}
+
+/// The reason for an error that has no number.
+#[inline(never)]
+fn without_code(error: &Error) -> Reason
+    ensures { result ≡ reason_without (error_kind error.now) }
+{
+    match error.kind() {
+        ErrorKind::InvalidInput => Reason::NotUtf8,
+        _ => Reason::Other,
     }
 }
 

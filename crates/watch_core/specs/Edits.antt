@@ -86,7 +86,7 @@ seen_in world = record {
   holds = held_in world.files;
   finds = λ name finding. true;
   barred = is_barred_in world.bars;
-  breaks = true;
+  breaks = λ name. true;
   lacks = λ process. is_one process world.ended;
   within = 1000;
 }

@@ -1,6 +1,6 @@
 -- What one look can see: which file each name leads to, what each file holds, and which processes are gone; and how it
 -- is where a name that can't be read counts as missing; and how soon it begins.
-use Rattle.std.specs.Prelude.{◌≡◌, ℕ, Bool, true, false, List, [], ◌∷◌, Option, None, if◌then◌else◌}
+use Rattle.std.specs.{Prelude.{◌≡◌, ℕ, ◌==◌, Bool, true, false, List, [], ◌∷◌, Option, None, if◌then◌else◌}, List.list_any}
 
 -- what a call on a name finds
 pub data Finding : Type 0 where
@@ -22,8 +22,8 @@ pub record Snapshot : Type 0 where
   pub finds : List ℕ → Finding → Bool
   -- this name is there, and can't be opened or read
   pub barred : List ℕ → Bool
-  -- a call on a name can fail in this look
-  pub breaks : Bool
+  -- a call on this name can fail in this look
+  pub breaks : List ℕ → Bool
   -- Before the look it can be found that no process of this number runs. Of any watch it is known of those that were
   -- found to be gone, and of no others.
   pub lacks : ℕ → Bool
@@ -36,16 +36,20 @@ no_files = record {
   holds = λ file. [];
   finds = λ name finding. true;
   barred = λ name. false;
-  breaks = true;
+  breaks = λ name. true;
   lacks = λ process. false;
   within = 1000;
 }
 
--- this look where it forgives: a name that can't be read counts as missing, and no call fails
+-- whether a byte of a name is 0: no file has such a name
+abbrev pub has_zero : List ℕ → Bool
+has_zero name = list_any (λ byte. byte == 0) name
+
+-- this look where it forgives: a name that can't be read counts as missing, and no call fails on one that a file can have
 abbrev pub forgiving : Snapshot → Snapshot
 forgiving snapshot = record snapshot {
   leads = λ name. if snapshot.barred name then None else snapshot.leads name;
-  breaks = false;
+  breaks = has_zero;
 }
 
 -- this look where it begins within this number of milliseconds

@@ -8,7 +8,7 @@ use Rattle.ports_core.specs.{
   Slot.changed_at,
   Source.{Gave, unshown},
 }
-use Rattle.watch_core.specs.{Snapshot.{Snapshot, Found, opens_as}, declared.watch.{Broken.Broken, Seen.Seen}}
+use Rattle.watch_core.specs.{Snapshot.{Snapshot, Found, latest, opens_as}, declared.watch.{Broken.Broken, Seen.Seen}}
 use Rattle.watch_core.specs.declared.watch.Broken.TheVariants as broken
 
 pub record Watched : Type 0 where
@@ -42,6 +42,10 @@ breaks why how watched = record watched { opened = None; failed = Some (how watc
 -- the name at this place broke so, for some reason, and no other changed
 abbrev pub NameBreaks : (Option ℕ → Broken) → ℕ → List Watched → List Watched → Type 0
 NameBreaks how place old new = (why : Reason) × (new ≡ changed_at place (breaks why how) old)
+
+-- a call on the name at this place can fail in the last of these looks
+abbrev pub CanBreak : List Snapshot → List Watched → ℕ → Type 0
+CanBreak seen names place = (latest seen).breaks (watched_at names place).name ≡ true
 
 -- there is such a name, and it is not broken
 abbrev pub is_watchable : List Watched → ℕ → Bool

@@ -2,7 +2,7 @@ ghost use Rattle.std.specs.{
   Prelude.{◌≡◌, ◌≤◌, ◌<◌, ◌^◌, true, length, string_bytes, IfOk, OnOk, OnErr, IfSome, IfNone, OnSome, is_some},
 };
 ghost use Rattle.ports_core.specs.declared.reason.Reason.{Reason};
-ghost use Rattle.watch_core.specs.Watched.{Watched, added, breaks, opens};
+ghost use Rattle.watch_core.specs.{Snapshot.has_zero, Watched.{Watched, added, breaks, opens}};
 
 use crate::dir_file::DirFile;
 use crate::pace::Pace;
@@ -115,6 +115,13 @@ impl DirName {
             lens: 0,
             pace: Pace::new(),
         })
+    }
+
+    /// Whether a byte of it is 0: no file can have such a name.
+    pub(crate) fn has_zero(&self) -> bool
+        ensures { result ≡ has_zero self.now.name }
+    {
+        self.name.as_bytes().contains(&0)
     }
 
     /// The identity of the open file.

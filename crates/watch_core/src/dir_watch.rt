@@ -1,5 +1,9 @@
 ghost use Rattle.std.specs.Prelude.{◌≡◌, ◌≤◌, ◌∷◌, ◌++◌, [], false, IsTrue};
-ghost use Rattle.watch_core.specs.{DirWatchState.{DirWatchState, files_by, seen}, inner.DirWatchState.no_turns};
+ghost use Rattle.watch_core.specs.{
+  DirWatchState.{DirWatchState, files_by, seen},
+  Watched.{CanBreak, is_watchable},
+  inner.DirWatchState.no_turns,
+};
 
 use crate::dir_name::DirName;
 use crate::process::Process;
@@ -100,6 +104,14 @@ impl<R: Files<File = File> + Clock + Drop> DirWatch<R> {
             process: None,
             forgives: false,
         }
+    }
+
+    /// Whether the name at this place counts as missing where it can't be opened. One that no file can have doesn't.
+    fn forgives_at(&self, place: usize) -> bool
+        requires { IsTrue (is_watchable self.now.watched place) }
+        ensures { result ≡ false → CanBreak (seen self.now) self.now.watched place }
+    {
+        self.forgives && !self.names[place].has_zero()
     }
 }
 
@@ -280,7 +292,7 @@ impl<R: Files<File = File> + Clock + Drop> Watch for DirWatch<R> {
     }
 
     fn reopen(&mut self, place: usize) -> Result<bool, Fault> {
-        if self.forgives {
+        if self.forgives_at(place) {
             return Ok(self.names[place].open_forgiving(self.alloc, &self.runtime));
         }
         let Ok(is_there) = self.names[place].open(self.alloc, &self.runtime) else {

@@ -4,7 +4,8 @@ ghost use Rattle.std.specs.{
 };
 ghost use Rattle.watch_core.specs.{
   Snapshot.{Snapshot, Found, forgiving, holds_many, latest, leads_to, reads_as, waiting},
-  Watched.{Watched, Reopens, Finds, GaveFrom, watched_at, added, NameBreaks, is_watchable, is_readable, open_contents},
+  Watched.{Watched, CanBreak, Reopens, Finds, GaveFrom, watched_at, added, NameBreaks, is_watchable, is_readable},
+  Watched.open_contents,
 };
 
 use ports_core::{Fault, Reason};
@@ -34,7 +35,8 @@ pub enum Broken {
 /// Names that are watched in looks, each by its number, from 0 in the order in which they were added. What the names lead to and
 /// what the files hold changes only as a look begins, with `turn`. Of each name one file may be open, which stays what it is when
 /// the name comes to lead elsewhere. A name breaks at its first call that fails, and stays broken: no file of it is open from then on.
-/// A watch that forgives has no call that fails: a name that is there, but can't be opened or read, counts as missing.
+/// A watch that forgives has no call that fails on a name that a file can have: one that is there, but can't be opened or read, counts as
+/// missing.
 pub trait Watch {
     /// What each look so far could see, in order.
     ghost seen: { Self → List Snapshot };
@@ -80,8 +82,8 @@ pub trait Watch {
         ensures watched { watched self.new ≡ watched self.old }
         ensures seen { seen self.new ≡ seen self.old };
 
-    /// From now on a name that is there but can't be opened or read counts as missing, and no call on a name fails. Called before the
-    /// first look.
+    /// From now on a name that is there but can't be opened or read counts as missing, and no call fails but on a name with a byte 0,
+    /// which no file can have. Called before the first look.
     fn forgive(&mut self)
         requires { seen self.old ≡ [] }
         ensures shows { shows self.new ≡ (λ n. forgiving (shows self.old n)) }
@@ -104,7 +106,8 @@ pub trait Watch {
     ///
     /// # Errors
     ///
-    /// `Open` where that can't be told: the name is broken. Not where the watch forgives; nor do the calls below fail there.
+    /// `Open` where that can't be told: the name is broken. Not where the watch forgives and a file can have the name; nor do the
+    /// calls below fail there.
     fn look(&mut self, place: usize) -> Result<Option<Seen>, Fault>
         requires { IsTrue (is_watchable (watched self.old) place) }
         ensures ok { IfOk result (λ found. told ≡ true
@@ -116,7 +119,7 @@ pub trait Watch {
         ensures err { IfErr result
             (λ fault. (fault ≡ Fault.Open place)
             × NameBreaks (λ file. Broken.Look) place (watched self.old) (watched self.new)) }
-        ensures breaks { IfErr result (λ _. (latest (seen self.old)).breaks ≡ true) }
+        ensures breaks { IfErr result (λ _. CanBreak (seen self.old) (watched self.old) place) }
         ensures seen { seen self.new ≡ seen self.old }
         ensures shows { shows self.new ≡ shows self.old };
 
@@ -132,7 +135,7 @@ pub trait Watch {
         ensures err { IfErr result
             (λ fault. (fault ≡ Fault.Open place)
             × NameBreaks (λ file. Broken.Open) place (watched self.old) (watched self.new)) }
-        ensures breaks { IfErr result (λ _. (latest (seen self.old)).breaks ≡ true) }
+        ensures breaks { IfErr result (λ _. CanBreak (seen self.old) (watched self.old) place) }
         ensures seen { seen self.new ≡ seen self.old }
         ensures shows { shows self.new ≡ shows self.old };
 
@@ -162,7 +165,7 @@ pub trait Watch {
         ensures err { IfErr result
             (λ fault. (fault ≡ Fault.Read place)
             × NameBreaks (λ file. Broken.Len file) place (watched self.old) (watched self.new)) }
-        ensures breaks { IfErr result (λ _. (latest (seen self.old)).breaks ≡ true) }
+        ensures breaks { IfErr result (λ _. CanBreak (seen self.old) (watched self.old) place) }
         ensures seen { seen self.new ≡ seen self.old }
         ensures shows { shows self.new ≡ shows self.old };
 
@@ -186,7 +189,7 @@ pub trait Watch {
         ensures err { IfErr result
             (λ fault. (fault ≡ Fault.Read place)
             × NameBreaks (λ file. Broken.Read file from) place (watched self.old) (watched self.new)) }
-        ensures breaks { IfErr result (λ _. (latest (seen self.old)).breaks ≡ true) }
+        ensures breaks { IfErr result (λ _. CanBreak (seen self.old) (watched self.old) place) }
         ensures seen { seen self.new ≡ seen self.old }
         ensures shows { shows self.new ≡ shows self.old };
 }

@@ -2,19 +2,21 @@
 use Rattle.std.proofs.{
   lemmas.{
     Grind.common_steps,
+    List.map-append,
     Option.{get_or_from_slice_get, slice_get_cases, slice_get_within},
     Slice.Eq.bytes_eq-Decides,
+    Str.{IsUtf8-from_is_utf8, is_utf8-from_IsUtf8},
   },
   Math.{ListN.drop_of_length-le, Seq.drop-cons},
   Common.{◌≡◌, ℕ, Bool, true, false, List, [], ◌∷◌, ◌++◌, Option, Some, None, Result, Ok, Err, IfOk, if◌then◌else◌},
   Common.{codes, map, option_map, bytes_eq, string_bytes, refl, sym, ◌∙◌, ap, subst, arith, ◌+◌, ◌<◌, inl, inr},
-  Common.{length, drop, get_or, add-one},
+  Common.{length, drop, get_or, add-one, append_assoc},
 }
-use Rattle.std.specs.{List.slice_get, Str.IsUtf8}
+use Rattle.std.specs.{List.slice_get, Str.{IsUtf8, is_utf8, Lossy.utf8_lossy}}
 use Rattle.ports_core.specs.declared.tool.Tool.{Tool}
 use Rattle.words_core.specs.{
   declared.args.{Args.{Args}, ArgsFault.{ArgsFault}},
-  Called.{AreGiven, IsCalled, called_by, has_slash, last_part, tool_called, words_called},
+  Called.{AreGiven, IsCalled, called_by, has_slash, last_part, reads_any, text_of, tool_called, word_of, words_called},
   Table.{ToolRow, row_named, tools},
   Words.{tool_named},
 }
@@ -60,20 +62,48 @@ no_tool name none =
       ),
     ) none
 
+-- How an argument is read as a word.
+
+-- UTF-8 is its own text
+pub text_is : (tool : Option Tool) (argument : List ℕ) → IsUtf8 argument → argument ≡ word_of tool argument
+text_is tool argument text = own (reads_any tool) where
+  own : (any : Bool) → argument ≡ (if any then text_of argument else argument)
+  own true = rw (is_utf8-from_IsUtf8 argument text) refl
+  own false = refl
+
+no_text : (test : Bool) {argument : List ℕ} → (test ≡ true → IsUtf8 argument) → (IsUtf8 argument → ⊥) → test ≡ false
+no_text true text none = absurd (none (text refl))
+no_text false text none = refl
+
+-- and what isn't is marked, where it is read
+pub marked_is : (tool : Option Tool) (argument : List ℕ) {word : List ℕ} → reads_any tool ≡ true → (IsUtf8 argument → ⊥)
+    → word ≡ utf8_lossy argument ++ 0 ∷ [] → word ≡ word_of tool argument
+marked_is tool argument any none is =
+    rw (any, no_text (is_utf8 argument) (IsUtf8-from_is_utf8 argument) none) is
+
+-- one more is read
+pub read_on : (tool : Option Tool) (argument : List ℕ) (first read : List (List ℕ)) {words more : List (List ℕ)}
+    → words ≡ first ++ map (word_of tool) read → more ≡ words ++ word_of tool argument ∷ []
+    → more ≡ first ++ map (word_of tool) (read ++ argument ∷ [])
+read_on tool argument first read so_far is = is ∙ ap (λ words. words ++ word_of tool argument ∷ []) so_far
+    ∙ append_assoc first (map (word_of tool) read) (word_of tool argument ∷ [])
+    ∙ ap (λ rest. first ++ rest) (sym (map-append (word_of tool) read (argument ∷ [])))
+
 -- Of a program whose own name is given, and calls this tool, the first words and those that follow are all its words.
 pub all_words : (gives : ℕ → Option (List ℕ) → Type 0) {name : List ℕ} {tool : Option Tool} (first : Args)
     (result : Result Args ArgsFault)
     → gives 0 (Some name) → tool ≡ tool_called name
     → map string_bytes first.words.items ≡ words_called tool → first.calling ≡ called_by tool
     → IfOk result (λ args. (rest : List (List ℕ)) × AreGiven gives 1 rest
-    × (map string_bytes args.words.items ≡ map string_bytes first.words.items ++ rest))
+    × (map string_bytes args.words.items ≡ map string_bytes first.words.items ++ map (word_of tool) rest))
     → IfOk result (λ args. args.calling ≡ first.calling)
     → IfOk result (λ args. IsCalled gives args.calling (map string_bytes args.words.items))
-all_words gives {name} first (Ok args) given is words calling rest same = record {
+all_words gives {name} {tool} first (Ok args) given is words calling rest same = record {
   arguments = name ∷ rest.0;
   given = (given, rest.1);
   called = same ∙ calling ∙ ap called_by is;
-  read = rest.2 ∙ ap (λ words. words ++ rest.0) (words ∙ ap words_called is);
+  read = rest.2 ∙ ap (λ before. before ++ map (word_of tool) rest.0) words
+      ∙ ap (λ called. words_called called ++ map (word_of called) rest.0) is;
 }
 all_words gives first (Err fault) given is words calling rest same = tt
 

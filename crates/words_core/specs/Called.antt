@@ -1,12 +1,13 @@
 -- With which words a program was started, and how it was called.
 use Rattle.std.specs.{
-  Prelude.{◌≡◌, ℕ, ◌+◌, ◌==◌, ◌||◌, Bool, false, List, [], ◌∷◌, ◌++◌, take, Option, Some, None, Result, Ok, Err},
-  Prelude.{if◌then◌else◌, ⊤},
+  Prelude.{◌≡◌, ℕ, ◌+◌, ◌==◌, ◌||◌, Bool, true, false, List, [], ◌∷◌, ◌++◌, map, take, Option, Some, None, Result, Ok},
+  Prelude.{Err, if◌then◌else◌, ⊤},
+  Str.{is_utf8, Lossy.utf8_lossy},
   declared.env.FillError.{FillError, TheVariants.{NotPresent, TooLong}},
 }
 use Rattle.ports_core.specs.{
   Text.tool_name,
-  declared.{calling.Calling.{Calling, TheVariants.{Cutters, OwnName}}, tool.Tool.Tool},
+  declared.{calling.Calling.{Calling, TheVariants.{Cutters, OwnName}}, tool.Tool.{Tool, TheVariants.Csplit}},
 }
 use Rattle.words_core.specs.Words.{tool_named}
 
@@ -40,6 +41,22 @@ abbrev pub words_called : Option Tool → List (List ℕ)
 words_called (Some tool) = tool_name tool ∷ []
 words_called None = []
 
+-- How an argument is read as a word. Words are UTF-8, so an argument that isn't is no word; but by a tool's own name, other than
+-- `csplit`, it is one, which no file can have as its name: its text, and then a byte 0.
+
+-- the text of an argument: where it isn't UTF-8, U+FFFD stands for each part that isn't, and a byte 0 comes after it
+abbrev pub text_of : List ℕ → List ℕ
+text_of argument = if is_utf8 argument then argument else utf8_lossy argument ++ 0 ∷ []
+
+-- whether this tool, called by its own name, reads any argument
+abbrev pub reads_any : Option Tool → Bool
+reads_any None = false
+reads_any (Some Csplit) = false
+reads_any (Some tool) = true
+
+abbrev pub word_of : Option Tool → List ℕ → List ℕ
+word_of tool argument = if reads_any tool then text_of argument else argument
+
 -- What a program was started with: of the arguments the first is its own name, and the words are all others, after a
 -- tool's name where the own name calls one.
 
@@ -49,7 +66,7 @@ calling_of (name ∷ arguments) = called_by (tool_called name)
 
 abbrev pub words_of : List (List ℕ) → List (List ℕ)
 words_of [] = []
-words_of (name ∷ arguments) = words_called (tool_called name) ++ arguments
+words_of (name ∷ arguments) = words_called (tool_called name) ++ map (word_of (tool_called name)) arguments
 
 -- The arguments from this place on: each is one that may be given there, and past the last one none may.
 abbrev pub AreGiven : (ℕ → Option (List ℕ) → Type 0) → ℕ → List (List ℕ) → Type 0

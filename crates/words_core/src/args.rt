@@ -1,7 +1,10 @@
 //! The words that the program was started with. The system gives them as bytes.
-ghost use Rattle.std.specs.Prelude.{◌≡◌, ℕ, List, [], ◌∷◌, ◌++◌, Option, map, option_map, string_bytes, IfOk, ⊤};
+ghost use Rattle.std.specs.{
+  Prelude.{◌≡◌, ℕ, List, [], ◌∷◌, ◌++◌, Option, map, option_map, string_bytes, IfOk, ⊤},
+  Str.Lossy.utf8_lossy,
+};
 ghost use Rattle.words_core.specs.{
-  Called.{AreGiven, IsCalled, Tells, called_by, last_part, tool_called, without_hyphen, words_called},
+  Called.{AreGiven, IsCalled, Tells, called_by, last_part, reads_any, tool_called, without_hyphen, word_of, words_called},
 };
 
 use crate::words::find_tool;
@@ -24,7 +27,7 @@ pub struct Args {
 pub enum ArgsFault {
     /// Memory was asked for and refused.
     Memory,
-    /// The word at this place isn't UTF-8; the tool's name has the place 0.
+    /// The word at this place isn't UTF-8, and can't be read; the tool's name has the place 0.
     NotUtf8(usize),
 }
 
@@ -55,16 +58,16 @@ impl<E: Env> Arguments for E {
 }
 
 /// How the program was called, and its words, from the tool's name on. Where it is called by a tool's name, as through a link, that
-/// name is the first word.
+/// name is the first word, and a word that isn't UTF-8 is read as its text and a byte 0, but of `csplit`.
 ///
 /// # Errors
 ///
-/// `NotUtf8`: the first word that isn't text. `Memory` where there is no room for the words.
+/// `NotUtf8`: the first word that isn't UTF-8, where such words aren't read. `Memory` where there is no room for the words.
 pub fn read_args<A: Arguments>(arguments: &A, alloc: Global) -> Result<Args, ArgsFault>
     ensures { IfOk result (λ args. IsCalled (A.gives arguments.now) args.calling (map string_bytes args.words.items)) }
 {
-    let first = match read_argument(arguments, alloc, 0) {
-        Ok(Some(name)) => first_words(alloc, called_tool(&name)),
+    let tool = match read_argument(arguments, alloc, 0) {
+        Ok(Some(name)) => called_tool(&name),
         Ok(None) => {
             return Ok(Args {
                 calling: Calling::Cutters,
@@ -73,8 +76,8 @@ pub fn read_args<A: Arguments>(arguments: &A, alloc: Global) -> Result<Args, Arg
         }
         Err(AllocError) => return Err(ArgsFault::Memory),
     };
-    match first {
-        Ok(args) => read_rest(arguments, alloc, args),
+    match first_words(alloc, tool) {
+        Ok(args) => read_rest(arguments, alloc, tool, args),
         Err(AllocError) => Err(ArgsFault::Memory),
     }
 }
@@ -133,16 +136,21 @@ fn first_words(alloc: Global, tool: Option<Tool>) -> Result<Args, AllocError>
     })
 }
 
-/// These words, and after them the arguments that follow the program's own name.
-fn read_rest<A: Arguments>(arguments: &A, alloc: Global, first: Args) -> Result<Args, ArgsFault>
+/// These words, and after them the arguments that follow the program's own name, which calls this tool.
+fn read_rest<A: Arguments>(
+    arguments: &A,
+    alloc: Global,
+    tool: Option<Tool>,
+    first: Args,
+) -> Result<Args, ArgsFault>
     ensures words { IfOk result (λ args. (rest : List (List ℕ)) × AreGiven (A.gives arguments.now) 1 rest
-        × (map string_bytes args.words.items ≡ map string_bytes first.words.items ++ rest)) }
+        × (map string_bytes args.words.items ≡ map string_bytes first.words.items ++ map (word_of tool) rest)) }
     ensures calling { IfOk result (λ args. args.calling ≡ first.calling) }
 {
     let mut words = first.words;
     for place in 1..usize::MAX {
         match read_argument(arguments, alloc, place) {
-            Ok(Some(bytes)) => push_text(&mut words, bytes)?,
+            Ok(Some(bytes)) => push_word(alloc, tool, &mut words, bytes)?,
             Ok(None) => {
                 return Ok(Args {
                     calling: first.calling,
@@ -155,19 +163,60 @@ fn read_rest<A: Arguments>(arguments: &A, alloc: Global, first: Args) -> Result<
     Err(ArgsFault::Memory)
 }
 
-/// Puts an argument after the words, where it is text.
-fn push_text(words: &mut Vec<String>, bytes: Vec<u8>) -> Result<(), ArgsFault>
+/// Puts an argument after the words.
+fn push_word(
+    alloc: Global,
+    tool: Option<Tool>,
+    words: &mut Vec<String>,
+    bytes: Vec<u8>,
+) -> Result<(), ArgsFault>
     ensures { IfOk result (λ _. map string_bytes words.new.items
-        ≡ map string_bytes words.old.items ++ bytes.items ∷ []) }
+        ≡ map string_bytes words.old.items ++ word_of tool bytes.items ∷ []) }
 {
-    let place = words.len();
+    let word = read_word(alloc, tool, words.len(), bytes)?;
+    match words.push(word) {
+        Ok(()) => Ok(()),
+        Err(_) => Err(ArgsFault::Memory),
+    }
+}
+
+/// The word that an argument at this place is read as.
+fn read_word(
+    alloc: Global,
+    tool: Option<Tool>,
+    place: usize,
+    bytes: Vec<u8>,
+) -> Result<String, ArgsFault>
+    ensures { IfOk result (λ word. string_bytes word ≡ word_of tool bytes.items) }
+{
     match String::from_utf8(bytes) {
-        Ok(word) => match words.push(word) {
-            Ok(()) => Ok(()),
-            Err(_) => Err(ArgsFault::Memory),
+        Ok(word) => Ok(word),
+        Err(error) if reads_any(tool) => match marked(alloc, error.as_bytes()) {
+            Ok(word) => Ok(word),
+            Err(AllocError) => Err(ArgsFault::Memory),
         },
         Err(_) => Err(ArgsFault::NotUtf8(place)),
     }
+}
+
+/// Whether this tool, called by its own name, reads any argument. An operand of `csplit` may be a pattern.
+fn reads_any(tool: Option<Tool>) -> bool
+    ensures { result ≡ reads_any tool }
+{
+    match tool {
+        None => false,
+        Some(Tool::Csplit) => false,
+        Some(_) => true,
+    }
+}
+
+/// The text of bytes that aren't UTF-8, and after it the byte 0, by which no file can have this name.
+fn marked(alloc: Global, bytes: &[u8]) -> Result<String, AllocError>
+    ensures { IfOk result (λ word. string_bytes word ≡ utf8_lossy bytes.now ++ 0 ∷ []) }
+{
+    let mut word = String::from_utf8_lossy(alloc, bytes)?;
+    word.push('\0')?;
+    Ok(word)
 }
 
 /// The argument at this place, in a buffer that doubles until it fits.

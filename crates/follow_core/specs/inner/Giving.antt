@@ -101,7 +101,7 @@ pub data WereFound (Tells : Notice → Type 0) (Starts : Option ℕ → ℕ → 
     (fate : Fate) : Option Stop → List Event → Type 0 where
   found_all : {events : List Event} → AllGive Tells (IsWhole Starts snapshot name sound) events
       → WereFound Tells Starts snapshot name fate None events
-  found_before : {events : List Event} {why : Fault} → snapshot.breaks ≡ true
+  found_before : {events : List Event} {why : Fault} → snapshot.breaks name ≡ true
       → AllGive Tells (IsWhole Starts snapshot name fate) events
       → WereFound Tells Starts snapshot name fate (Some (Broke why)) events
   found_begun : {events : List Event} {why : Fault} (all : List Event) → Begins events all

@@ -20,7 +20,7 @@ pub returns-clause-found : goal.returns-clause-found
 returns-clause-found c = search (rules, finds_any)
 
 pub returns-then-refuses-clause-breaks : goal.returns-then-refuses-clause-breaks
-returns-then-refuses-clause-breaks c = may_break c.args.self.now (c.refuses.ensures.forgives c.if-refuses.true)
+returns-then-refuses-clause-breaks c = may_break c.args.self.now _ (c.refuses.ensures.forgives c.if-refuses.true)
 
 pub returns-then-refuses-clause-err : goal.returns-then-refuses-clause-err
 returns-then-refuses-clause-err c =

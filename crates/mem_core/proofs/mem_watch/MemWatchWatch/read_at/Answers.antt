@@ -12,4 +12,4 @@ pub returns-clause-found : goal.returns-clause-found
 returns-clause-found c = search (rules, finds_any)
 
 pub returns-then-fails-clause-breaks : goal.returns-then-fails-clause-breaks
-returns-then-fails-clause-breaks c = may_break c.args.self.now (c.fails.ensures.forgives c.if-fails.true)
+returns-then-fails-clause-breaks c = may_break c.args.self.now _ (c.fails.ensures.forgives c.if-fails.true)

@@ -21,7 +21,7 @@ returns-clause-ok c =
     c.open.ensures.opened c.open.ensures.found
 
 pub returns-then-refuses-clause-breaks : goal.returns-then-refuses-clause-breaks
-returns-then-refuses-clause-breaks c = may_break c.args.self.now (c.refuses.ensures.forgives c.if-refuses.true)
+returns-then-refuses-clause-breaks c = may_break c.args.self.now _ (c.refuses.ensures.forgives c.if-refuses.true)
 
 pub returns-then-refuses-clause-err : goal.returns-then-refuses-clause-err
 returns-then-refuses-clause-err c =

@@ -1,4 +1,4 @@
-use Rattle.std.proofs.Common.{rules, refl}
+use Rattle.std.proofs.Common.{inl, refl, rules}
 use Rattle.watch_core.{
   specs.{declared.watch.Broken.TheVariants.Look, Watched.breaks},
   proofs.DirWatchLemmas.{finds_any, may_break, one_changes},
@@ -15,7 +15,7 @@ pub returns-clause-found : goal.returns-clause-found
 returns-clause-found g c = search (rules, finds_any)
 
 pub returns-in_default-clause-breaks : goal.returns-in_default-clause-breaks
-returns-in_default-clause-breaks g c = may_break c.self.view_is c.if-self.false
+returns-in_default-clause-breaks g c = may_break _ c.self.view_is (inl c.if-self.false)
 
 pub returns-then-self-clause-found : goal.returns-then-self-clause-found
 returns-then-self-clause-found g c = search (rules, finds_any)

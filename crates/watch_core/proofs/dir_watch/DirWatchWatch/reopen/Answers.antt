@@ -1,7 +1,7 @@
 use Rattle.std.proofs.Common.{refl}
 use Rattle.watch_core.{
   specs.{declared.watch.Broken.TheVariants.Open, Watched.breaks},
-  proofs.DirWatchLemmas.{finds_any, may_break, one_changes, opened_some},
+  proofs.DirWatchLemmas.{finds_any, one_changes, opened_some},
 }
 use Rattle.watch_core.proofs.dir_watch.DirWatchWatch.reopen.Goals as goal
 
@@ -15,7 +15,7 @@ pub returns-clause-ok : goal.returns-clause-ok
 returns-clause-ok g c = opened_some _ c.self.view_is c.requires c.index_mut-2.ensures.value c.in-Ok.ensures.opened c.in-Ok.ensures.found (finds_any c.args.self.now.forgives c.args.self.now.within c.args.self.now.turns _ _)
 
 pub returns-in_default-clause-breaks : goal.returns-in_default-clause-breaks
-returns-in_default-clause-breaks g c = may_break c.self.view_is c.if-self.false
+returns-in_default-clause-breaks g c = c.forgives_at.ensures c.if-forgives_at.false
 
-pub returns-then-self-clause-ok : goal.returns-then-self-clause-ok
-returns-then-self-clause-ok g c = opened_some _ c.self.view_is c.requires c.index_mut.ensures.value c.open_forgiving.ensures.opened c.open_forgiving.ensures.found (finds_any c.args.self.now.forgives c.args.self.now.within c.args.self.now.turns _ _)
+pub returns-then-forgives_at-clause-ok : goal.returns-then-forgives_at-clause-ok
+returns-then-forgives_at-clause-ok g c = opened_some _ c.self.view_is c.requires c.index_mut.ensures.value c.open_forgiving.ensures.opened c.open_forgiving.ensures.found (finds_any c.args.self.now.forgives c.args.self.now.within c.args.self.now.turns _ _)
