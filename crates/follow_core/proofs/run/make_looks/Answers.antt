@@ -11,7 +11,7 @@ loop-made-init g c = record {
   count = ap length c.requires.unseen;
   left = λ t. let all : c.args.limits.looks - 0 ≡ c.args.limits.looks = omega arith in rw all (omega arith);
   can = c.requires.can;
-  error = c.requires.error;
+  print = c.requires.print;
   shows = refl;
   progress = λ calling ways headers names first holds. record {
     looks = [];
