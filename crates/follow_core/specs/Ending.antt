@@ -5,11 +5,11 @@ use Rattle.std.specs.{
 }
 use Rattle.ports_core.specs.{
   Message.{SaysOn, TellsOn, output_reason},
-  Slot.Slot,
+  Slot.{Slot, with_broken},
   Text.{message_of, status_after},
   declared.{
     calling.Calling.{Calling, TheVariants.OwnName},
-    reason.Reason.Reason,
+    reason.Reason.{Reason, TheVariants.Gone},
     fault.Fault.{Fault, TheVariants.Memory},
   },
 }
@@ -80,8 +80,9 @@ pub record AreMost (told_in : Bool) (process : Option ℕ) (shows : ℕ → Snap
 
 -- A run ended so: these looks and no others were made, as many as were asked for, or those after which nothing more can
 -- come, and the outputs have exactly what they give; or a look was stopped, and the outputs have all of the looks
--- before it, a beginning of it, and the message, but of a reader that is gone where none is due; or there was no memory
--- to begin, and no look was made.
+-- before it, a beginning of it, and the message, but of a reader that is gone where none is due; or `tail` was called by
+-- its own name, and before a look that could give something nobody read standard output any more: it has exactly what
+-- the looks before give, and nothing is told; or there was no memory to begin, and no look was made.
 pub data FollowEndsAs (told_in told : Bool) (calling : Calling) (ways : Ways) (headers : Bool)
     (names : List (List ℕ)) (count : ℕ) (shows : ℕ → Snapshot) (first : List Slot) (seen : List Snapshot)
     (watched : List Watched) (new : List Slot) (status : ℕ) : Type 0 where
@@ -95,6 +96,14 @@ pub data FollowEndsAs (told_in told : Bool) (calling : Calling) (ways : Ways) (h
   stopped : (mid : List Slot) (fault : Fault)
       → StoppedIn told_in told calling ways headers names count shows first seen watched mid fault
       → TellsOn told (tail_by calling) fault mid new → status ≡ status_after fault calling (output_reason mid fault)
+      → FollowEndsAs told_in told calling ways headers names count shows first seen watched new status
+  unread : (looks : List Look) (shares : List Share) (before : List Slot) → calling ≡ OwnName
+      → seen ≡ snapshots looks → AreWatched ways looks names watched
+      → Made told_in ways names shows looks → length looks < count
+      → (told_in ≡ true → 0 < length looks → is_alive ways names looks ≡ true)
+      → (told_in ≡ true → shares ≡ shares_of ways names looks) → AreFound ways names looks shares
+      → Wrote told calling (made_of headers shares).out (made_of headers shares).messages first before
+      → new ≡ with_broken Gone 0 before → status ≡ 141
       → FollowEndsAs told_in told calling ways headers names count shows first seen watched new status
   no_room : (why : Reason) → seen ≡ [] → watched ≡ []
       → SaysOn told (tail_by calling) why (message_of Memory []) first new

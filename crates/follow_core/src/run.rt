@@ -1,10 +1,13 @@
 //! A whole run of following.
-ghost use Rattle.std.specs.Prelude.{◌≡◌, [], ℕ, Bool, List, true, length, map, IfErr, IsTrue, OnOk};
-ghost use Rattle.ports_core.specs.{Slot.{Slot, streams}, declared.calling.Calling.Calling};
+ghost use Rattle.std.specs.Prelude.{◌≡◌, [], ℕ, Bool, List, true, false, length, map, IfErr, IsTrue, Ok};
+ghost use Rattle.ports_core.specs.{
+  Slot.{Slot, streams, is_writable, with_broken},
+  declared.{calling.Calling.Calling, reason.Reason.TheVariants.Gone},
+};
 ghost use Rattle.follow_core.specs.{
-  Sharing.HasError,
+  Sharing.{CanPrint, HasError},
   Ending.{AreMost, FollowEndsBy, StoppedIn, is_over, shows_by},
-  inner.Visits.LookedAll,
+  inner.Visits.{LookedAll, FoundUnread},
   FollowState.{CanLook, Holds},
   Look.{Ways, ways_of},
 };
@@ -24,10 +27,26 @@ pub struct Limits {
     pub process: Option<u32>,
 }
 
+/// The output that is written.
+const STANDARD_OUTPUT: usize = 0;
+
+/// The status that a shell gives for a tool which the signal stopped of a reader that is gone.
+const UNREAD: u8 = 141;
+
+/// How looks came to their end, where no fault stopped one.
+#[derive(Clone, Copy)]
+enum End {
+    /// As many were made as were asked for, or no further one can give anything.
+    Looked,
+    /// Nobody reads standard output any more.
+    Unread,
+}
+
 /// A whole run of `tail` that follows these names (POSIX.1-2017, XCU tail, `-f`; GNU's `--follow=name` too): looks, one directly
 /// after another, up to the limits. It ends sooner where after a look no further one can give anything. Its status is 1 where a name was
 /// missing at the first look or failed, or a fault ended following, and else 0; where `tail` was called by its own name and the reader
-/// of its output is gone, 141.
+/// of its output is gone, 141. Called so, it asks before each look whether standard output is still read, and ends without a word
+/// where it isn't.
 ///
 /// Standard output has exactly what the looks saw: of each file the part that `start` says, then what it has past the length that the
 /// look before saw; all of a file that was truncated, that came back, or that the name leads to in place of another. Standard error has
@@ -61,8 +80,9 @@ pub fn follow_files<W: Watch, O: Outs>(
         Err(fault) => return tell(alloc, speaker, &fault, outs),
     };
     forgive_by(calling, by_name, watch);
-    match make_looks(&mut follow, limits, watch, outs) {
-        Ok(()) => u8::from(follow.failed()),
+    match make_looks(calling, &mut follow, limits, watch, outs) {
+        Ok(End::Looked) => u8::from(follow.failed()),
+        Ok(End::Unread) => UNREAD,
         Err(fault) => tell(alloc, speaker, &fault, outs),
     }
 }
@@ -80,24 +100,32 @@ fn forgive_by<W: Watch>(calling: Calling, by_name: bool, watch: &mut W)
     }
 }
 
-/// Makes looks up to the limits, or ends sooner, where after a look no further one can give anything.
+/// Makes looks up to the limits, or ends sooner, where after a look no further one can give anything, or where `tail` was called by
+/// its own name and nobody reads standard output any more.
 ///
 /// # Errors
 ///
 /// As `Follow::look`.
 fn make_looks<W: Watch, O: Outs>(
+    calling: Calling,
     follow: &mut Follow,
     limits: Limits,
     watch: &mut W,
     outs: &mut O,
-) -> Result<(), Fault>
+) -> Result<End, Fault>
     requires unseen { W.seen watch.old ≡ [] }
     requires can { CanLook follow.old (W.watched watch.old) (O.slots outs.old) }
-    requires error { HasError (O.slots outs.old) }
-    ensures looked { OnOk result ((most : ℕ) × AreMost W.told limits.process (W.shows watch.old) limits.looks most
+    requires print { CanPrint (O.slots outs.old) }
+    ensures looked { result ≡ Ok End.Looked → ((most : ℕ) × AreMost W.told limits.process (W.shows watch.old) limits.looks most
         × ((calling : Calling) (ways : Ways) (headers : Bool) (names : List (List ℕ)) (first : List Slot)
         → Holds W.told O.told calling ways headers names [] first follow.old (W.watched watch.old) (O.slots outs.old)
         → LookedAll W.told O.told calling ways headers names most (W.shows watch.old) first follow.new
+        (W.seen watch.new) (W.watched watch.new) (O.slots outs.new))) }
+    ensures unread { result ≡ Ok End.Unread → (calling ≡ Calling.OwnName)
+        × ((most : ℕ) × AreMost W.told limits.process (W.shows watch.old) limits.looks most
+        × ((calling : Calling) (ways : Ways) (headers : Bool) (names : List (List ℕ)) (first : List Slot)
+        → Holds W.told O.told calling ways headers names [] first follow.old (W.watched watch.old) (O.slots outs.old)
+        → FoundUnread W.told O.told calling ways headers names most (W.shows watch.old) first follow.new
         (W.seen watch.new) (W.watched watch.new) (O.slots outs.new))) }
     ensures stopped { IfErr result
         (λ why. (most : ℕ) × AreMost W.told limits.process (W.shows watch.old) limits.looks most
@@ -105,23 +133,39 @@ fn make_looks<W: Watch, O: Outs>(
         → Holds W.told O.told calling ways headers names [] first follow.old (W.watched watch.old) (O.slots outs.old)
         → StoppedIn W.told O.told calling ways headers names most (W.shows watch.old) first (W.seen watch.new)
         (W.watched watch.new) (O.slots outs.new) why)) }
-    ensures error { HasError (O.slots outs.new) }
+    ensures error { IfErr result (λ _. HasError (O.slots outs.new)) }
 {
     let mut made = 0;
     while made < limits.looks {
+        if is_unread(calling, outs) {
+            return Ok(End::Unread);
+        }
         let is_last = has_ended(limits.process, watch);
         if let Err(fault) = follow.look(watch, outs) {
             return Err(fault);
         }
         made += 1;
         if !follow.alive() {
-            return Ok(());
+            return Ok(End::Looked);
         }
         if is_last {
-            return Ok(());
+            return Ok(End::Looked);
         }
     }
-    Ok(())
+    Ok(End::Looked)
+}
+
+/// Whether nobody reads standard output any more, which is asked where `tail` was called by its own name. It breaks then.
+fn is_unread<O: Outs>(calling: Calling, outs: &mut O) -> bool
+    requires { IsTrue (is_writable (O.slots outs.old) 0) }
+    ensures read { result ≡ false → O.slots outs.new ≡ O.slots outs.old }
+    ensures unread { IsTrue result
+        → (calling ≡ Calling.OwnName) × (O.slots outs.new ≡ with_broken Gone 0 (O.slots outs.old)) }
+{
+    match calling {
+        Calling::OwnName => outs.still_read(STANDARD_OUTPUT).is_err(),
+        Calling::Cutters => false,
+    }
 }
 
 /// Whether the process that is waited for is gone, before the next look.

@@ -140,6 +140,8 @@ pub struct MemOut {
     most: usize,
     /// The number of calls from now to the one that fails, which is counted too. None where none is to fail.
     failing_in: Option<u64>,
+    /// The same of calls of `still_read`, to the one that finds no reader.
+    unread_in: Option<u64>,
 }
 
 impl Model for MemOut {
@@ -168,6 +170,7 @@ impl MemOut {
             causes: Vec::new(alloc),
             most: usize::MAX,
             failing_in: None,
+            unread_in: None,
         })
     }
 
@@ -211,6 +214,14 @@ impl MemOut {
         ensures { self.new ≡ self.old }
     {
         self.failing_in = Some(call);
+    }
+
+    /// Makes one of the calls of `still_read` find that nobody reads the output, counted from here on; the next one has the
+    /// number 1. All others find a reader.
+    pub fn unread_at(&mut self, call: u64)
+        ensures { self.new ≡ self.old }
+    {
+        self.unread_in = Some(call);
     }
 
     /// Whether the file of an output was removed; false where there is no output of that number.
@@ -293,6 +304,14 @@ impl Outs for MemOut {
             return Err(Fault::Write(slot));
         };
         Ok(taken)
+    }
+
+    fn still_read(&mut self, slot: usize) -> Result<(), Fault> {
+        if fails(&mut self.unread_in) {
+            self.slots.kept[slot].break_off(Reason::Gone);
+            return Err(Fault::Write(slot));
+        }
+        Ok(())
     }
 
     fn close(&mut self, slot: usize) -> Result<(), Fault> {

@@ -13,7 +13,7 @@ use std::rt::Files;
 pub(crate) const STANDARD_INPUT: &str = "/proc/self/fd/0";
 
 /// The same for standard output.
-const STANDARD_OUTPUT: &str = "/proc/self/fd/1";
+pub(crate) const STANDARD_OUTPUT: &str = "/proc/self/fd/1";
 
 /// What an input is that was opened.
 #[derive(Clone, Copy)]

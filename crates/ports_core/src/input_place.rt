@@ -39,7 +39,7 @@ fn place_in(state: &str) -> Option<u64>
 }
 
 /// Reads until the buffer is full or the source has ended, and returns how many bytes that gave. None where a read fails.
-fn fill(source: &mut impl Read, buffer: &mut [u8]) -> Option<usize>
+pub(crate) fn fill(source: &mut impl Read, buffer: &mut [u8]) -> Option<usize>
     ensures { IfSome result (λ count. count ≤ length buffer.old) }
 {
     let mut count = 0;

@@ -5,6 +5,7 @@
 mod ahead;
 mod alphabet;
 mod calling;
+mod clock;
 mod dir_in;
 mod dir_out;
 mod dir_slot;
@@ -24,6 +25,9 @@ mod naming;
 mod numbering;
 mod on_broken;
 mod outs;
+mod pipe_links;
+mod process_state;
+mod readers;
 mod reason;
 mod slot;
 mod slots;
@@ -37,6 +41,7 @@ mod whole;
 
 pub use alphabet::Alphabet;
 pub use calling::{Calling, Speaker};
+pub use clock::time_of;
 pub use dir_in::DirIn;
 pub use dir_out::DirOut;
 pub use fault::{Fault, UsageKind};

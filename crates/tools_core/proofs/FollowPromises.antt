@@ -7,7 +7,7 @@ use Rattle.std.proofs.{
 }
 use Rattle.watch_core.specs.{Snapshot.{Snapshot, waiting}, Watched.Watched}
 use Rattle.follow_core.specs.{
-  Ending.{seen_first, FollowEndsAs, looked, no_room, stopped},
+  Ending.{seen_first, FollowEndsAs, looked, no_room, stopped, unread},
   Gain.gains_later,
   Run.{AreKept, name_text},
   Version.{Entry, entries_later, entries_of, open_after, open_after_later, version_in},
@@ -19,7 +19,7 @@ use Rattle.follow_core.specs.{
 use Rattle.follow_core.proofs.{AgreeLemmas.grown, RunLemmas.text_is_gains, LookLemmas.{failed_sound, looks_give_text}}
 use Rattle.tools_core.{
   specs.Promises.{OnlyGrows, Follows, IsBare, IsOfProgram, Run, showing},
-  specs.Following.{is_name, start_of},
+  specs.Following.{is_name, pause_by, start_of},
   specs.Program.{ProgramEndsAt, looks_at},
   specs.Tasks.{is_plus},
   proofs.LeftLemmas.{status_some},
@@ -179,11 +179,12 @@ wrote_text : {calling : Calling} (ways : Ways) (name : List ℕ) (shows : ℕ �
 wrote_text ways name shows count seen watched new keeps_bytes (looked looks shares seen_is broken made few full are found leaves) =
     grind (arith, common_steps, wrote_all, looks_give_text)
 wrote_text ways name shows count seen watched new keeps_bytes (stopped mid fault stop says failed) = absurd (status_some fault _ _ (sym failed))
+wrote_text ways name shows count seen watched new keeps_bytes (unread looks shares before own seen_is broken made few alive are found wrote is failed) = absurd (omega (arith, failed))
 wrote_text ways name shows count seen watched new keeps_bytes (no_room why unseen unwatched says failed) = absurd (omega (arith, failed))
 
 -- each look of it, which begins within the pause that it asks for
 abbrev pub paused : Run → Followed → (pause : ℕ) → ℕ → Snapshot
-paused run followed pause n = waiting (max pause 1) (showing run followed n)
+paused run followed pause n = waiting (max (pause_by run.calling pause) 1) (showing run followed n)
 
 pub follows_text : {run : Run} {count : ℕ} {options : EndsAsked} {followed : Followed} {name : List ℕ}
     → (follows : Follows run count options followed) → IsBare options

@@ -41,7 +41,7 @@ use Rattle.tools_core.specs.{
   Outcome.{speaker, RefusesFor, RunEndsAt, names_at},
   Tasks.{by, speaker_of, tool_of},
   About.{TellsText, no_text, text_cut},
-  Following.{FollowingEnds, FollowingEndsAt, FollowsTail, is_name},
+  Following.{FollowingEnds, FollowingEndsAt, FollowsTail, is_name, pause_by},
   Program.{ProgramEnds, ProgramEndsAt, looks_at},
 }
 use Rattle.run_core.{
@@ -257,7 +257,7 @@ module _ (calling : Calling) (told_in told : Bool) (words : List (List ℕ)) (lo
   unread_tail asked None speaks refuses = (unseen, unwatched, refused_memory words (Usage BadFollow 0) refuses)
   unread_tail asked (Some followed) speaks refuses =
       let (most, are, above) = most_made told_in asked.process
-      (λ n. waiting (max asked.pause 1) (shows_by calling (is_name followed) shows n)) looks 0 (omega arith) (λ t. omega arith) in
+      (λ n. waiting (max (pause_by calling asked.pause) 1) (shows_by calling (is_name followed) shows n)) looks 0 (omega arith) (λ t. omega arith) in
       let (why, says) = worded_by calling speaks refuses.says in
       ends_by asked.process most are (no_room_yet why unseen unwatched
       (λ output error since are. let is_error : standard_error ≡ error = ap (λ (slots : List Slot). slot_at slots 1) are in (

@@ -1,9 +1,9 @@
 -- What a run of `tail` leaves that follows its files, by its words: POSIX.1-2017, XCU tail, `-f`; names that are
 -- followed are GNU's.
-use Rattle.std.specs.Prelude.{◌≡◌, ℕ, max, Bool, true, false, List, [], Option, Some, None, Result, Ok, Err, ◌⊎◌}
+use Rattle.std.specs.Prelude.{◌≡◌, ℕ, max, min, Bool, true, false, List, [], Option, Some, None, Result, Ok, Err, ◌⊎◌}
 use Rattle.ports_core.specs.{
   Slot.{Slot, streams},
-  declared.{calling.Calling.Calling, fault.{Fault.{Fault, TheVariants.Usage}, UsageKind.TheVariants.BadFollow}},
+  declared.{calling.Calling.{Calling, TheVariants.{Cutters, OwnName}}, fault.{Fault.{Fault, TheVariants.Usage}, UsageKind.TheVariants.BadFollow}},
 }
 use Rattle.watch_core.specs.{Snapshot.{Snapshot, waiting}, Watched.Watched}
 use Rattle.follow_core.specs.{declared.start.Start.Start, Ending.{FollowEndsBy, shows_by}, Look.ways_of}
@@ -31,15 +31,21 @@ abbrev pub is_name : Followed → Bool
 is_name Descriptor = false
 is_name Name = true
 
+-- past how many milliseconds the watch doesn't rest before a look, where this pause is asked for: by its own name `tail`
+-- asks before each look whether its output is still read
+abbrev pub pause_by : Calling → ℕ → ℕ
+pause_by OwnName pause = min pause 500
+pause_by Cutters pause = pause
+
 -- these files are followed, in as many looks or until the process is gone that is asked for, and the run ends so that
--- it gave exactly what these looks give; each shows the pause that is asked for, 1 ms at least, past which the watch
--- doesn't rest before it; by its own name `tail` that follows names takes one that can't be read for one that is missing
+-- it gave exactly what these looks give; each shows that pause, 1 ms at least; by its own name `tail` that follows names
+-- takes one that can't be read for one that is missing
 abbrev pub FollowsAs : Calling → (told_in told : Bool) → TailSettings → Followed → (looks : ℕ)
     → (ℕ → Snapshot) → List Snapshot → List Watched → List Slot → (status : ℕ) → Type 0
 FollowsAs calling told_in told asked followed looks shows seen watched new status =
     FollowEndsBy asked.process told_in told calling (ways_of 0 (is_name followed) (start_of asked.ends))
     (has_headers asked.ends.headers asked.ends.names) asked.ends.names looks
-    (λ n. waiting (max asked.pause 1) (shows_by calling (is_name followed) shows n)) streams seen watched new status
+    (λ n. waiting (max (pause_by calling asked.pause) 1) (shows_by calling (is_name followed) shows n)) streams seen watched new status
 
 -- the words are refused for this, and no name was watched and no look made
 abbrev pub RefusesUnseen : Bool → List (List ℕ) → Fault → List Snapshot → List Watched → List Slot → ℕ → Type 0

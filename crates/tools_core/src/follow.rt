@@ -2,7 +2,7 @@
 ghost use Rattle.std.specs.Prelude.{◌≡◌, [], Ok, map};
 ghost use Rattle.ports_core.specs.Slot.{streams};
 ghost use Rattle.words_core.specs.Words.{HasOperands};
-ghost use Rattle.tools_core.specs.Following.{FollowingEnds, FollowingEndsAt, FollowsAs, is_name, start_of};
+ghost use Rattle.tools_core.specs.Following.{FollowingEnds, FollowingEndsAt, FollowsAs, is_name, pause_by, start_of};
 
 use crate::ends::{has_headers, is_plus};
 use crate::run::refuse_words;
@@ -14,6 +14,9 @@ use words_core::{EndsSettings, Followed, Settings, TailSettings, read_words};
 
 /// What is wrong with words that follow nothing.
 const NOT_FOLLOWED: Fault = Fault::Usage(UsageKind::BadFollow, 0);
+
+/// How many milliseconds pass at most until a reader that is gone is seen to be.
+const READER_PAUSE: u64 = 500;
 
 /// Runs `tail` over the files that the words name, and follows them: `looks` looks, one directly after another, or fewer where
 /// after one nothing more can come, or where the words name a process that is gone. It writes what each look finds, and says what
@@ -90,7 +93,7 @@ fn follow_tail<W: Watch, O: Outs>(
     ensures { FollowsAs calling W.told O.told settings.now followed looks (W.shows watch.old)
         (W.seen watch.new) (W.watched watch.new) (O.slots outs.new) result }
 {
-    watch.wait_at_most(settings.pause);
+    watch.wait_at_most(pause_by(calling, settings.pause));
     let limits = Limits {
         looks,
         process: settings.process,
@@ -106,6 +109,17 @@ fn follow_tail<W: Watch, O: Outs>(
         watch,
         outs,
     )
+}
+
+/// How many milliseconds a look is waited for at most, where this many are asked for: before each one `tail` asks by its own name whether
+/// its output is still read.
+fn pause_by(calling: Calling, pause: u64) -> u64
+    ensures { result ≡ pause_by calling pause }
+{
+    match calling {
+        Calling::OwnName => pause.min(READER_PAUSE),
+        Calling::Cutters => pause,
+    }
 }
 
 /// The part of a file that the first look writes.

@@ -8,7 +8,7 @@ ghost use Rattle.watch_core.specs.{
 use crate::dir_name::DirName;
 use crate::process::Process;
 use crate::{Seen, Watch};
-use ports_core::{Fault, Reason};
+use ports_core::{Fault, Reason, time_of};
 use std::alloc::Global;
 use std::fs::File;
 use std::marker::Model;
@@ -159,7 +159,7 @@ fn forgive_all(names: &mut Vec<DirName>)
 }
 
 /// Waits until a name has changed, something came of a stream or this process is gone, `most` milliseconds at most where no stream is
-/// waited for. Returns how many it paused.
+/// waited for. Returns how many it paused. Where the clock tells nothing, each name is always due.
 fn wait<R: Files<File = File> + Clock>(
     alloc: Global,
     runtime: &R,
@@ -185,14 +185,6 @@ fn wait<R: Files<File = File> + Clock>(
     }
     next_due(alloc, runtime, names, time_of(runtime));
     rested
-}
-
-/// What the clock tells, in milliseconds. Where it tells nothing, the greatest number: then each name is always due.
-fn time_of(clock: &impl Clock) -> u64 {
-    match clock.monotonic() {
-        Ok(time) => u64::try_from(time.as_millis()).unwrap_or(u64::MAX),
-        Err(_) => u64::MAX,
-    }
 }
 
 /// Whether the end of this process is waited for.

@@ -23,10 +23,10 @@ use Rattle.follow_core.specs.{
   Ending.Made,
 }
 use Rattle.ports_core.specs.{
-  Slot.{Slot, changed_at},
+  Slot.{Slot, changed_at, with_broken},
   Message.SaysOn,
   Text.message_of,
-  declared.{calling.Calling.Calling, reason.Reason.Reason, fault.Fault.Fault},
+  declared.{calling.Calling.Calling, reason.Reason.{Reason, TheVariants.Gone}, fault.Fault.Fault},
 }
 use Rattle.watch_core.specs.{Snapshot.Snapshot, Watched.{Watched, opens, watched_at, added}}
 
@@ -204,3 +204,18 @@ pub record LookedAll (told_in told : Bool) (calling : Calling) (ways : Ways) (he
   pub over : length looks < count → (0 < length looks) × (told_in ≡ true → is_alive ways names looks ≡ false)
       × NoneGoesOn ways watched
   pub holds : Holds told_in told calling ways headers names looks first follow watched slots
+
+-- Fewer looks were made, after which a further one could give something; then it was found that nobody reads standard
+-- output any more, and nothing was written but what these give.
+pub record FoundUnread (told_in told : Bool) (calling : Calling) (ways : Ways) (headers : Bool)
+    (names : List (List ℕ)) (count : ℕ)
+    (shows : ℕ → Snapshot) (first : List Slot) (follow : FollowState) (seen : List Snapshot) (watched : List Watched)
+    (slots : List Slot) : Type 0 where
+  pub looks : List Look
+  pub observed : seen ≡ snapshots looks
+  pub made : Made told_in ways names shows looks
+  pub fewer : length looks < count
+  pub alive : told_in ≡ true → 0 < length looks → is_alive ways names looks ≡ true
+  pub before : List Slot
+  pub broke : slots ≡ with_broken Gone 0 before
+  pub holds : Holds told_in told calling ways headers names looks first follow watched before

@@ -1,17 +1,17 @@
 use Rattle.ports_core.{proofs.Runs.as_status, specs.declared.reason.Reason.TheVariants.Other}
-use Rattle.std.proofs.Common.{Bor, arith, ℕ, List, map, ◌∙◌, ap, sym, if◌then◌else◌}
+use Rattle.std.proofs.Common.{Bor, arith, ℕ, List, map, ◌∙◌, ap, sym, refl, if◌then◌else◌}
 use Rattle.follow_core.{
-  specs.{Ending.{stopped, looked, no_room, shows_by}, Look.ways_of},
+  specs.{Ending.{stopped, looked, unread, no_room, shows_by}, Look.ways_of},
   proofs.LookedLemmas.{ends_by, most_made, open_holds, watched_are},
 }
 use Rattle.follow_core.proofs.run.follow_files.Goals as goal
 
-pub returns-in-Ok-make_looks : goal.returns-in-Ok-make_looks
-returns-in-Ok-make_looks g c =
+pub returns-in-Ok-Looked : goal.returns-in-Ok-Looked
+returns-in-Ok-Looked g c =
     let names : List (List ℕ) = map (λ (name : Bor (List ℕ)). name.now) c.args.names.now in
     let ways = ways_of 0 c.args.by_name c.args.start in
     let slots = g.O.Outs.slots c.args.outs.now in
-    let (most, are, gave) = c.in-Ok-make_looks.ensures.looked in
+    let (most, are, gave) = c.make_looks.ensures.looked (rw c.in-Ok-Looked.field-0-is at c.in-Ok-Looked.is) in
     let all = gave c.args.calling ways c.args.headers names slots
     (open_holds c.in-Ok.ensures.ok (c.forgive_by.ensures.watched ∙ c.requires.unwatched)) in
     rw (← c.forgive_by.ensures.shows) (ends_by c.args.limits.process most are
@@ -20,6 +20,18 @@ returns-in-Ok-make_looks g c =
       wrote = all.holds.shared.slots;
       status_is = c.from.ensures ∙ as_status c.failed.result ∙ ap (λ those. if those then 1 else 0) (c.failed.ensures ∙ sym all.holds.failed);
     })))
+
+pub returns-in-Ok-Unread : goal.returns-in-Ok-Unread
+returns-in-Ok-Unread g c =
+    let names : List (List ℕ) = map (λ (name : Bor (List ℕ)). name.now) c.args.names.now in
+    let ways = ways_of 0 c.args.by_name c.args.start in
+    let slots = g.O.Outs.slots c.args.outs.now in
+    let (own, (most, are, gave)) = c.make_looks.ensures.unread (rw c.in-Ok-Unread.field-0-is at c.in-Ok-Unread.is) in
+    let found = gave c.args.calling ways c.args.headers names slots
+    (open_holds c.in-Ok.ensures.ok (c.forgive_by.ensures.watched ∙ c.requires.unwatched)) in
+    rw (← c.forgive_by.ensures.shows) (ends_by c.args.limits.process most are
+    (unread found.looks found.holds.shares found.before own found.observed (watched_are found.holds) found.made found.fewer
+    found.alive found.holds.are found.holds.found found.holds.shared.slots found.broke refl))
 
 pub returns : goal.returns
 returns g c =

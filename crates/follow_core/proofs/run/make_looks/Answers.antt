@@ -11,7 +11,7 @@ loop-made-init g c = record {
   count = ap length c.requires.unseen;
   left = λ t. let all : c.args.limits.looks - 0 ≡ c.args.limits.looks = omega arith in rw all (omega arith);
   can = c.requires.can;
-  error = c.requires.error;
+  print = c.requires.print;
   shows = refl;
   progress = λ calling ways headers names first holds. record {
     looks = [];
@@ -32,7 +32,7 @@ returns-in-Err-clause-stopped g c =
       most,
       are,
       (λ calling ways headers names first holds.
-          let p = rw (← c.has_ended-is_last.ensures.watched, ← c.has_ended-is_last.ensures.seen) at
+          let p = rw (← c.has_ended-is_last.ensures.watched, ← c.has_ended-is_last.ensures.seen, ← c.is_unread.ensures.read c.if-is_unread.false) at
           (l.invariant.progress calling ways headers names first holds) in
           let shows = c.has_ended-is_last.ensures.shows ∙ l.invariant.shows in record {
             looks = p.looks;
@@ -45,7 +45,7 @@ returns-in-Err-clause-stopped g c =
     )
 
 pub returns-then-not-alive-clause-looked : goal.returns-then-not-alive-clause-looked
-returns-then-not-alive-clause-looked g c =
+returns-then-not-alive-clause-looked g c is =
     let l = c.loop-made in
     let below = c.loop-made-test.true in
     let (most, are, above) = most_more {process = c.args.limits.process} l.invariant.left below in (
@@ -53,13 +53,13 @@ returns-then-not-alive-clause-looked g c =
       are,
       (λ calling ways headers names first holds. ended above (λ fewer. (omega arith, c.if-not-alive.true))
           (one_more (c.has_ended-is_last.ensures.shows ∙ l.invariant.shows)
-          (rw (← c.has_ended-is_last.ensures.watched, ← c.has_ended-is_last.ensures.seen) at
+          (rw (← c.has_ended-is_last.ensures.watched, ← c.has_ended-is_last.ensures.seen, ← c.is_unread.ensures.read c.if-is_unread.false) at
           (l.invariant.progress calling ways headers names first holds)) c.in_default.ensures.looked c.in_default.ensures.seen
           c.alive.ensures.alive c.alive.ensures.none)),
     )
 
 pub returns-then-is_last-clause-looked : goal.returns-then-is_last-clause-looked
-returns-then-is_last-clause-looked g c =
+returns-then-is_last-clause-looked g c is =
     let l = c.loop-made in
     let are = until_last {process = c.args.limits.process} l.invariant.left c.loop-made-test.true c.has_ended-is_last.ensures.found
     c.if-is_last.true l.invariant.shows l.invariant.count in (
@@ -67,7 +67,7 @@ returns-then-is_last-clause-looked g c =
       are,
       (λ calling ways headers names first holds. ended (omega arith) (λ fewer. absurd (omega arith))
           (rw c.if-not-alive.false at (one_more (c.has_ended-is_last.ensures.shows ∙ l.invariant.shows)
-          (rw (← c.has_ended-is_last.ensures.watched, ← c.has_ended-is_last.ensures.seen) at
+          (rw (← c.has_ended-is_last.ensures.watched, ← c.has_ended-is_last.ensures.seen, ← c.is_unread.ensures.read c.if-is_unread.false) at
           (l.invariant.progress calling ways headers names first holds)) c.in_default.ensures.looked c.in_default.ensures.seen
           c.alive.ensures.alive c.alive.ensures.none))),
     )
@@ -84,17 +84,17 @@ loop-made-preserved g c =
       left = λ t. until_more c.args.limits.process (l.invariant.left t) c.loop-made-test.true
           (c.has_ended-is_last.ensures.told t) c.if-is_last.false l.invariant.shows l.invariant.count;
       can = c.in_default.ensures.can;
-      error = c.look.ensures.error l.invariant.error;
+      print = (rw c.in_default.ensures.phase at c.in_default.ensures.can).1;
       shows = c.look.ensures.shows ∙ c.has_ended-is_last.ensures.shows ∙ l.invariant.shows;
       progress = λ calling ways headers names first holds. rw c.if-not-alive.false at
           (one_more (c.has_ended-is_last.ensures.shows ∙ l.invariant.shows)
-          (rw (← c.has_ended-is_last.ensures.watched, ← c.has_ended-is_last.ensures.seen) at
+          (rw (← c.has_ended-is_last.ensures.watched, ← c.has_ended-is_last.ensures.seen, ← c.is_unread.ensures.read c.if-is_unread.false) at
           (l.invariant.progress calling ways headers names first holds)) c.in_default.ensures.looked c.in_default.ensures.seen
           c.alive.ensures.alive c.alive.ensures.none);
     }
 
 pub returns-clause-looked : goal.returns-clause-looked
-returns-clause-looked g c =
+returns-clause-looked g c is =
     let l = c.loop-made in
     let past = c.loop-made-test.false in
     let within = l.invariant.within in
@@ -106,3 +106,25 @@ returns-clause-looked g c =
       (λ calling ways headers names first holds. ended above (λ fewer. absurd (omega arith))
           (l.invariant.progress calling ways headers names first holds)),
     )
+
+pub returns-then-is_unread-clause-unread : goal.returns-then-is_unread-clause-unread
+returns-then-is_unread-clause-unread g c is =
+    let l = c.loop-made in
+    let below = c.loop-made-test.true in
+    let (own, broke) = c.is_unread.ensures.unread c.if-is_unread.true in
+    let (most, are, above) = most_more {process = c.args.limits.process} l.invariant.left below in
+    (own, (
+      most,
+      are,
+      (λ calling ways headers names first holds.
+          let p = l.invariant.progress calling ways headers names first holds in record {
+            looks = p.looks;
+            observed = p.observed;
+            made = p.is_made;
+            fewer = rw p.count (omega arith);
+            alive = p.alive;
+            before = g.O.Outs.slots l.outs;
+            broke = broke;
+            holds = p.holds;
+          }),
+    ))

@@ -1,6 +1,6 @@
 use Rattle.std.proofs.Common.{◌≡◌, ◌≤◌, ◌+◌, ◌-◌, ℕ, Bool, true, List, [], length}
 use Rattle.follow_core.{
-  specs.{Ending.until_over, Sharing.HasError, FollowState.{CanLook, Holds}, Look.Ways},
+  specs.{Ending.until_over, Sharing.CanPrint, FollowState.{CanLook, Holds}, Look.Ways},
   proofs.LookedLemmas.Progress,
 }
 use Rattle.ports_core.specs.{Slot.Slot, declared.calling.Calling.Calling}
@@ -13,7 +13,7 @@ invariant-loop-made g l = record {
   left : g.W.Watch.told ≡ true → until_over l.limits.process (g.W.Watch.shows l.fn.watch) 0 l.limits.looks
       ≡ l.made + until_over l.limits.process (g.W.Watch.shows l.fn.watch) l.made (l.limits.looks - l.made);
   can : CanLook l.follow (g.W.Watch.watched l.watch) (g.O.Outs.slots l.outs);
-  error : HasError (g.O.Outs.slots l.outs);
+  print : CanPrint (g.O.Outs.slots l.outs);
   shows : g.W.Watch.shows l.watch ≡ g.W.Watch.shows l.fn.watch;
   progress : (calling : Calling) (ways : Ways) (headers : Bool) (names : List (List ℕ)) (first : List Slot)
       → Holds g.W.Watch.told g.O.Outs.told calling ways headers names [] first l.fn.follow

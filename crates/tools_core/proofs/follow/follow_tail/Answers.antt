@@ -1,6 +1,6 @@
 use Rattle.std.proofs.Common.{ap, max}
 use Rattle.words_core.specs.declared.tail_words.TailSettings.{TailSettings}
-use Rattle.tools_core.{specs.Following.is_name, proofs.RunLemmas.{ends_names, shows_by-waiting}}
+use Rattle.tools_core.{specs.Following.{is_name, pause_by}, proofs.RunLemmas.{ends_names, shows_by-waiting}}
 use Rattle.tools_core.proofs.follow.follow_tail.Goals as goal
 
 pub returns : goal.returns
@@ -15,8 +15,9 @@ returns g c =
       names,
       c.requires.outputs,
       c.wait_at_most.ensures.shows,
+      c.pause_by.ensures,
       process,
       pause,
       shows_by-waiting c.args.calling (is_name c.args.followed)
-          (max c.args.settings.now.pause 1) (g.W.Watch.shows c.args.watch.now),
+          (max (pause_by c.args.calling c.args.settings.now.pause) 1) (g.W.Watch.shows c.args.watch.now),
     ) at c.follow_files.ensures
