@@ -585,7 +585,8 @@ left_visited {told_in} {ways} {snapshot} {place} {name} looks left = elim left.w
 
 sound_among : {before : List Look} {look : Look} (from : ℕ) (names : List (List ℕ)) {shares : List Share}
     → AreAtLook before look from names shares → (place : ℕ) → place < length names
-    → look.snapshot.breaks (get_or names place []) ≡ false → failed_in (from + place) before ≡ None → fate_at (from + place) look ≡ sound
+    → look.snapshot.breaks (get_or names place []) ≡ false → failed_in (from + place) before ≡ None
+    → fate_at (from + place) look ≡ sound
 sound_among from [] given place within unbroken kept = absurd (omega arith)
 sound_among {before} {look} from (name ∷ names) (names_more given rest) zero within unbroken kept = grind (arith, common_steps)
 sound_among {before} {look} from (name ∷ names) (names_more given rest) (suc place) within unbroken kept =
