@@ -387,7 +387,7 @@ module _ {told_in told : Bool} {snapshot : Snapshot} {name : List ℕ} {from pla
       → (told_in ≡ true → len ≡ length (open_contents snapshot (watched_at watched place)))
       → Copied told_in told snapshot (watched_at watched place) from name printer slots after slots_new at None
       → now ≡ watched → why ≡ fault.Read place → NameBreaks (λ file. Read file at) place now watched_new
-      → snapshot.breaks ≡ true
+      → snapshot.breaks (watched_at watched place).name ≡ true
       → Copies told_in told snapshot from place name watched printer slots watched_new after slots_new
       (Some (Broke why))
   copies_part at past below size copied same fault broken can = record {

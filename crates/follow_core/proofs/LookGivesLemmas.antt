@@ -372,7 +372,8 @@ pub first_unopened : {told_in told : Bool} {ways : Ways} {snapshot : Snapshot} {
     {printer : PrinterState}
     {slots slots_new : List Slot} {old new : List Watched} {why : Fault} {now : Standing} {result : Result Bool Fault}
     → (watched_at old place).name ≡ name → IsTrue (is_watchable old place)
-    → why ≡ Open place → NameBreaks (λ file. broken.Open) place old new → snapshot.breaks name ≡ true
+    → why ≡ Open place → NameBreaks (λ file. broken.Open) place old new
+    → snapshot.breaks (watched_at old place).name ≡ true
     → TellsStop told printer.calling name slots now slots_new (Broke why) result
     → Visits told_in told ways snapshot place name New old printer slots now new printer slots_new result
 first_unopened {place} {name} {old} {why} named can is broke fails (tells, left, says) =
@@ -387,7 +388,7 @@ first_unopened {place} {name} {old} {why} named can is broke fails (tells, left,
           opened = refl;
           failed = refl;
           events = tt;
-          broke = inr fails;
+          broke = inr (rw named at fails);
           there = λ opened. absurd
               (false≢true opened);
         });
@@ -584,7 +585,8 @@ left_visited {told_in} {ways} {snapshot} {place} {name} looks left = elim left.w
 
 sound_among : {before : List Look} {look : Look} (from : ℕ) (names : List (List ℕ)) {shares : List Share}
     → AreAtLook before look from names shares → (place : ℕ) → place < length names
-    → look.snapshot.breaks (get_or names place []) ≡ false → failed_in (from + place) before ≡ None → fate_at (from + place) look ≡ sound
+    → look.snapshot.breaks (get_or names place []) ≡ false → failed_in (from + place) before ≡ None
+    → fate_at (from + place) look ≡ sound
 sound_among from [] given place within unbroken kept = absurd (omega arith)
 sound_among {before} {look} from (name ∷ names) (names_more given rest) zero within unbroken kept = grind (arith, common_steps)
 sound_among {before} {look} from (name ∷ names) (names_more given rest) (suc place) within unbroken kept =

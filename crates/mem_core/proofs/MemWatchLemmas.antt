@@ -125,7 +125,8 @@ latest_breaks forgives within worlds zero name is = refl
 latest_breaks forgives within worlds (suc n) name is =
     ap (λ (those : Snapshot). those.breaks name) (latest-last (seen_by forgives within worlds n) _) ∙ rw is refl
 
-pub may_break : (watch : MemWatchState) (name : List ℕ) → watch.forgives ≡ false → (latest (seen watch)).breaks name ≡ true
+pub may_break : (watch : MemWatchState) (name : List ℕ) → watch.forgives ≡ false
+    → (latest (seen watch)).breaks name ≡ true
 may_break watch name unforgiven = latest_breaks watch.forgives watch.within watch.worlds watch.turns name unforgiven
 
 -- what was forgiven is

@@ -194,6 +194,29 @@ fn fail_to_open(
     assert!(rt; outs.broken(number) && outs.name(number) == name);
 }
 
+/// A name with a byte 0, and what would be opened by it if that ended the name.
+const WITH_ZERO: &str = "ports_core_zero/f\0";
+
+const BEFORE_ZERO: &str = "ports_core_zero/f";
+
+#[test]
+fn nothing_is_opened_by_a_name_with_a_byte_0(rt: HostRuntime) -> Result<(), Fail> {
+    make_folder(&rt, "ports_core_zero")?;
+    let noted = InputFiles::new(rt.alloc());
+    let mut outs = outs_of(rt, &noted);
+    fail_to_open(&rt, &mut outs, WITH_ZERO, Mode::Fresh, 2);
+    fail_to_open(&rt, &mut outs, WITH_ZERO, Mode::Append, 3);
+    same(&rt, &outs.reason(2), &Reason::NotUtf8);
+    same(&rt, &outs.reason(3), &Reason::NotUtf8);
+    assert!(rt; !is_there(&rt, BEFORE_ZERO));
+    fs::write(&rt, BEFORE_ZERO, b"abc")?;
+    let mut inputs = DirIn::new(rt, rt.alloc(), rt.stdin(), &noted);
+    same(&rt, &inputs.open(WITH_ZERO), &Err(Fault::Open(1)));
+    same(&rt, &inputs.reason(1), &Reason::NotUtf8);
+    fs::remove_dir_all(&rt, "ports_core_zero")?;
+    Ok(())
+}
+
 /// Makes a file that no user but root may open, and fails to open it.
 fn close_off(
     abort: &impl Abort,

@@ -569,6 +569,18 @@ fn a_file_as_a_folder(rt: HostRuntime) -> Result<(), Fail> {
     Ok(())
 }
 
+/// A name that no file can have, since it has a byte 0.
+const WITH_ZERO: &str = "watch_core_zero\0";
+
+#[test]
+fn a_name_with_a_byte_0_breaks_though_the_watch_forgives(rt: HostRuntime) -> Result<(), Fail> {
+    assert!(rt; fails_to_open(rt, WITH_ZERO)?);
+    let mut watch = forgiving_watch_of(rt, WITH_ZERO)?;
+    same(&rt, &watch.reopen(0), &Err(Fault::Open(0)));
+    same(&rt, &watch.reason(0), &Reason::NotUtf8);
+    Ok(())
+}
+
 /// The file that a name leads to and that is opened: its first read fails.
 fn breaks_at_its_first_read(
     abort: &impl Abort,

@@ -118,6 +118,46 @@ fn is_called_by_no_tool(rt: HostRuntime) {
 }
 
 #[test]
+fn words_that_are_no_text_have_one_by_a_tools_name(rt: HostRuntime) {
+    for (word, text) in TEXTS {
+        for tool in ANY_READ {
+            assert!(rt;
+                reads(
+                    rt.alloc(),
+                    &[*tool, *word, b"x"],
+                    Calling::OwnName,
+                    &[*tool, *text, b"x"]
+                ),
+                "at {word:?}"
+            );
+        }
+    }
+}
+
+/// The tools that read any word.
+const ANY_READ: &[&[u8]] = &[b"head", b"tail", b"split", b"tee"];
+
+/// Words as the system gives them, and their texts.
+const TEXTS: &[(&[u8], &[u8])] = &[
+    (b"caf\xc3\xa9", b"caf\xc3\xa9"),
+    (b"caf\xe9", b"caf\xef\xbf\xbd\0"),
+    (b"-n\xff", b"-n\xef\xbf\xbd\0"),
+    (b"\xff\xfe", b"\xef\xbf\xbd\xef\xbf\xbd\0"),
+    // The beginning of a character that doesn't go on is one part.
+    (b"a\xe2\x82", b"a\xef\xbf\xbd\0"),
+    (b"\xe2\x82b", b"\xef\xbf\xbdb\0"),
+    (b"\xf0\x9f\x98", b"\xef\xbf\xbd\0"),
+    // Of what begins none each byte is one: overlong forms, halves of a pair, and what is past the last character.
+    (b"\xc0\xaf", b"\xef\xbf\xbd\xef\xbf\xbd\0"),
+    (b"\xe0\x80\xaf", b"\xef\xbf\xbd\xef\xbf\xbd\xef\xbf\xbd\0"),
+    (b"\xed\xa0\x80", b"\xef\xbf\xbd\xef\xbf\xbd\xef\xbf\xbd\0"),
+    (
+        b"\xf4\x90\x80\x80",
+        b"\xef\xbf\xbd\xef\xbf\xbd\xef\xbf\xbd\xef\xbf\xbd\0",
+    ),
+];
+
+#[test]
 fn tells_the_word_that_is_no_text(rt: HostRuntime) {
     for (words, place) in REFUSED {
         assert!(rt; refuses(rt.alloc(), words, *place), "at {place}");
@@ -129,5 +169,5 @@ const REFUSED: &[(&[&[u8]], usize)] = &[
     (&[b"cutters", b"head\xff"], 0),
     (&[b"cutters", b"head", b"-n", b"1", b"\xc3"], 3),
     (&[b"\xff", b"head", b"\xfe", b"\xff"], 1),
-    (&[b"/bin/head", b"-n", b"\xfe"], 2),
+    (&[b"/bin/csplit", b"-n", b"\xfe"], 2),
 ];

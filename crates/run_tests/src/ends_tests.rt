@@ -180,6 +180,12 @@ const MISSING: &[Told<'static>] = &[
     (&["head", "-v", "m"], b"", b"head: cannot open 'm'\n"),
     (&["head", "--", "-z"], b"", b"head: cannot open '-z'\n"),
     (&["head", ""], b"", b"head: cannot open ''\n"),
+    // The byte 0 after a name that isn't UTF-8 isn't told.
+    (
+        &["head", "m\u{FFFD}\0", "\0"],
+        b"",
+        b"head: cannot open 'm\xef\xbf\xbd'\nhead: cannot open ''\n",
+    ),
     (
         &["head", "-n", "1", "f", "m"],
         b"==> f <==\na\n",

@@ -408,9 +408,9 @@ const FOLLOWED: &[(Followed<'static>, &[&[u8]])] = &[
     ),
 ];
 
-/// A tool's name by which the program is called, and a word that needs more room than words are first given.
+/// A tool's name by which the program is called, a word that needs more room than words are first given, and one that isn't UTF-8.
 const GIVEN: Given<'static> = Given {
-    words: &[b"bin/head", &[b'a'; 300]],
+    words: &[b"bin/head", &[b'a'; 300], b"\xff"],
 };
 
 #[test]
@@ -426,10 +426,10 @@ fn args_are_read_or_are_refused(rt: HostRuntime) {
     }
 }
 
-/// Whether these are the tool's name and the word after it.
+/// Whether these are the tool's name and the two words after it.
 fn has_args(read: &Result<Args, ArgsFault>) -> bool {
     match read {
-        Ok(args) => args.words.len() == 2,
+        Ok(args) => args.words.len() == 3,
         Err(_) => false,
     }
 }

@@ -25,3 +25,5 @@ mod split_tests;
 mod tail_tests;
 #[cfg(test)]
 mod tee_tests;
+#[cfg(test)]
+mod zero_tests;

@@ -31,7 +31,7 @@ loop-at-preserved g c =
 pub returns-in-Err-clause-copies : goal.returns-in-Err-clause-copies
 returns-in-Err-clause-copies g c = let l = c.loop-at in
     copies_part l.at l.invariant.past c.loop-at-test.true c.requires.whole l.invariant.copied l.invariant.watched c.in-Err.ensures.err.0
-    c.in-Err.ensures.err.1 (rw l.invariant.seen at c.in-Err.ensures.breaks)
+    c.in-Err.ensures.err.1 (rw (l.invariant.seen, l.invariant.watched) at c.in-Err.ensures.breaks)
 
 pub returns-in-Err-put-clause-copies : goal.returns-in-Err-put-clause-copies
 returns-in-Err-put-clause-copies g c =

@@ -16,7 +16,7 @@ returns-in-Ok-clause-ends g c told_in printer = record {
     slots = rw (and-false printer.headers) (wrote_line (λ output error others are.
         let said = c.print.ensures output error others are in (
           said.0,
-          record { said = _; is = inl (no_failure c.args.found _, c.deref.ensures.value ∙ c.in-Ok.ensures.ok); printed = said.1 },
+          record { said = _; is = inl (no_failure c.args.found c.args.name.now, c.deref.ensures.value ∙ c.in-Ok.ensures.ok); printed = said.1 },
           said.2,
         )));
   };

@@ -58,7 +58,7 @@ returns-in-Err-reopen-clause-leads g c =
           (goes_after (noted_found None
           (λ notice is. rw is (told _ c.in-Some.is))
           (c.in_default-tell.ensures.ends g.W.Watch.told c.args.self.now))
-          (broke_first {due = all_held seen _} (found_before (rw c.look.ensures.seen at c.in-Err-reopen.ensures.breaks) tt)));
+          (broke_first {due = all_held seen _} (found_before (rw (c.look.ensures.seen, c.in-Ok.ensures.same) at c.in-Err-reopen.ensures.breaks) tt)));
       stands = tt;
       long = λ known. tt;
       follows = broke_at (λ file. Open) refl c.in-Ok.ensures.same c.in-Err-reopen.ensures.err.0 c.in-Err-reopen.ensures.err.1;

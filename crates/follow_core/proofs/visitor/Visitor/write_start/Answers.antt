@@ -18,7 +18,7 @@ returns-in-Err-clause-starts g c = record {
 pub returns-in-Err-find-clause-starts : goal.returns-in-Err-find-clause-starts
 returns-in-Err-find-clause-starts g c = let (from, broken) = c.in-Err-find.ensures.err.1 in rw c.self.view_is (record {
   fate = unsought _ from;
-  ends = broke_first (found_before (rw c.open_len.ensures.seen at c.in-Err-find.ensures.breaks) tt);
+  ends = broke_first (found_before (rw (c.open_len.ensures.seen, c.in-Ok.ensures.same) at c.in-Err-find.ensures.breaks) tt);
   keeps = (broke_at (λ file. Read file from) refl c.in-Ok.ensures.same c.in-Err-find.ensures.err.0 broken, refl);
   met = λ by_name. c.in-Err-find.ensures.sought;
 })
