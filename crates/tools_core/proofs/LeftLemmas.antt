@@ -35,7 +35,16 @@ use Rattle.split_core.specs.{
   Split.{manner_of as manner_by, Filing, Share, dealt_files, settled_shares, share},
 }
 use Rattle.ends_core.specs.Shown.{head_in, tail_in}
-use Rattle.tools_core.{proofs.SameLemmas.{KnowsNoMore, all_made_alike, head_knows, shows_none, split_knows, tail_knows}, specs.Promises.{AllAlike, AreAlike, GivesBytes, are_same, give_same, SaysLines, Completes, FindAlike, IsCopied}, specs.Promises.{Gives, at_first, in_full}, specs.Promises.{IsMet, Tells, IsFound, IsGone, IsTask, IsUnstopped, LeaveAlike, Ran, Run, TellsMet, Unstopped}, specs.Promises.{broken_off, failing, judged, missing, removes_files}, specs.About.{TellsText, no_text, text_cut, text_whole}, specs.Outcome.{DoesAsked, RefusesOperands}, specs.Tasks.{filing_of, names_of, speaker_of}}
+use Rattle.tools_core.{
+  proofs.SameLemmas.{KnowsNoMore, all_made_alike, head_knows, shows_none, split_knows, tail_knows},
+  specs.Promises.{AllAlike, AreAlike, GivesBytes, are_same, give_same, SaysLines, Completes, FindAlike, IsCopied},
+  specs.Promises.{Gives, at_first, in_full},
+  specs.Promises.{IsMet, Tells, IsFound, IsGone, IsTask, IsUnstopped, LeaveAlike, Ran, Run, TellsMet, Unstopped},
+  specs.Promises.{broken_off, failing, judged, missing, removes_files},
+  specs.About.{TellsText, no_text, text_cut, text_whole},
+  specs.Outcome.{DoesAsked, RefusesOperands},
+  specs.Tasks.{filing_of, is_minus, is_plus, names_of, speaker_of},
+}
 use Rattle.operand_core.{specs.{Style.Style}, proofs.ReadingLemmas.asks_once}
 use Rattle.csplit_core.specs.{Output.{file_in, shares_in, state_in}, Section.{Section}}
 use Rattle.run_core.specs.{
