@@ -1,8 +1,30 @@
 -- A text that has a tree, or no backslash, stays as it is where GNU's spelling is written as POSIX's.
-use Rattle.std.proofs.{lemmas.{Grind.common_steps, Bool.{cond-true, cases_Bool, eqb-true, and_right, ne_eqb}, Bool.{MatchBool-at_true, MatchBool-at_false}, Option.{none-some, same_Some}}, Common.{◌≡◌, ◌≢◌, ◌⊎◌, inl, inr, ℕ, Bool, true, false, ◌||◌, eqb, List, [], ◌∷◌, ◌++◌, Option, Some}, Common.{refl, sym, ap, subst, ◌∙◌, append_assoc, arith}}
+use Rattle.std.proofs.{
+  lemmas.{
+    Grind.common_steps,
+    Bool.{cond-true, cases_Bool, eqb-true, and_right, ne_eqb, MatchBool-at_true, MatchBool-at_false},
+    Option.{none-some, same_Some},
+  },
+  Common.{◌≡◌, ◌≢◌, ◌⊎◌, inl, inr, ℕ, drop, Bool, true, false, ◌||◌, eqb, List, [], ◌∷◌, ◌++◌, Option, Some, refl, sym},
+  Common.{ap, subst, ◌∙◌, arith},
+}
 use Rattle.std.specs.List.{list_all, list_any}
-use Rattle.bre_core.specs.{declared.{class.Class.{Class, TheVariants.Upper}, gnu_spelling.Place.{Place, TheVariants.{Outside, Escaped, Opened, First, Inside, Bracket, Named}}, token.{Context.{Context, TheVariants.{Opening, Inner}}, Token.Token}}, Bracket.{IsBracket, begins_with}, Class.is_between, GnuSpelling.{after_member, escape_of, place_after, respelled, respelled_from, written_for}, Match.Contains, Pattern.{Pattern, Reads, written, nothing, append, group}, Spelled.{AreBounds, exactly, at_least, between, IsNumber, IsInterval, Spelling, plain, symbol, Part, single, range}, Spelled.{equivalents, class, name_of, byte_before, part_before, parts_before, list_before, is_opening, IsItself}, Spelled.{Stand, IsBracketList}, Steps.Steps, Token.{BeginsWithToken, ReadsToken, plain_at, escaped_at}}
-use Rattle.bre_core.proofs.{Spelled.{interval_read, list_found}, Existence.one_tree_alone}
+use Rattle.bre_core.specs.{
+  declared.{
+    class.Class.{Class, TheVariants.Upper},
+    gnu_spelling.Place.{Place, TheVariants.{Outside, Escaped, Opened, First, Inside, Bracket, Named}},
+    token.{Context.{Context, TheVariants.{Opening, Inner}}, Token.Token},
+  },
+  Bracket.{IsBracket, begins_with},
+  Class.is_between,
+  GnuSpelling.{after_member, escape_of, place_after, respelled, respelled_from, written_for},
+  Pattern.{Pattern, Reads, written},
+  Spelled.{AreBounds, exactly, at_least, between, Spelling, plain, symbol, Part, single, range, equivalents, class},
+  Spelled.{name_of, byte_before, part_before, parts_before, list_before, is_opening, IsItself, Stand, IsBracketList},
+  Steps.Steps,
+  Token.{BeginsWithToken, ReadsToken, plain_at, escaped_at},
+}
+use Rattle.bre_core.proofs.Spelled.{begun, interval_read, list_found}
 
 -- it stays as it is from this place on
 abbrev pub Stays : Place → List ℕ → Type 0
@@ -130,24 +152,25 @@ bounds_stay (exactly digits number n) stays = grind (arith, common_steps, digits
 bounds_stay (at_least digits low n) stays = grind (arith, common_steps, digits_stay, outside)
 bounds_stay (between first second low high m n ordered) stays = grind (arith, common_steps, digits_stay, outside)
 
-no_comma : (digits : List ℕ) {number : ℕ} (text : List ℕ) → IsNumber digits number
-    → begins_with 44 (digits ++ text) ≡ false
-no_comma [] text n = absurd (n.some refl)
-no_comma (digit ∷ digits) text n = grind (arith, common_steps, not_digit)
+-- no interval begins with a comma
+comma_none : (context : Context) (text : List ℕ) {token : Token} {rest : List ℕ}
+    → escaped_at context (123 ∷ 44 ∷ text) ≡ Some (token, rest) → ⊥
+comma_none Inner text is = none-some _ is
+comma_none context text is = none-some _ is
 
-bounds_begin : {inner : List ℕ} (text : List ℕ) {low : ℕ} {high : Option ℕ} → AreBounds inner low high
-    → begins_with 44 (inner ++ text) ≡ false
-bounds_begin text (exactly digits number n) = no_comma digits text n
-bounds_begin text (at_least digits low n) =
-    ap (begins_with 44) (append_assoc digits (44 ∷ []) text) ∙ no_comma digits _ n
-bounds_begin text (between first second low high m n ordered) =
-    ap (begins_with 44) (append_assoc first (44 ∷ second) text) ∙ no_comma first _ m
+no_comma : (context : Context) (text : List ℕ) {token : Token} {rest : List ℕ}
+    → escaped_at context (123 ∷ text) ≡ Some (token, rest) → begins_with 44 text ≡ false
+no_comma context text is = elim (cases_Bool (begins_with 44 text)) [
+  | inl comma ↦ absurd (comma_none context (drop 1 text) (ap (λ t. escaped_at context (123 ∷ t)) (sym (begun text comma)) ∙ is))
+  | inr other ↦ other
+]
 
-interval_stays : {text rest : List ℕ} {token : Token} → IsInterval text token rest → Stays Outside rest
-    → Stays Outside (92 ∷ 123 ∷ text)
-interval_stays {text} {rest} is stays =
+interval_stays : (context : Context) (text : List ℕ) {token : Token} {rest : List ℕ}
+    → escaped_at context (123 ∷ text) ≡ Some (token, rest) → Stays Outside rest → Stays Outside (92 ∷ 123 ∷ text)
+interval_stays context text {token} {rest} found stays =
+    let is = ((interval_read context text rest token).0 found).1 in
     let all : Stays Outside text = subst (Stays Outside) (sym is.whole) (bounds_stay is.bounds (ap (λ t. 92 ∷ 125 ∷ t) stays)) in
-    let begins : begins_with 44 text ≡ false = ap (begins_with 44) is.whole ∙ bounds_begin (92 ∷ 125 ∷ rest) is.bounds in
+    let begins : begins_with 44 text ≡ false = no_comma context text found in
     grind (arith, common_steps)
 
 -- a token that no bracket expression and no backslash begins
@@ -173,7 +196,7 @@ escape_stays context (byte ∷ text) {token} {rest} is stays = by_brace (cases_B
     by_brace (inl brace) =
         let same = eqb-true byte 123 brace in
         let at : escaped_at context (123 ∷ text) ≡ Some (token, rest) = subst (λ b. escaped_at context (b ∷ text) ≡ Some (token, rest)) same is in
-        subst (λ b. Stays Outside (92 ∷ b ∷ text)) (sym same) (interval_stays ((interval_read context text rest token).0 at).1 stays)
+        subst (λ b. Stays Outside (92 ∷ b ∷ text)) (sym same) (interval_stays context text at stays)
     by_brace (inr other) =
         ap (λ w. w ++ respelled_from Outside text) (kept context byte text other is)
         ∙ ap (λ t. 92 ∷ byte ∷ t) (subst (Stays Outside) (sym (goes_on context byte text other is)) stays)
@@ -205,13 +228,3 @@ tokens_stay context text (token ∷ tokens) last way =
 pub read_text : (text : List ℕ) (pattern : Pattern) → Reads text pattern → respelled text ≡ text
 read_text [] pattern reads = absurd (reads.some refl)
 read_text (byte ∷ text) pattern reads = tokens_stay Opening (byte ∷ text) (written pattern) reads.tokens.0 reads.tokens.1
-
--- The empty pattern.
-
-abbrev empty_group : Pattern
-empty_group = append nothing (group nothing)
-
-pub empty_matches : (pattern : Pattern) → Reads (respelled []) pattern → (line : List ℕ) → Contains pattern line
-empty_matches pattern reads line =
-    let itself : Reads (respelled []) empty_group = record { some = λ e. cc; tokens = (Inner, ((Opening, 92 ∷ 41 ∷ []), (refl, refl), ((Inner, []), (refl, refl), refl))) } in
-    rw (one_tree_alone (respelled []) pattern empty_group reads itself) (0, 0, omega arith, omega arith, (0, refl, refl))

@@ -5,7 +5,7 @@ ghost use Rattle.bre_core.specs.{
   Bracket.begins_with,
   Fault.{number_of, offset_of},
   Interval.begins_with_digit,
-  GnuSpelling.{after_later, after_member, after_named, escape_of, is_itself, place_after, respelled, typed_at},
+  GnuSpelling.{after_named, escape_of, is_itself, place_after, respelled, typed_at},
   GnuSpelling.written_for,
 };
 
@@ -40,67 +40,18 @@ impl Place {
     fn after(self, byte: u8) -> Place
         ensures { result ≡ place_after self byte }
     {
-        match self {
-            Place::Outside => after_outside(byte),
-            Place::Escaped => Place::Outside,
-            Place::Opened => {
-                if byte == b'^' {
-                    Place::First
-                } else {
-                    after_member(byte)
-                }
-            }
-            Place::First => after_member(byte),
-            Place::Inside => after_later(byte),
-            Place::Bracket => {
-                if byte == b'.' || byte == b'=' || byte == b':' {
-                    Place::Named(byte)
-                } else {
-                    after_later(byte)
-                }
-            }
-            Place::Named(mark) => after_named(mark, byte),
-            Place::Marked(mark) => {
-                if byte == b']' {
-                    Place::Inside
-                } else {
-                    after_named(mark, byte)
-                }
-            }
+        match (self, byte) {
+            (Place::Outside, b'\\') => Place::Escaped,
+            (Place::Outside, b'[') => Place::Opened,
+            (Place::Outside | Place::Escaped, _) => Place::Outside,
+            (Place::Opened, b'^') => Place::First,
+            (Place::Inside | Place::Bracket, b']') => Place::Outside,
+            (Place::Bracket, b'.' | b'=' | b':') => Place::Named(byte),
+            (Place::Marked(_), b']') => Place::Inside,
+            (Place::Named(mark) | Place::Marked(mark), _) => after_named(mark, byte),
+            (_, b'[') => Place::Bracket,
+            (_, _) => Place::Inside,
         }
-    }
-}
-
-/// The place after a byte outside of bracket expressions.
-fn after_outside(byte: u8) -> Place
-    ensures { result ≡ place_after Place.Outside byte }
-{
-    match byte {
-        b'\\' => Place::Escaped,
-        b'[' => Place::Opened,
-        _ => Place::Outside,
-    }
-}
-
-/// The place after a byte that is a member or begins one.
-fn after_member(byte: u8) -> Place
-    ensures { result ≡ after_member byte }
-{
-    if byte == b'[' {
-        Place::Bracket
-    } else {
-        Place::Inside
-    }
-}
-
-/// The place after a byte in a later place, where `]` closes the expression.
-fn after_later(byte: u8) -> Place
-    ensures { result ≡ after_later byte }
-{
-    if byte == b']' {
-        Place::Outside
-    } else {
-        after_member(byte)
     }
 }
 
@@ -157,24 +108,11 @@ fn escape_of(text: &[u8]) -> &[u8]
 fn written_for(place: Place, text: &[u8]) -> &[u8]
     ensures { result.now ≡ written_for place text.now }
 {
-    let [byte, ..] = text else {
-        return text;
-    };
-    match place {
-        Place::Escaped => &[],
-        Place::Outside => {
-            if *byte == b'\\' {
-                escape_of(text)
-            } else {
-                &text[..1]
-            }
-        }
-        Place::Opened
-        | Place::First
-        | Place::Inside
-        | Place::Bracket
-        | Place::Named(_)
-        | Place::Marked(_) => &text[..1],
+    match (place, text) {
+        (_, []) => text,
+        (Place::Escaped, _) => &[],
+        (Place::Outside, [b'\\', ..]) => escape_of(text),
+        (_, _) => &text[..1],
     }
 }
 

@@ -4,7 +4,7 @@ use crate::csplit_tests::{TWO_DIGITS, run};
 use crate::test_texts::{pieces_of, short_texts};
 use csplit_core::{Operands, Style, read_operands};
 use mem_core::MemOut;
-use ports_core::{Fault, Outs};
+use ports_core::{Calling, Fault, Outs};
 use std::alloc::Global;
 use std::test::Fail;
 
@@ -114,7 +114,7 @@ fn repeats_as_the_plain_program(rt: HostRuntime) -> Result<(), Fail> {
 
 /// Whether the engine agrees with the plain program on each short text of bytes. Words that are no operands are passed over.
 fn agrees_on_bytes(alloc: Global, words: &[&str]) -> Result<bool, Fault> {
-    let Ok(operands) = read_operands(alloc, words) else {
+    let Ok(operands) = read_operands(alloc, Calling::Cutters, words) else {
         return Ok(true);
     };
     for short in short_texts(alloc, b'\n')? {
@@ -127,7 +127,7 @@ fn agrees_on_bytes(alloc: Global, words: &[&str]) -> Result<bool, Fault> {
 
 /// The same of texts of lines.
 fn agrees_on_lines(alloc: Global, words: &[&str]) -> Result<bool, Fault> {
-    let Ok(operands) = read_operands(alloc, words) else {
+    let Ok(operands) = read_operands(alloc, Calling::Cutters, words) else {
         return Ok(true);
     };
     for size in 0..13u32 {

@@ -6,7 +6,7 @@ ghost use Rattle.csplit_core.specs.CsplitState.{IsReady};
 use crate::play::{feed, feed_and_close, has_files};
 use csplit_core::{Csplitter, Operands, Style, read_operands};
 use mem_core::MemOut;
-use ports_core::{Base, Fault, Filling, Form, Guarded, Outs, Verdict};
+use ports_core::{Base, Calling, Fault, Filling, Form, Guarded, Outs, Verdict};
 use std::alloc::{AllocError, Global};
 use std::process::Abort;
 use std::test::Fail;
@@ -306,7 +306,7 @@ fn check_row(rt: &impl Abort, alloc: Global, row: &Row<'_>, size: usize) {
     let (options, words, input, fault, sizes, files) = row;
     let pieces = chunks_of(rt, alloc, input, size);
     let style = style_of(alloc, *options).expect(rt, "there is memory");
-    let operands = read_operands(alloc, words).expect(rt, "these are operands");
+    let operands = read_operands(alloc, Calling::Cutters, words).expect(rt, "these are operands");
     let mut outs = MemOut::new(alloc).expect(rt, "there is memory");
     let end = run(alloc, &style, &operands, &pieces, &mut outs);
     let is_so = end.err() == *fault && has_left(&outs, files) && outs.bytes(0) == *sizes;
@@ -336,7 +336,7 @@ const WAITS: &[Wait<'static>] = &[
 fn holds(rt: &impl Abort, alloc: Global, row: &Wait<'_>) -> Result<(), Fault> {
     let (words, input, held, first) = row;
     let style = style_of(alloc, Options::Plain)?;
-    let operands = read_operands(alloc, words).expect(rt, "these are operands");
+    let operands = read_operands(alloc, Calling::Cutters, words).expect(rt, "these are operands");
     let mut outs = MemOut::new(alloc).expect(rt, "there is memory");
     let mut engine = open(alloc, style, &operands, &mut outs).expect(rt, "there is memory");
     let is_fed = feed(&mut engine, &mut outs, input).is_ok();
@@ -347,7 +347,10 @@ fn holds(rt: &impl Abort, alloc: Global, row: &Wait<'_>) -> Result<(), Fault> {
 
 #[test]
 fn a_removal_that_failed_is_tried_again(rt: HostRuntime) -> Result<(), Fail> {
-    let operands = read_operands(rt.alloc(), &["/b/", "/x/"]).expect(&rt, "these are operands");
+    let operands = read_operands(rt.alloc(), Calling::Cutters, &["/b/", "/x/"]).expect(
+        &rt,
+        "these are operands",
+    );
     // The first call opens the file, and two of the last remove it and the second one.
     for call in 2..12 {
         let mut outs = MemOut::new(rt.alloc())?;

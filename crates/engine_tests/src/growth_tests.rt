@@ -250,7 +250,7 @@ fn cuts(
     requires output { IsTrue (is_writable outs.old 0) }
 {
     let style = style_of(alloc, Options::Keep)?;
-    match read_operands(alloc, words) {
+    match read_operands(alloc, Calling::Cutters, words) {
         Ok(operands) => {
             let mut engine = open_csplitter(alloc, style, &operands, outs)?;
             goes(rt, &mut engine, outs, pieces)
@@ -376,7 +376,7 @@ fn makes(rt: &impl Abort, alloc: Global, call: Call) -> Result<(), Fault> {
 }
 
 fn read(rt: &impl Abort, alloc: Global) -> Result<(), Fault> {
-    match read_operands(alloc, &["/a*b/+1", "{2}", "%c%", "7"]) {
+    match read_operands(alloc, Calling::OwnName, &["/a*b/+1", "{2}", "%c%", "7"]) {
         Ok(_) => Ok(()),
         Err(refused) => {
             assert!(rt; refused.kind == OperandFaultKind::Memory);

@@ -2,6 +2,7 @@
 
 use csplit_core::{Offset, Operand, OperandFault, OperandFaultKind, Target, Times, read_operands};
 use plain_core::matches_plain;
+use ports_core::Calling;
 use scan_core::{Bre, BreFault};
 use std::alloc::Global;
 use std::process::Abort;
@@ -63,14 +64,20 @@ const REFUSED: &[(&[&str], OperandFaultKind, usize)] = &[
 fn refuses_what_is_no_operand(rt: HostRuntime) {
     for (words, kind, index) in REFUSED {
         assert!(rt;
-            is_refused(rt.alloc(), words, *kind, *index),
+            is_refused(rt.alloc(), Calling::Cutters, words, *kind, *index),
             "of {words:?}"
         );
     }
 }
 
-fn is_refused(alloc: Global, words: &[&str], kind: OperandFaultKind, index: usize) -> bool {
-    match read_operands(alloc, words) {
+fn is_refused(
+    alloc: Global,
+    calling: Calling,
+    words: &[&str],
+    kind: OperandFaultKind,
+    index: usize,
+) -> bool {
+    match read_operands(alloc, calling, words) {
         Ok(_) => false,
         Err(fault) => fault == OperandFault { kind, index },
     }
@@ -99,7 +106,10 @@ const KINDS: &[OperandFaultKind] = &[
 
 #[test]
 fn reads_numbers_and_repetitions(rt: HostRuntime) {
-    let operands = read_operands(rt.alloc(), WORDS).expect(&rt, "these are operands");
+    let operands = read_operands(rt.alloc(), Calling::Cutters, WORDS).expect(
+        &rt,
+        "these are operands",
+    );
     let read = operands.as_slice();
     assert!(rt; read.len() == NUMBERS.len());
     for (operand, wanted) in read.iter().zip(NUMBERS.iter()) {
@@ -156,12 +166,14 @@ const PATTERNS: &[Pattern<'static>] = &[
 #[test]
 fn reads_patterns(rt: HostRuntime) {
     for row in PATTERNS {
-        assert!(rt; reads_pattern(&rt, rt.alloc(), row), "{}", row.0);
+        for calling in [Calling::Cutters, Calling::OwnName] {
+            assert!(rt; reads_pattern(&rt, rt.alloc(), calling, row), "{}", row.0);
+        }
     }
 }
 
-fn reads_pattern(rt: &impl Abort, alloc: Global, row: &Pattern<'_>) -> bool {
-    let operands = read_operands(alloc, &[row.0]).expect(rt, "this is an operand");
+fn reads_pattern(rt: &impl Abort, alloc: Global, calling: Calling, row: &Pattern<'_>) -> bool {
+    let operands = read_operands(alloc, calling, &[row.0]).expect(rt, "this is an operand");
     match operands.as_slice() {
         [operand] => is_pattern(rt, alloc, operand, row),
         _ => false,
@@ -186,3 +198,46 @@ fn is_pattern(rt: &impl Abort, alloc: Global, operand: &Operand, row: &Pattern<'
 fn finds(rt: &impl Abort, alloc: Global, pattern: &Bre, line: &[u8]) -> bool {
     matches_plain(alloc, pattern, line).expect(rt, "there is memory")
 }
+
+/// Patterns in GNU's spelling: by its own name alone they are read.
+#[test]
+fn reads_spellings_of_gnu(rt: HostRuntime) {
+    for row in SPELLINGS {
+        assert!(rt;
+            reads_pattern(&rt, rt.alloc(), Calling::OwnName, row),
+            "{}",
+            row.0
+        );
+        assert!(rt;
+            read_operands(rt.alloc(), Calling::Cutters, &[row.0]).is_err(),
+            "{}",
+            row.0
+        );
+    }
+}
+
+const SPELLINGS: &[Pattern<'static>] = &[
+    ("/^a\\+$/", true, Offset::Plus(0), b"aa", b""),
+    ("/^a\\?b$/+1", true, Offset::Plus(1), b"b", b"aab"),
+    ("%^a\\{,2\\}$%", false, Offset::Plus(0), b"aa", b"aaa"),
+    ("/\\w\\W/", true, Offset::Plus(0), b"_.", b"a_"),
+    ("/\\s\\S/", true, Offset::Plus(0), b"\ta", b"a "),
+    ("/^\\-\\]\\/$/-1", true, Offset::Minus(1), b"-]/", b"-]"),
+];
+
+/// Faults are told at their place in the pattern as it was typed, but for `\/`, which is one byte.
+#[test]
+fn refuses_spellings_at_their_place(rt: HostRuntime) {
+    for (word, fault) in MISSPELLED {
+        let kind = OperandFaultKind::Bre(*fault);
+        assert!(rt;
+            is_refused(rt.alloc(), Calling::OwnName, &[*word], kind, 0),
+            "of {word}"
+        );
+    }
+}
+
+const MISSPELLED: &[(&str, BreFault)] = &[
+    ("/\\w\\|b/", BreFault::Escape(2)),
+    ("/a\\/\\+\\(/", BreFault::OpenGroup(4)),
+];

@@ -14,6 +14,7 @@ use first_lines::write_first_lines;
 use followed_file::follow_file;
 use mem_core::{Edit, MemOut, MemWatch};
 use operand_count::count_operands;
+use ports_core::Calling;
 use std::test::Fail;
 use text_parts::write_parts;
 use text_sections::write_sections;
@@ -36,14 +37,17 @@ fn writes_parts(rt: HostRuntime) -> Result<(), Fail> {
 
 #[test]
 fn counts_operands(rt: HostRuntime) {
-    let count = count_operands(rt.alloc(), &["/^a/", "{*}", "5"]);
+    let count = count_operands(rt.alloc(), Calling::Cutters, &["/^a/", "{*}", "5"]);
     assert!(rt; matches!(count, Ok(2)));
 }
 
 #[test]
 fn writes_sections(rt: HostRuntime) -> Result<(), Fail> {
     let mut outs = MemOut::new(rt.alloc())?;
-    let operands = read_operands(rt.alloc(), &["/^b/"]).expect(&rt, "these are operands");
+    let operands = read_operands(rt.alloc(), Calling::Cutters, &["/^b/"]).expect(
+        &rt,
+        "these are operands",
+    );
     let style = style_of(rt.alloc(), Options::Quiet)?;
     write_sections(rt.alloc(), &operands, style, b"a\nb\nc\n", &mut outs)?;
     assert!(rt; has_files(&outs, &[b"a\n", b"b\nc\n"]));

@@ -4,7 +4,7 @@
 //! none.
 
 use crate::window_tests::{keep_bytes, keep_lines};
-use bre_core::Expression;
+use bre_core::{Expression, respell};
 use plain_core::{matches_expression, matches_plain};
 use scan_core::{Bre, Scan};
 use seg_core::byte_window::ByteWindow;
@@ -21,6 +21,7 @@ enum Call {
     BytePut,
     LineWindow,
     LinePut,
+    Respell,
     Expression,
     PlainExpression,
     Bre,
@@ -33,6 +34,7 @@ const CALLS: &[Call] = &[
     Call::BytePut,
     Call::LineWindow,
     Call::LinePut,
+    Call::Respell,
     Call::Expression,
     Call::PlainExpression,
     Call::Bre,
@@ -73,6 +75,7 @@ fn succeeds(rt: &impl Abort, alloc: Global, call: Call) -> bool {
 /// The same for the calls that read a pattern or match with it.
 fn reads(alloc: Global, call: Call) -> bool {
     match call {
+        Call::Respell => respell(alloc, PATTERN).is_ok(),
         Call::Expression => Expression::read(alloc, PATTERN).is_ok(),
         Call::PlainExpression => plain_expression(alloc),
         Call::Bre => Bre::read(alloc, PATTERN).is_ok(),

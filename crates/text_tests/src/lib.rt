@@ -6,6 +6,8 @@ mod count_tests;
 #[cfg(test)]
 mod digit_tests;
 #[cfg(test)]
+mod gnu_spelling_tests;
+#[cfg(test)]
 mod grep_tests;
 #[cfg(test)]
 mod growth_tests;

@@ -45,7 +45,7 @@ use Rattle.ports_core.specs.{
   declared.{
     slot.State.TheVariants.Closed,
     file_writer.Opening.TheVariants.{Never, Late, AtOnce},
-    calling.Calling.TheVariants.Cutters,
+    calling.Calling.{Calling, TheVariants.Cutters},
   },
   Draft.{Share, files_from, made_of},
 }
@@ -65,22 +65,22 @@ abbrev KeepsAimed : Aimed → Type 0
 KeepsAimed (aims aim) = KeepsAim aim
 KeepsAimed (fails what) = Unit {0}
 
-closed_keeps : (least delimiter : ℕ) (text : List ℕ) (place : Option ℕ) → eqb delimiter 47 ≡ true
-    → KeepsAimed (aim_of least (closed_at delimiter text place))
-closed_keeps least delimiter text None is = tt
-closed_keeps least delimiter text (Some place) is = grind (arith, common_steps)
+closed_keeps : (calling : Calling) (least delimiter : ℕ) (text : List ℕ) (place : Option ℕ) → eqb delimiter 47 ≡ true
+    → KeepsAimed (aim_of calling least (closed_at delimiter text place))
+closed_keeps calling least delimiter text None is = tt
+closed_keeps calling least delimiter text (Some place) is = grind (arith, common_steps)
 
-repeated_keeps : (least : ℕ) (times : Option Times) → KeepsAimed (aim_of least (repeated times))
-repeated_keeps least None = tt
-repeated_keeps least (Some times) = tt
+repeated_keeps : (calling : Calling) (least : ℕ) (times : Option Times) → KeepsAimed (aim_of calling least (repeated times))
+repeated_keeps calling least None = tt
+repeated_keeps calling least (Some times) = tt
 
-numbered_keeps : (least : ℕ) (n : Option ℕ) → KeepsAimed (aim_of least (numbered n))
-numbered_keeps least None = tt
-numbered_keeps least (Some n) = grind (arith, common_steps)
+numbered_keeps : (calling : Calling) (least : ℕ) (n : Option ℕ) → KeepsAimed (aim_of calling least (numbered n))
+numbered_keeps calling least None = tt
+numbered_keeps calling least (Some n) = grind (arith, common_steps)
 
-word_keeps : (least : ℕ) (word : List ℕ) → skips word ≡ false → KeepsAimed (aim_of least (spelling word))
-word_keeps least [] differs = tt
-word_keeps least (byte ∷ text) differs = grind (arith, common_steps, cond_both, closed_keeps, false≢true, repeated_keeps, numbered_keeps)
+word_keeps : (calling : Calling) (least : ℕ) (word : List ℕ) → skips word ≡ false → KeepsAimed (aim_of calling least (spelling word))
+word_keeps calling least [] differs = tt
+word_keeps calling least (byte ∷ text) differs = grind (arith, common_steps, cond_both, closed_keeps, false≢true, repeated_keeps, numbered_keeps)
 
 abbrev KeepAims : List Spelled → Type 0
 KeepAims [] = Unit {0}
@@ -102,18 +102,18 @@ times_keep : (index : ℕ) (aim : Aim) (says : Option Times) (past next : Words)
 times_keep index aim (Some times) past next keeps first second = (keeps, first)
 times_keep index aim None past next keeps first second = (keeps, second)
 
-words_keep : (index least : ℕ) (words : List (List ℕ)) → SkipNothing words
-    → KeepAims (words_from index least words).operands
-words_keep index least [] none = tt
-words_keep index least (word ∷ []) none = grind (arith, common_steps, aimed_keep, word_keeps)
-words_keep index least (word ∷ next ∷ words) none = aimed_keep index _ _ (word_keeps least word none.0)
+words_keep : (calling : Calling) (index least : ℕ) (words : List (List ℕ)) → SkipNothing words
+    → KeepAims (words_from calling index least words).operands
+words_keep calling index least [] none = tt
+words_keep calling index least (word ∷ []) none = grind (arith, common_steps, aimed_keep, word_keeps)
+words_keep calling index least (word ∷ next ∷ words) none = aimed_keep index _ _ (word_keeps calling least word none.0)
     (λ aim keeps. times_keep index aim (times_by (spelling next)) _ _ keeps
-    (words_keep (index + 2) (least_after least aim) words none.1.1)
-    (words_keep (index + 1) (least_after least aim) (next ∷ words) none.1))
+    (words_keep calling (index + 2) (least_after least aim) words none.1.1)
+    (words_keep calling (index + 1) (least_after least aim) (next ∷ words) none.1))
 
-all_keep : (words : List (List ℕ)) → SkipNothing words → KeepAims (words_of words).operands
-all_keep [] none = tt
-all_keep (word ∷ words) none = words_keep 0 0 (word ∷ words) none
+all_keep : (calling : Calling) (words : List (List ℕ)) → SkipNothing words → KeepAims (words_of calling words).operands
+all_keep calling [] none = tt
+all_keep calling (word ∷ words) none = words_keep calling 0 0 (word ∷ words) none
 
 -- the operands that are read
 
@@ -206,7 +206,7 @@ ends_well ending well = refl
 
 pub record IsCsplit (run : Run) (asked : CsplitAsked) (input : List ℕ) : Type 0 where
   pub operands : List Operand
-  pub asks : Asks asked.operands operands
+  pub asks : Asks asked.calling asked.operands operands
   pub well : is_final (plan asked.style.suppress operands (all_lines input)).ending ≡ false
   pub files : files_of run ≡ map slot_of
       (files_from (manner_of asked.style) 0
@@ -259,7 +259,7 @@ pub none_is_lost : (run : Run) (asked : CsplitAsked) (input : List ℕ) → Does
 none_is_lost run asked input does has whole none =
     let split = is_csplit does has in
     let lines = all_lines input in
-    let keep = read_keep (words_of asked.operands).operands split.operands (all_keep asked.operands none) split.asks.read in
+    let keep = read_keep (words_of asked.calling asked.operands).operands split.operands (all_keep asked.calling asked.operands none) split.asks.read in
     let kept = runs_keep (plan_runs asked.style.suppress split.operands lines) keep in
     rw (
       split.contents,

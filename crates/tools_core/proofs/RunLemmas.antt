@@ -69,7 +69,7 @@ by_work : (calling : Calling) (which : Tool) (given : Given) {settings : Setting
 by_work calling tool.Head given is = by_check tool.Head (λ asked. Head asked) (Ok (ends_asked given)) (λ asked. refl) is
 by_work calling tool.Tail given is = by_check tool.Tail (λ asked. Tail asked) (tail_asked given) (λ asked. refl) is
 by_work calling tool.Split given is = by_check tool.Split (λ asked. Split asked) (split_asked given) (λ asked. refl) is
-by_work calling tool.Csplit given is = by_check tool.Csplit (λ asked. Csplit asked) (csplit_asked given) (λ asked. refl) is
+by_work calling tool.Csplit given is = by_check tool.Csplit (λ asked. Csplit asked) (csplit_asked calling given) (λ asked. refl) is
 by_work calling tool.Tee given is = by_check tool.Tee (λ asked. Tee asked) (Ok (tee_asked calling given)) (λ asked. refl) is
 by_work calling tool.Cutters given is = absurd (cc)
 

@@ -47,7 +47,7 @@ word_of words fault = []
 pub record CsplitEndsAs (calling : Calling) (told_in told : Bool)
     (asked : CsplitAsked) (inputs : List Input) (sources : List Source) (new : List Slot) (status : ℕ) : Type 0 where
   pub operands : List Operand
-  pub asks : Asks asked.operands operands
+  pub asks : Asks asked.calling asked.operands operands
   pub ends : EndsAs told_in told (csplit_task calling asked operands) inputs sources new status
 
 -- `tee` over its inputs, which are standard input alone

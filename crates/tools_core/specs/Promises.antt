@@ -420,7 +420,7 @@ abbrev pub IsTask : Calling → Settings → Task → Type 0
 IsTask calling (Head asked) task = task ≡ head_task calling asked
 IsTask calling (Tail asked) task = task ≡ tail_task calling asked.ends
 IsTask calling (Split asked) task = task ≡ split_task calling asked
-IsTask calling (Csplit asked) task = (operands : List Operand) × Asks asked.operands operands
+IsTask calling (Csplit asked) task = (operands : List Operand) × Asks asked.calling asked.operands operands
     × (task ≡ csplit_task calling asked operands)
 IsTask calling (Tee asked) task = ⊥
 IsTask calling (About tool topic) task = ⊥

@@ -182,7 +182,7 @@ pub fn csplit_loses_nothing()
         → HasInput csplit input → asked.style.suppress ≡ false → SkipNothing asked.operands
         → joined (contents_of csplit) ≡ input }
     ensures sections { (csplit : Run) (asked : CsplitAsked) (input : List ℕ) → Does csplit (Csplit asked)
-        → HasInput csplit input → (operands : List Operand) × Asks asked.operands operands
+        → HasInput csplit input → (operands : List Operand) × Asks asked.calling asked.operands operands
         × AreSections asked.style operands input (contents_of csplit) }
 {}
 
