@@ -7,12 +7,11 @@ use crate::pipe_links::{Depth, is_read_by, link_of};
 use crate::process_state::ProcessState;
 use crate::time_of;
 use std::alloc::Global;
-use std::fs;
 use std::io::{self, Error, ErrorKind};
 use std::path::PathBuf;
 use std::rt::{Clock, Files};
-use std::thread;
 use std::time::Duration;
+use std::{fs, thread};
 
 /// Where the system lists the processes that run, each by its number.
 const PROCESSES: &str = "/proc";
@@ -154,7 +153,11 @@ impl Pipe {
         false
     }
 
-    fn still_reads<S: Files + AllocGlobal + Clone + Drop>(&mut self, system: &S, place: usize) -> bool
+    fn still_reads<S: Files + AllocGlobal + Clone + Drop>(
+        &mut self,
+        system: &S,
+        place: usize,
+    ) -> bool
         requires { place < length self.old.holders.items }
         ensures { length self.new.holders.items ≡ length self.old.holders.items }
     {
@@ -241,7 +244,7 @@ impl Pipe {
         }
         match state_of(system, process) {
             Ok(Some(state)) => state.may_have_files
-                    && (self.knows(process) || self.may_have_got(system, process, state)),
+                && (self.knows(process) || self.may_have_got(system, process, state)),
             Ok(None) => false,
             Err(_) => true,
         }
