@@ -51,7 +51,9 @@ impl ProcessState {
 /// The state that the system's text tells.
 fn state_in(text: &[u8]) -> Option<ProcessState> {
     let end = text.iter().rposition(|&byte| byte == AFTER_NAME)?;
-    let mut fields = from_utf8(text.get(end + 1..)?).ok()?.split_ascii_whitespace();
+    let mut fields = from_utf8(text.get(end + 1..)?)
+        .ok()?
+        .split_ascii_whitespace();
     let has_ended = matches!(fields.next()?, "Z" | "X");
     let parent = fields.next()?.parse().ok()?;
     let session = fields.nth(1)?.parse().ok()?;

@@ -7,12 +7,11 @@ use crate::pipe_links::{Depth, is_read_by, link_of};
 use crate::process_state::ProcessState;
 use crate::time_of;
 use std::alloc::Global;
-use std::fs;
 use std::io::{self, Error, ErrorKind};
 use std::path::PathBuf;
 use std::rt::{Clock, Files};
-use std::thread;
 use std::time::Duration;
+use std::{fs, thread};
 
 /// Where the system lists the processes that run, each by its number.
 const PROCESSES: &str = "/proc";
@@ -32,7 +31,10 @@ const PIPE: &str = "pipe:[";
 /// How many milliseconds pass at least before the system is asked again.
 const PAUSE: u64 = 250;
 
-/// How many pass between the two searches after which nobody is taken to read.
+/// How many ancestors of this process are known as such.
+const MOST_ANCESTORS: u32 = 100;
+
+/// How many milliseconds pass between the two searches after which nobody is taken to read.
 const BETWEEN: u64 = 10;
 
 /// What is known of those who read standard output.
@@ -49,7 +51,7 @@ pub(crate) enum Readers {
 impl Readers {
     /// Whether they are gone. At first it looks who they are. They are gone where each that was found is, and two searches through all
     /// processes, the second through their threads, find none. They are never seen to be gone where a process can't be looked into that
-    /// was found to read, or one that began after this one, or that is in its session and began after its parent; nor where the
+    /// was found to read, or one that began after this one, or that is in its session and didn't begin it or its parents; nor where the
     /// list leaves out processes, or something can't be known, as for want of memory. The system is asked every 250 ms at the
     /// most.
     pub(crate) fn are_gone<R: Files + Clock>(&mut self, runtime: &R, alloc: Global) -> bool {
@@ -98,8 +100,6 @@ pub(crate) struct Pipe {
     name: PathBuf,
     /// This process.
     own: ProcessState,
-    /// When its parent began; 0 where that isn't known.
-    parent_began: u64,
     holders: Vec<Holder>,
     /// When the system was asked, in milliseconds of a clock.
     asked: u64,
@@ -116,7 +116,6 @@ impl Pipe {
         let mut pipe = Pipe {
             name,
             own,
-            parent_began: parent_began(system, own).unwrap_or(0),
             holders: Vec::new(system.alloc()),
             asked: time_of(system),
         };
@@ -154,7 +153,11 @@ impl Pipe {
         false
     }
 
-    fn still_reads<S: Files + AllocGlobal + Clone + Drop>(&mut self, system: &S, place: usize) -> bool
+    fn still_reads<S: Files + AllocGlobal + Clone + Drop>(
+        &mut self,
+        system: &S,
+        place: usize,
+    ) -> bool
         requires { place < length self.old.holders.items }
         ensures { length self.new.holders.items ≡ length self.old.holders.items }
     {
@@ -240,17 +243,38 @@ impl Pipe {
             return true;
         }
         match state_of(system, process) {
-            Ok(Some(state)) => state.may_have_files && (self.knows(process) || self.may_have_got(state)),
+            Ok(Some(state)) => state.may_have_files
+                && (self.knows(process) || self.may_have_got(system, process, state)),
             Ok(None) => false,
             Err(_) => true,
         }
     }
 
-    /// Whether another process may have got the pipe from the one that made it: it began after this one, or after its parent and in the
-    /// same session.
-    fn may_have_got(&self, other: ProcessState) -> bool {
+    /// Whether another process may have got the pipe from the one that made it: it began after this one, or is in its session and
+    /// none of those that began it.
+    fn may_have_got<S: Files + AllocGlobal>(
+        &self,
+        system: &S,
+        process: u32,
+        other: ProcessState,
+    ) -> bool {
         other.began >= self.own.began
-            || (other.session == self.own.session && other.began >= self.parent_began)
+            || (other.session == self.own.session && !self.descends_from(system, process))
+    }
+
+    /// Whether this process's parent, or the parent of that and so on, is one.
+    fn descends_from<S: Files + AllocGlobal>(&self, system: &S, process: u32) -> bool {
+        let mut ancestor = self.own.parent;
+        for _ in 0..MOST_ANCESTORS {
+            if ancestor == process {
+                return true;
+            }
+            match state_of(system, ancestor) {
+                Ok(Some(state)) => ancestor = state.parent,
+                Ok(None) | Err(_) => return false,
+            }
+        }
+        false
     }
 }
 
@@ -258,11 +282,6 @@ impl Pipe {
 fn state_of<S: Files + AllocGlobal>(system: &S, process: u32) -> io::Result<Option<ProcessState>> {
     let path = format!(in system.alloc(); "{PROCESSES}/{process}/stat")?;
     ProcessState::of(system, path.as_str())
-}
-
-/// When the parent of this process began. None where that isn't known.
-fn parent_began<S: Files + AllocGlobal>(system: &S, own: ProcessState) -> Option<u64> {
-    Some(state_of(system, own.parent).ok()??.began)
 }
 
 /// Whether a list may leave out processes, as that of all those of other users.

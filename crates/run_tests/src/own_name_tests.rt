@@ -3,8 +3,9 @@
 ghost use Rattle.std.specs.Prelude.{◌≡◌, OnOk};
 ghost use Rattle.ports_core.specs.Source.{IsFresh};
 
+use crate::follow_tests::watch_of;
 use crate::left::{LAID, Left, NOTHING, differs, inputs_of};
-use mem_core::{MemIn, MemOut, MemWatch};
+use mem_core::{Edit, MemIn, MemOut, MemWatch};
 use ports_core::{Calling, Fault, Reason};
 use std::alloc::Global;
 use std::process::Abort;
@@ -239,3 +240,52 @@ const ROWS: &[Row<'static>] = &[
         },
     },
 ];
+
+/// A file that grows with each look.
+const GROWING: &[&[Edit<'static>]] = &[
+    &[Edit::Replace("f", b"a\nb\n")],
+    &[Edit::Append("f", b"c\n")],
+    &[Edit::Append("f", b"d\n")],
+];
+
+/// What following it in three looks leaves of standard output, and the status, where the question of this number finds no reader.
+const UNREAD: &[(u64, &[u8], u8)] = &[
+    (1, b"", 141),
+    (2, b"b\n", 141),
+    (3, b"b\nc\n", 141),
+    (4, b"b\nc\nd\n", 0),
+];
+
+/// By its own name a `tail` that follows asks before each look whether it is read, and ends without a word where it isn't.
+#[test]
+fn ends_with_its_reader_by_its_own_name_alone(rt: HostRuntime) -> Result<(), Fail> {
+    for (question, output, status) in UNREAD {
+        let own = follow_unread(rt.alloc(), Calling::OwnName, *question)?;
+        assert!(rt; leaves(&own, output, *status), "at question {question}");
+        let other = follow_unread(rt.alloc(), Calling::Cutters, *question)?;
+        assert!(rt; leaves(&other, b"b\nc\nd\n", 0), "by cutters");
+    }
+    Ok(())
+}
+
+fn follow_unread(alloc: Global, calling: Calling, question: u64) -> Result<(MemOut, u8), Fault> {
+    let mut inputs = inputs_of(alloc, LAID, b"")?;
+    let mut watch = watch_of(alloc, GROWING)?;
+    let mut outs = MemOut::new(alloc)?;
+    outs.unread_at(question);
+    let status = run_words(
+        alloc,
+        calling,
+        &["tail", "-f", "-n", "1", "--looks=3", "f"],
+        &mut inputs,
+        &mut watch,
+        &mut outs,
+    );
+    Ok((outs, status))
+}
+
+/// Whether a run left this on standard output and nothing on standard error.
+fn leaves(run: &(MemOut, u8), output: &[u8], status: u8) -> bool {
+    let (outs, is) = run;
+    outs.bytes(0) == output && outs.bytes(1).is_empty() && *is == status
+}

@@ -112,19 +112,21 @@ returns-then-is_unread-clause-unread g c is =
     let l = c.loop-made in
     let below = c.loop-made-test.true in
     let (own, broke) = c.is_unread.ensures.unread c.if-is_unread.true in
-    let (most, are, above) = most_more {process = c.args.limits.process} l.invariant.left below in
-    (own, (
-      most,
-      are,
-      (λ calling ways headers names first holds.
-          let p = l.invariant.progress calling ways headers names first holds in record {
-            looks = p.looks;
-            observed = p.observed;
-            made = p.is_made;
-            fewer = rw p.count (omega arith);
-            alive = p.alive;
-            before = g.O.Outs.slots l.outs;
-            broke = broke;
-            holds = p.holds;
-          }),
-    ))
+    let (most, are, above) = most_more {process = c.args.limits.process} l.invariant.left below in (
+      own,
+      (
+        most,
+        are,
+        (λ calling ways headers names first holds.
+            let p = l.invariant.progress calling ways headers names first holds in record {
+              looks = p.looks;
+              observed = p.observed;
+              made = p.is_made;
+              fewer = rw p.count (omega arith);
+              alive = p.alive;
+              before = g.O.Outs.slots l.outs;
+              broke = broke;
+              holds = p.holds;
+            }),
+      ),
+    )
