@@ -56,7 +56,7 @@ pub zero_breaks : {watch : DirWatchState} {names : List Watched} {forgives : Boo
 zero_breaks {watch} {names} turns place {item} {zero_in} is can at zero_is some =
     let those : names ≡ watch.watched = ap (λ (all : DirWatchState). all.watched) is in
     let found : item ≡ watched_at watch.watched place = name_there names place item (names_within names watch.watched place those can) at
-        ∙ ap (λ all. watched_at all place) those in
+    ∙ ap (λ all. watched_at all place) those in
     may_break _ is (inr (ap (λ (those : Watched). has_zero those.name) (sym found) ∙ sym zero_is ∙ not-false zero_in some))
 
 -- what was opened is not told
