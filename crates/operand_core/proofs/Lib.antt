@@ -1,2 +1,3 @@
 pub mod AimLemmas
 pub mod ReadingLemmas
+pub mod SpellingLemmas
