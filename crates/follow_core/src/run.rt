@@ -116,8 +116,8 @@ fn make_looks<W: Watch, O: Outs>(
     requires unseen { W.seen watch.old ≡ [] }
     requires can { CanLook follow.old (W.watched watch.old) (O.slots outs.old) }
     requires print { CanPrint (O.slots outs.old) }
-    ensures looked
-        { result ≡ Ok End.Looked → ((most : ℕ) × AreMost W.told limits.process (W.shows watch.old) limits.looks most
+    ensures looked { result ≡ Ok End.Looked
+        → ((most : ℕ) × AreMost W.told limits.process (W.shows watch.old) limits.looks most
         × ((calling : Calling) (ways : Ways) (headers : Bool) (names : List (List ℕ)) (first : List Slot)
         → Holds W.told O.told calling ways headers names [] first follow.old (W.watched watch.old) (O.slots outs.old)
         → LookedAll W.told O.told calling ways headers names most (W.shows watch.old) first follow.new

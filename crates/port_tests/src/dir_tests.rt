@@ -22,6 +22,17 @@ fn are_sound(rt: &impl Abort, outs: &DirOut<'_, HostRuntime>, names: &[&str]) {
     assert!(rt; outs.name(slot).is_empty() && !outs.broken(slot));
 }
 
+/// The standard streams are read for all that is seen at first.
+#[test]
+fn standard_streams_are_still_read(rt: HostRuntime) -> Result<(), Fail> {
+    let inputs = InputFiles::new(rt.alloc());
+    let mut outs = outs_of(rt, &inputs);
+    outs.still_read(0)?;
+    outs.still_read(1)?;
+    are_sound(&rt, &outs, &["standard output", "standard error"]);
+    Ok(())
+}
+
 /// How a file is opened, what it then holds, what is written to it, and what it holds after that.
 #[derive(Clone, Copy)]
 struct Opening<'a> {

@@ -45,8 +45,8 @@ abbrev pub FollowsAs : Calling → (told_in told : Bool) → TailSettings → Fo
 FollowsAs calling told_in told asked followed looks shows seen watched new status =
     FollowEndsBy asked.process told_in told calling (ways_of 0 (is_name followed) (start_of asked.ends))
     (has_headers asked.ends.headers asked.ends.names) asked.ends.names looks
-    (λ n. waiting (max (pause_by calling asked.pause) 1) (shows_by calling (is_name followed) shows n)) streams seen
-    watched new status
+    (λ n. waiting (max (pause_by calling asked.pause) 1) (shows_by calling (is_name followed) shows n))
+    streams seen watched new status
 
 -- the words are refused for this, and no name was watched and no look made
 abbrev pub RefusesUnseen : Bool → List (List ℕ) → Fault → List Snapshot → List Watched → List Slot → ℕ → Type 0
