@@ -77,10 +77,12 @@ search_closed delimiter text {place} is at read then =
 
 -- What a word aims at.
 
-pub below_last : (calling : Calling) (least n : ℕ) → n < least → IsAimed (aim_of calling least (number n)) (Err kind.LineOrder)
+pub below_last : (calling : Calling) (least n : ℕ) → n < least
+    → IsAimed (aim_of calling least (number n)) (Err kind.LineOrder)
 below_last calling least n less = is_wrong kind.LineOrder (ap (λ b. cond b (fails kind.LineOrder) (aims (line n))) (lt-ltb n least less))
 
-pub not_below : (calling : Calling) (least n : ℕ) → least ≤ n → IsAimed (aim_of calling least (number n)) (Ok (Number n))
+pub not_below : (calling : Calling) (least n : ℕ) → least ≤ n
+    → IsAimed (aim_of calling least (number n)) (Ok (Number n))
 not_below calling least n more = is_target (line n) (Number n) (ap (λ b. cond b (fails kind.LineOrder) (aims (line n))) (le-ltb n least more)) refl
 
 -- how a `?` ends

@@ -32,7 +32,8 @@ abbrev pub after_front : List Spelled → Words → Words
 after_front front words = record { operands = front ++ words.operands; fault = words.fault }
 
 -- a step over an operand and the words that say how often it is performed again
-pub step_over : (calling : Calling) (index least : ℕ) (word : List ℕ) {words : List (List ℕ)} {aim : Aim} {times : Times} {said : ℕ}
+pub step_over : (calling : Calling) (index least : ℕ) (word : List ℕ) {words : List (List ℕ)} {aim : Aim}
+    {times : Times} {said : ℕ}
     → aim_of calling least (spelling word) ≡ aims aim → SayTimes words times said
     → words_from calling index least (word ∷ words)
     ≡ with_operand index aim times (words_from calling (index + (1 + said)) (least_after least aim) (drop said words))
@@ -41,8 +42,10 @@ step_over calling index least word is (again next rest times' says) = cc
 step_over calling index least word is (other next rest says) = cc
 
 -- a word that is wrong ends the list
-pub stop_at : (calling : Calling) {index : ℕ} (least : ℕ) (word : List ℕ) (words : List (List ℕ)) {what : OperandFaultKind}
-    → aim_of calling least (spelling word) ≡ fails what → words_from calling index least (word ∷ words) ≡ failed what index
+pub stop_at : (calling : Calling) {index : ℕ} (least : ℕ) (word : List ℕ) (words : List (List ℕ))
+    {what : OperandFaultKind}
+    → aim_of calling least (spelling word) ≡ fails what → words_from calling index least (word ∷ words)
+    ≡ failed what index
 stop_at calling least word [] is = cc
 stop_at calling least word (next ∷ words) is = cc
 
@@ -67,12 +70,14 @@ first_is_other [] default some is reads at = search rules
 first_is_other (word ∷ words) default some is reads at = other word.now (texts words) (sym (ap (λ those. times_by (spelling those)) is) ∙ sym reads ∙ at)
 
 -- Some words were read, and these are left.
-pub record Reads (calling : Calling) (words : List (Bor (List ℕ))) (read : List Operand) (least : ℕ) (left : List (Bor (List ℕ)))
+pub record Reads (calling : Calling) (words : List (Bor (List ℕ))) (read : List Operand) (least : ℕ)
+    (left : List (Bor (List ℕ)))
     : Type 0 where
   pub front : List Spelled
   pub are : AreRead front read
   pub within : length left ≤ length words
-  pub asks : words_of calling (texts words) ≡ after_front front (words_from calling (length words - length left) least (texts left))
+  pub asks : words_of calling (texts words)
+      ≡ after_front front (words_from calling (length words - length left) least (texts left))
 
 -- what a word that is no operand makes of the list
 
@@ -89,10 +94,12 @@ says : (words : List (List ℕ)) → (times : Times) × (said : ℕ) × SayTimes
 says [] = (Count 0, 0, no_word)
 says (next ∷ words) = says_by (times_by (spelling next)) refl
 
-ends_by : (calling : Calling) (words : List (List ℕ)) (read : List Operand) (front : List Spelled) (index least : ℕ) (word : List ℕ)
+ends_by : (calling : Calling) (words : List (List ℕ)) (read : List Operand) (front : List Spelled) (index least : ℕ)
+    (word : List ℕ)
     (left : List (List ℕ)) (what : OperandFaultKind)
     → AreRead front read → words_of calling words ≡ after_front front (words_from calling index least (word ∷ left))
-    → IsAimed (aim_of calling least (spelling word)) (Err what) → IsFault calling words (record { kind = what; index = index })
+    → IsAimed (aim_of calling least (spelling word)) (Err what)
+    → IsFault calling words (record { kind = what; index = index })
 ends_by calling words read front index least word left what are asks (is_wrong what' is) =
     let at : words_of calling words ≡ after_front front (failed what index) = asks ∙ ap (after_front front) (stop_at calling least word left is) in
     reading.is_wrong (record { kind = what; index = index }) read (ap (λ (w : Words). w.fault) at) (subst (λ those. AreRead those read) (sym (ap (λ (w : Words). w.operands) at ∙ append-nil front)) are)
@@ -102,7 +109,8 @@ ends_by calling words read front index least word left what are asks (is_refused
     (ap (λ (w : Words). w.operands) (asks ∙ ap (after_front front) (step_over calling index least word is said.2))) are refused
 ends_by calling words read front index least word left what are asks no_memory = reading.no_memory index
 
-pub ends_at : {calling : Calling} {words : List (Bor (List ℕ))} {read : List Operand} {least : ℕ} (left : List (Bor (List ℕ)))
+pub ends_at : {calling : Calling} {words : List (Bor (List ℕ))} {read : List Operand} {least : ℕ}
+    (left : List (Bor (List ℕ)))
     {text : List ℕ} (default : Bor (List ℕ)) {result : Result Target OperandFaultKind} {what : OperandFaultKind}
     → Reads calling words read least left → 1 ≤ length left → text ≡ (get_or left 0 default).now
     → IsAimed (aim_of calling least (spelling text)) result → result ≡ Err what
@@ -127,12 +135,14 @@ least_same least (line n) (Number m) is = sym is
 least_same least (match kept text offset) (Search pattern kept' offset') is = refl
 least_same least aim target is = absurd is
 
-next_by : (calling : Calling) (words : List (List ℕ)) (read : List Operand) (front : List Spelled) (index least : ℕ) (word : List ℕ)
+next_by : (calling : Calling) (words : List (List ℕ)) (read : List Operand) (front : List Spelled) (index least : ℕ)
+    (word : List ℕ)
     {left : List (List ℕ)} {target : Target} {times : Times} {said : ℕ}
     → AreRead front read → words_of calling words ≡ after_front front (words_from calling index least (word ∷ left))
     → IsAimed (aim_of calling least (spelling word)) (Ok target) → SayTimes left times said
     → (front' : List Spelled) × AreRead front' (read ++ record { index = index; target = target; times = times } ∷ [])
-    × (words_of calling words ≡ after_front front' (words_from calling (index + (1 + said)) (least_by least target) (drop said left)))
+    × (words_of calling words
+        ≡ after_front front' (words_from calling (index + (1 + said)) (least_by least target) (drop said left)))
 next_by calling words read front index least word {left} {target} {times} {said} are asks (is_target aim target' is hits) says = (
   front ++ spelled_as index aim times ∷ [],
   are_more front read are (record { index = refl; target = hits; times = refl }),
@@ -142,7 +152,8 @@ next_by calling words read front index least word {left} {target} {times} {said}
       ∙ ap (λ n. after_front (front ++ spelled_as index aim times ∷ []) (words_from calling (index + (1 + said)) n (drop said left))) (least_same least aim target hits),
 )
 
-pub reads_next : {calling : Calling} {words : List (Bor (List ℕ))} {read : List Operand} {least : ℕ} (left : List (Bor (List ℕ)))
+pub reads_next : {calling : Calling} {words : List (Bor (List ℕ))} {read : List Operand} {least : ℕ}
+    (left : List (Bor (List ℕ)))
     {text : List ℕ} (default : Bor (List ℕ)) {result : Result Target OperandFaultKind} {target : Target}
     {rest : List (Bor (List ℕ))} {times : Times} {said : ℕ} {now : List Operand} {after : List (Bor (List ℕ))}
     {least' : ℕ}
@@ -177,7 +188,8 @@ read_once [] (a ∷ one) another is are = absurd is
 read_once (first ∷ spelled) [] another is are = absurd is
 read_once spelled one another is are = absurd are
 
-pub asks_once : (calling : Calling) (words : List (List ℕ)) (one another : List Operand) → Asks calling words one → Asks calling words another
+pub asks_once : (calling : Calling) (words : List (List ℕ)) (one another : List Operand) → Asks calling words one
+    → Asks calling words another
     → one ≡ another
 asks_once calling words one another is are = read_once (words_of calling words).operands one another is.read are.read
 
@@ -196,7 +208,8 @@ aim_not_both (match has text by) (Search pattern kept offset) TooLarge hits larg
 aim_not_both (match has text by) (Search pattern kept offset) Memory hits refused = refused
 aim_not_both (match has text by) (Search pattern kept offset) fault hits none = search rules
 
-pub reads_or_fails : (calling : Calling) (words : List (List ℕ)) (operands : List Operand) (fault : OperandFault) → Asks calling words operands
+pub reads_or_fails : (calling : Calling) (words : List (List ℕ)) (operands : List Operand) (fault : OperandFault)
+    → Asks calling words operands
     → IsFault calling words fault → IsOfWords fault.kind → ⊥
 reads_or_fails calling words operands fault asks (is_wrong another read at are) is = cc (asks.well, at)
 reads_or_fails calling words operands fault asks (is_refused another front refused rest read at are has) is =

@@ -70,7 +70,8 @@ closed_keeps : (calling : Calling) (least delimiter : ℕ) (text : List ℕ) (pl
 closed_keeps calling least delimiter text None is = tt
 closed_keeps calling least delimiter text (Some place) is = grind (arith, common_steps)
 
-repeated_keeps : (calling : Calling) (least : ℕ) (times : Option Times) → KeepsAimed (aim_of calling least (repeated times))
+repeated_keeps : (calling : Calling) (least : ℕ) (times : Option Times)
+    → KeepsAimed (aim_of calling least (repeated times))
 repeated_keeps calling least None = tt
 repeated_keeps calling least (Some times) = tt
 
@@ -78,7 +79,8 @@ numbered_keeps : (calling : Calling) (least : ℕ) (n : Option ℕ) → KeepsAim
 numbered_keeps calling least None = tt
 numbered_keeps calling least (Some n) = grind (arith, common_steps)
 
-word_keeps : (calling : Calling) (least : ℕ) (word : List ℕ) → skips word ≡ false → KeepsAimed (aim_of calling least (spelling word))
+word_keeps : (calling : Calling) (least : ℕ) (word : List ℕ) → skips word ≡ false
+    → KeepsAimed (aim_of calling least (spelling word))
 word_keeps calling least [] differs = tt
 word_keeps calling least (byte ∷ text) differs = grind (arith, common_steps, cond_both, closed_keeps, false≢true, repeated_keeps, numbered_keeps)
 

@@ -119,7 +119,8 @@ same_tee (Err fault) is = refl
 
 own_topic : (topic : Option Topic) (style : Style) (operands : List GivenOperand)
     → about_or tool.Csplit topic (then_check (asked_of OwnName style operands) (λ asked. Ok (Csplit asked)))
-    ≡ by_own_name (about_or tool.Csplit topic (then_check (asked_of Cutters style operands) (λ asked. Ok (Csplit asked))))
+    ≡ by_own_name (about_or tool.Csplit topic (then_check (asked_of Cutters style operands) (λ asked.
+        Ok (Csplit asked))))
 own_topic (Some topic) style operands = refl
 own_topic None style [] = refl
 own_topic None style (file ∷ []) = refl

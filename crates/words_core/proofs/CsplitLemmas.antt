@@ -20,7 +20,8 @@ asked_first calling style none all =
 -- the first operand is the file
 
 -- what a call returns for the style of these options and for these operands is what is asked, or why it is refused
-pub settled : (calling : Calling) (given : Given) (options : List Chosen) (none : Operand) (all : List Operand) {style : Style}
+pub settled : (calling : Calling) (given : Given) (options : List Chosen) (none : Operand) (all : List Operand)
+    {style : Style}
     (result : Result CsplitAsked Fault)
     → map option_seen options ≡ given.options → map operand_seen all ≡ given.operands
     → style ≡ style_of (map option_seen options)
