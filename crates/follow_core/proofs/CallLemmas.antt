@@ -1,7 +1,7 @@
 -- What a call on a name gives, by what the calls in it give: bytes under headers, and lines; the open file, and where the name leads.
 use Rattle.std.proofs.{
   lemmas.{Grind.common_steps, List.{append-nil, take-append-le}},
-  Common.{◌≡◌, ℕ, Bool, List, [], ◌∷◌, ◌++◌, inl, inr, ◌⊎◌, ◌∙◌, ◌+◌, length, take, true, false, not},
+  Common.{◌≡◌, ℕ, Bool, List, [], ◌∷◌, ◌++◌, inl, inr, ◌⊎◌, ◌∙◌, ◌+◌, length, take, true, false, not, codes},
   Common.{if◌then◌else◌, Some, None, Option, refl, arith, append_assoc, length-append, bytes_eq, is_none, rules},
   Math.{Seq.take-append-add, Bool.and-false},
 }
@@ -9,6 +9,7 @@ use Rattle.ports_core.specs.{
   Slot.{Slot, with_written, told_of},
   Message.{OnError, SaysOn},
   Text.{line_of, message_of, header_of},
+  Reason.is_endless,
   declared.{calling.Calling.{Calling, TheVariants.{Cutters, OwnName}}, reason.Reason.Reason, fault.Fault.Fault},
 }
 use Rattle.ports_core.proofs.{MessageLemmas.printed_open, WriteLemmas.{broke_later, none_written, written_both}}
@@ -27,11 +28,15 @@ use Rattle.ports_core.specs.declared.fault.Fault.TheVariants as fault
 
 -- the message of a failure that was said
 
--- that memory is exhausted is said without a reason
+-- that memory is exhausted is said without a reason, and alike for each
+alike : {A : Type 0} (b : Bool) (x : A) → (if b then x else x) ≡ x
+alike true x = refl
+alike false x = refl
+
 unreasoned : (calling : Calling) (why : Reason) {said : List ℕ}
     → said ≡ line_of (tail_by calling) why (message_of fault.Memory []) → said ≡ failure_text fault.Memory []
-unreasoned OwnName why is = is
-unreasoned Cutters why is = is
+unreasoned OwnName why is = rw (alike (is_endless why) (codes "memory exhausted")) at is
+unreasoned Cutters why is = rw (alike (is_endless why) (codes "memory exhausted")) at is
 
 -- of a name that can't be read, or opened
 pub failure_said : {told : Bool} {calling : Calling} {why : Reason} (read : Bool) (place : ℕ) (name : List ℕ)
