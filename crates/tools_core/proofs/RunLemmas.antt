@@ -172,7 +172,7 @@ refused_memory words fault refuses = record {
 -- what is said of the words is said by the tool that they ask for: alike, however the program was called, if no reason
 -- stands in it
 abbrev unreasoned : List ℕ → Message
-unreasoned text = record { text = text; has_reason = false }
+unreasoned text = record { text = text; endless = text; has_reason = false }
 
 pub worded_by : {told : Bool} {text : List ℕ} (calling : Calling) {which tool : Tool} {old new : Slot} → which ≡ tool
     → Says told (by Cutters which) (unreasoned text) old new → Says told (by calling tool) (unreasoned text) old new

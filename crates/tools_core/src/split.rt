@@ -1,6 +1,6 @@
 //! `split`: an input cut into files (POSIX.1-2017, XCU split).
-ghost use Rattle.std.specs.Prelude.{◌≡◌, ◌<◌, ℕ, Bool, List, Option, length, option_map, IfErr, IfOk, IfSome, IsTrue};
-ghost use Rattle.ports_core.specs.Source.{is_readable};
+ghost use Rattle.std.specs.Prelude.{◌≡◌, ◌<◌, ℕ, Bool, true, List, Option, length, option_map, IfErr, IfOk, IfSome, IsTrue};
+ghost use Rattle.ports_core.specs.Source.{count_shown, is_readable, source_at};
 ghost use Rattle.run_core.specs.RunSteps.{IsShown};
 ghost use Rattle.split_core.specs.{ChunkWork.way_work, Split.{Filing, tells_by}};
 ghost use Rattle.tools_core.specs.{laws.Props.CanSplit-prop, Tasks.{naming_of, split_task}};
@@ -68,7 +68,7 @@ impl<'a, 'b> Adapter for SplitAdapter<'a, 'b> {
     }
 }
 
-/// How many bytes a source shows, where that matters and it shows them. Else a device without an end isn't waited for.
+/// How many bytes a source shows, where that matters and it shows them.
 fn said_by<I: Inputs>(way: &Way, source: Option<usize>, inputs: &mut I) -> Option<u64>
     requires input { IfSome source (λ slot. IsTrue (is_readable (I.sources inputs.old) slot)) }
     ensures said { (shown : Option (List ℕ)) × IsShown I.told source (I.sources inputs.old) shown
@@ -81,12 +81,25 @@ fn said_by<I: Inputs>(way: &Way, source: Option<usize>, inputs: &mut I) -> Optio
     let (Way::Chunks(_) | Way::Chunk(_, _)) = way else {
         return None;
     };
-    let slot = source?;
-    let said = inputs.shown(slot);
-    if said.is_none() {
+    match source {
+        Some(slot) => shown_or_limited(slot, inputs),
+        None => None,
+    }
+}
+
+/// How many bytes an input shows. Where it shows none, a device without an end isn't waited for.
+fn shown_or_limited<I: Inputs>(slot: usize, inputs: &mut I) -> Option<u64>
+    requires { IsTrue (is_readable (I.sources inputs.old) slot) }
+    ensures some { IfSome result (λ size. 0 < size) }
+    ensures counted { I.told ≡ true → result ≡ count_shown (source_at (I.sources inputs.old) slot).left }
+    ensures same { I.sources inputs.new ≡ I.sources inputs.old }
+    ensures laid { I.laid inputs.new ≡ I.laid inputs.old }
+{
+    let size = inputs.shown(slot);
+    if size.is_none() {
         inputs.limit(slot);
     }
-    said
+    size
 }
 
 /// What standard output is told of its files.

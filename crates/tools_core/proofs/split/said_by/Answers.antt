@@ -7,7 +7,7 @@ use Rattle.tools_core.proofs.split.said_by.Goals as goal
 pub returns-in-Some-clause-said : goal.returns-in-Some-clause-said
 returns-in-Some-clause-said g c =
     let sources = g.I.Inputs.sources c.args.inputs.now in
-    let (shown, says, is) = said_shown g.I.Inputs.told c.in-Some.slot sources c.shown.ensures.counted in (
+    let (shown, says, is) = said_shown g.I.Inputs.told c.in-Some.slot sources c.shown_or_limited.ensures.counted in (
       shown,
       subst (λ source. IsShown g.I.Inputs.told source sources shown) (sym c.in-Some.is) says,
       λ elide filing. ap (way_work c.args.way.now elide filing) is,
