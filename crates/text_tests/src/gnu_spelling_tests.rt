@@ -1,7 +1,6 @@
 //! Patterns in GNU's spelling: the text that POSIX has for them, and where faults of that are in what was typed.
 
 use bre_core::{BreFault, Expression, respell};
-use plain_core::matches_expression;
 use std::alloc::Global;
 use std::process::Abort;
 
@@ -91,34 +90,4 @@ fn is_told(rt: &impl Abort, alloc: Global, row: &(&[u8], BreFault, BreFault)) ->
         Ok(_) => false,
         Err(fault) => fault == row.1 && fault.as_typed(row.0) == row.2,
     }
-}
-
-/// A pattern in GNU's spelling, a line that it matches, and one that it doesn't.
-const LINES: &[(&[u8], &[u8], &[u8])] = &[
-    (b"^a\\+$", b"aa", b""),
-    (b"^a\\?$", b"", b"aa"),
-    (b"^\\(ab\\)\\{,2\\}$", b"abab", b"ababab"),
-    (b"^\\w\\W\\s\\S$", b"_-\t.", b"_a\t."),
-    (b"a\\*\\+", b"a**", b"a"),
-];
-
-#[test]
-fn patterns_match_as_those_of_gnu(rt: HostRuntime) {
-    for (pattern, line, other) in LINES {
-        assert!(rt;
-            has(&rt, rt.alloc(), pattern, line),
-            "{pattern:?} in {line:?}"
-        );
-        assert!(rt;
-            !has(&rt, rt.alloc(), pattern, other),
-            "{pattern:?} in {other:?}"
-        );
-    }
-    assert!(rt; has(&rt, rt.alloc(), b"", b"") && has(&rt, rt.alloc(), b"", b"any"));
-}
-
-fn has(rt: &impl Abort, alloc: Global, pattern: &[u8], line: &[u8]) -> bool {
-    let posix = respell(alloc, pattern).expect(rt, "there is memory");
-    let read = Expression::read(alloc, &posix).expect(rt, "the pattern reads");
-    matches_expression(alloc, &read, line).expect(rt, "there is memory")
 }

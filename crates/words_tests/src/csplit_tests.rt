@@ -1,7 +1,7 @@
 //! What the words after `csplit` ask for: rows that no clause shows to be read, since there may be no memory for them.
 use crate::asked::{Asked, check};
-use crate::refused::{Refused, refuse};
-use ports_core::{Base, Filling, Form, UsageKind};
+use crate::refused::{Refused, refuse, refuse_called};
+use ports_core::{Base, Calling, Filling, Form, UsageKind};
 use std::alloc::Global;
 use std::process::Abort;
 use words_core::{CsplitSettings, Settings};
@@ -464,7 +464,14 @@ const BAD_OPTIONS: &[Refused<'static>] = &[
 #[test]
 fn refuses_operands(rt: HostRuntime) {
     refuse(&rt, rt.alloc(), BAD_OPERANDS);
+    refuse_called(&rt, rt.alloc(), Calling::Cutters, OF_GNU_ALONE);
 }
+
+/// Patterns that GNU's spelling has, and POSIX's hasn't.
+const OF_GNU_ALONE: &[Refused<'static>] = &[
+    (&["csplit", "-", "//"], UsageKind::BadPattern(1, 0), 2),
+    (&["csplit", "-", "/a\\+/"], UsageKind::BadPattern(3, 1), 2),
+];
 
 const LARGE: &str = "/\\(a\\{255\\}\\)\\{255\\}\\(a\\{255\\}\\)\\{255\\}/";
 
@@ -481,7 +488,6 @@ const BAD_OPERANDS: &[Refused<'static>] = &[
     (&["csplit", "-", "x"], UsageKind::BadOperand(10), 2),
     (&["csplit", "-", "--", "-1"], UsageKind::BadOperand(10), 3),
     (&["csplit", "-", ""], UsageKind::BadOperand(10), 2),
-    (&["csplit", "-", "//"], UsageKind::BadPattern(1, 0), 2),
     (&["csplit", "-", "/[/"], UsageKind::BadPattern(7, 0), 2),
     (
         &["csplit", "-", "%a\\{3,2\\}%"],
