@@ -42,7 +42,7 @@ one_more index word {words} {times} {said} says alike least operands read = by_a
   where
     taken : (aim : Aim) (operands : List Operand) → aim_of Cutters least (spelling word) ≡ aims aim
         → AreRead (with_operand index aim times
-            (words_from Cutters (index + (1 + said)) (least_after least aim) (drop said words))).operands operands
+        (words_from Cutters (index + (1 + said)) (least_after least aim) (drop said words))).operands operands
         → words_from OwnName index least (word ∷ words) ≡ words_from Cutters index least (word ∷ words)
     taken aim (operand ∷ more) is are =
         step_over OwnName index least word (same_aim least (spelling word) aim operand.target is are.0.target) says

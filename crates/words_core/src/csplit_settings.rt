@@ -73,8 +73,8 @@ pub fn read_settings<'a>(
     input: &'a str,
     operands: &[Operand<'a>],
 ) -> Result<CsplitSettings<'a>, Fault>
-    ensures ok
-        { IfOk result (λ settings. settings ≡ asked_with calling style input.now (map operand_seen operands.now)) }
+    ensures ok { IfOk result (λ settings.
+        settings ≡ asked_with calling style input.now (map operand_seen operands.now)) }
     ensures operands { IfOk result HasRead }
     ensures err { IfErr result
         (λ fault. (fault ≡ Fault.Memory)
