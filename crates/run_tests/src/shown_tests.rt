@@ -197,14 +197,7 @@ const TAILS: &[Row<'static>] = &[
     (&["tail", "f"], b"vwxyzABC", &[], b"vwxyzABC", &[], b""),
     // All eight stand before the last none.
     (&["tail", "-n", "0", "f"], SHOWN, &[], b"", &[], b""),
-    (
-        &["tail", "-n", "0", "f"],
-        b"0123456789",
-        &[],
-        b"",
-        &[],
-        b"",
-    ),
+    (&["tail", "-n", "0", "f"], b"0123456789", &[], b"", &[], b""),
     (
         &["tail", "-c", "0", "f"],
         b"0123456",
