@@ -66,7 +66,7 @@ abbrev pub chunks_of : Chunks → ℕ → List ℕ → CutUp
 chunks_of chunks size x = chunks_within chunks size (take size x)
 
 -- What is decided once x came in. If the input showed its size, that is all of x. If not, the text may grow, and each
--- chunk with it. Then what stands before the chunk at the place `first` is decided, as one piece.
+-- chunk with it. Then what stands before the chunk at the place `first`, at least 1, is decided, as one piece.
 abbrev pub decided : Chunks → ℕ → Option ℕ → List ℕ → CutUp
 decided chunks first None x = uncut (before_chunk chunks (length x) first x)
 decided chunks first (Some size) x = chunks_of chunks size x
