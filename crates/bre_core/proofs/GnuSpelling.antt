@@ -1,4 +1,4 @@
--- A text that has a tree, or no backslash, stays as it is where GNU's spelling is written as POSIX's.
+-- A text that has a tree, or no backslash, stays as it is if GNU's spelling is written as POSIX's.
 use Rattle.std.proofs.{
   lemmas.{
     Grind.common_steps,
@@ -26,7 +26,7 @@ use Rattle.bre_core.specs.{
 }
 use Rattle.bre_core.proofs.Spelled.{begun, interval_read, list_found}
 
--- it stays as it is from this place on
+-- the text stays as it is from this place on
 abbrev pub Stays : Place → List ℕ → Type 0
 Stays place text = respelled_from place text ≡ text
 

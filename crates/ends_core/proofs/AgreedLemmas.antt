@@ -61,7 +61,7 @@ pub head_agreed : (delim : ℕ) (unit : Counted) (but_last : Bool) (n : ℕ) {x 
 head_agreed delim unit but_last n {x} =
     agreed_now (head_work delim unit but_last n) x (common (head_work delim unit but_last n) (law.head_lawful delim unit but_last n) x) refl
 
--- Where the bytes of an input go that is cut in two after its front: one before the cut goes to one place, and one after it to another.
+-- Where the bytes of an input go that is cut in two after its front: those before the cut go to one place, and those after it to another.
 record Cuts (spots_of : List ℕ → ℕ → List Spot) (front_of : List ℕ → List ℕ) : Type 0 where
   early : ℕ → List Spot
   late : ℕ → ℕ → List Spot

@@ -49,7 +49,7 @@ world_again (first ∷ []) (suc n) = refl
 world_again (first ∷ next ∷ worlds) zero = refl
 world_again (first ∷ next ∷ worlds) (suc n) = world_again (next ∷ worlds) n
 
--- the same looks at the same times
+-- both have the same files at the same looks
 abbrev pub SameWorlds : List World → List World → Type 0
 SameWorlds new old = (n : ℕ) → world_at new n ≡ world_at old n
 
@@ -118,7 +118,7 @@ latest_seen false within worlds zero is = ap (λ world. kept (shown false world)
 latest_seen true within worlds zero is = ap (λ world. kept (shown true world)) (sym is)
 latest_seen forgives within worlds (suc n) is = ap kept (latest-last (seen_by forgives within worlds n) _)
 
--- where nothing is forgiven, a call may have failed
+-- if nothing is forgiven, a call may have failed
 latest_breaks : (forgives : Bool) (within : ℕ) (worlds : List World) (n : ℕ) (name : List ℕ) → forgives ≡ false
     → (latest (seen_by forgives within worlds n)).breaks name ≡ true
 latest_breaks forgives within worlds zero name is = refl
@@ -232,7 +232,7 @@ turned {worlds} new turns {n} {names} {forgives} {within} {why} is same next =
     (ap (seen_by forgives within new) next
     ∙ turns_on (record { worlds = worlds; turns = turns; watched = names; forgives = forgives; within = within; why = why }) new same)
 
--- where nothing more was planned, the last files are added once more
+-- if nothing more was planned, the last files are added once more
 pub same_again : (worlds : List World) {new : List World} {world : World} → world ≡ world_at worlds (length worlds)
     → new ≡ worlds ++ world ∷ [] → SameWorlds new worlds
 same_again worlds last is n = ap (λ those. world_at those n) (is ∙ ap (λ those. worlds ++ those ∷ []) last) ∙ world_again worlds n

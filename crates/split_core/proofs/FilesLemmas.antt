@@ -77,7 +77,7 @@ drop_by f k start n is = search rules
 
 -- From some files to others
 
--- of one more file standard output is told what it is told before that is opened
+-- what standard output gets about one more file, it gets before the file is opened
 told_more : (verbose : Bool) (file : ℕ → File) (n : ℕ)
     → told_of_files (output_by verbose) (map file (range_with_len 0 (n + 1)))
     ≡ told_of_files (output_by verbose) (map file (range_with_len 0 n)) ++ told_before (output_by verbose) (file n).name
@@ -162,7 +162,7 @@ lines_in true low part high place bytes why begins is due = record {
   due = due;
 }
 
--- It came at a place, where some of many had got what they have, and standard output a beginning of the line for the file that is due.
+-- A fault came at a place: some of many files had all, and standard output a beginning of the line for the file that is due.
 halts_at : {told : Bool} {before : List Slot} {filing : Filing} {part : ℕ → Share} {some many place : ℕ}
     {why : Fault} {reached now : List Slot} (Due : List ℕ → Type 0) (bytes : List ℕ) → place ≤ some → some ≤ many
     → ((name : List ℕ) → Due name → (name ≡ name_at filing.names some) × (some < many))
@@ -318,8 +318,8 @@ ready_opened {files} {old} {new} name ready is =
     let can : CanTell files.tells new = can_tell _ _ _ (writable_before _ _ 0 _ (let two = ready.streams in omega arith) is) ready.output in
     grind (arith, elements, get_or_append_left, writable_within, opened_writable)
 
--- The file could not be opened: then a name was drawn for it, or no output was added; and standard output can break only where it is
--- told of files.
+-- The file could not be opened: then a name was drawn for it, or no output was added; and standard output can break only if it gets lines
+-- about files.
 fails_caused : {told : Bool} {files : FilesState} {next : Names} {old new : List Slot} {why : Fault}
     → AreReady files old → IsTrue (has_next files.names) → OpensNone told files.tells files.names next old new why
     → Breaks (manner_by files.names.naming (output_of files.tells)) old new why
@@ -375,7 +375,7 @@ reached told files {old} place ready here is =
       caused = tt;
     }
 
--- or it couldn't be
+-- the next file couldn't be opened
 pub reached_not : (told : Bool) (files : FilesState) {names : Names} {old new : List Slot} (place : ℕ) {why : Fault}
     → AreReady files old → place ≡ length files.outputs → has_name files.names.naming place ≡ true
     → names.naming ≡ files.names.naming → OpensNone told files.tells files.names names old new why
@@ -405,7 +405,7 @@ reached_not told files {old = old} place ready here named same fails =
 
 -- Writing
 
--- of files the one at a place changed
+-- only the file at a place changed
 changed_files : (filing : Filing) (makes : File → File) (low high : ℕ → Share) {n place : ℕ} → place < n
     → ((i : ℕ) → (i ≡ place → ⊥) → low i ≡ high i)
     → makes (file_at filing place (low place)) ≡ file_at filing place (high place)

@@ -198,7 +198,7 @@ pub settled_all : (limit : Limit) (x : List ℕ)
     ≡ x
 settled_all limit x = grind (arith, settled_bytes, list_all)
 
--- the lines that one of n files gets, where the first of all lines stands at this place
+-- the lines that one of n files gets, if the first of these lines is number `place` of all
 abbrev pub lines_dealt : ℕ → ℕ → ℕ → List (List ℕ) → List (List ℕ)
 lines_dealt n file place [] = []
 lines_dealt n file place (line ∷ lines) = if place % n == file then line ∷ lines_dealt n file (place + 1) lines

@@ -220,7 +220,7 @@ module _ {told : Bool} {chunker next : ChunkerState} {piece : List ℕ} {end : �
 
 -- The end
 
--- what is settled ends within a line only where nothing waits
+-- what is settled ends within a line only if nothing waits
 none_waits : (unit : Counted) (delim place : ℕ) (z waiting : List ℕ) → begun_before unit delim place (z ++ waiting) ≡ z
     → is_within unit delim z ≡ true → length waiting ≡ 0
 none_waits unit delim place z waiting is within = elim (cases_lt 0 (length waiting)) [
@@ -279,7 +279,7 @@ first_cut chunks size z count fits all = by (cases_lt 0 size) where
   by (inr empty) = let none : z ≡ [] = nil_from_length z (omega arith) in let e : size ≡ 0 = omega arith in
       rw (none, e) (ap (λ n. with_fulls n (uncut [])) (ended_all chunks {size = 0} [] count (omega arith)) ∙ all_empty chunks count)
 
--- what is written of it is the same, also where one chunk alone goes out
+-- what is written of a text that is cut up is the same, also if only one chunk is written
 
 fulls_past : (chunk : ℕ) (n : ℕ) (cut : CutUp)
     → get_or (pieces_in (with_fulls n cut)) chunk [] ≡ get_or (pieces_in cut) chunk []
