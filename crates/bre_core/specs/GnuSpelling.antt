@@ -79,6 +79,6 @@ typed_from place (byte ∷ text) offset =
     if nat_lt offset (length (written_for place (byte ∷ text))) then 0
     else suc (typed_from (place_after place byte) text (offset - length (written_for place (byte ∷ text))))
 
--- the offset in the typed text, for an offset in the written text
+-- an offset of the written text, in the typed text
 abbrev pub typed_at : List ℕ → (offset : ℕ) → ℕ
 typed_at text offset = typed_from Outside text offset

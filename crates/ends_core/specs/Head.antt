@@ -10,12 +10,12 @@ abbrev pub ahead_of : Counted → ℕ
 ahead_of Lines = 4096
 ahead_of Bytes = 0
 
--- what came in and waits: the last n lines or bytes, if all but these are asked for
+-- what came in and waits: the last n lines or bytes, if all except these are asked for
 abbrev pub head_waiting : ℕ → Counted → Bool → ℕ → List ℕ → List ℕ
 head_waiting delim unit but_last n x = if but_last then last_of delim unit n x else []
 
 -- The work of `head`. What belongs to the head, whatever comes, is written at once. The first n are complete once n
--- came in. All but the last n never are, and take memory for what waits.
+-- came in. All except the last n never are, and take memory for what waits.
 abbrev pub head_work : ℕ → Counted → Bool → ℕ → Work
 head_work delim unit but_last n = record {
   settled = λ x. only_out (head_of delim unit but_last n x);

@@ -1,5 +1,6 @@
--- `head` of all but the last, and `tail` of the last, if an input shows its bytes before they are read: what is written
--- begins and ends where it does in the text that was shown. So nothing waits. What comes may be another text, or more.
+-- `head` of all except the last, and `tail` of the last, if an input shows its bytes before they are read: what is
+-- written begins and ends where it does in the text that was shown. So nothing waits. What comes may be another text,
+-- or more.
 use Rattle.std.specs.{
   Prelude.{◌≡◌, ℕ, ◌-◌, zero, suc, nat_le, nat_lt, Bool, true, false, Option, Some, None, List, []},
   Prelude.{length, take, drop, if◌then◌else◌},
@@ -40,21 +41,21 @@ between_work from end = record {
   ahead = 0;
 }
 
--- `head` of all but the last n, of an input that showed this text: the first bytes, as many as stand before the last n
--- of what was shown
+-- `head` of all except the last n, of an input that showed this text: as many bytes as stand before the last n of what
+-- was shown
 abbrev pub head_shown : ℕ → Counted → ℕ → List ℕ → Work
 head_shown delim unit n text = between_work 0 (place_of delim unit n text)
 
--- `tail` of the last n, of an input that showed this text: the bytes from where these begin up to where the text ends
+-- `tail` of the last n, of an input that showed this text: the bytes from where these begin to the text's end
 abbrev pub tail_shown : ℕ → Counted → ℕ → List ℕ → Work
 tail_shown delim unit n text = between_work (place_of delim unit n text) (length text)
 
--- the work of `head`, by the text that the input shows, if it shows one
+-- the work of `head`, by the text that the input shows, if any
 abbrev pub head_in : ℕ → Counted → Bool → ℕ → Option (List ℕ) → Work
 head_in delim unit true n (Some text) = head_shown delim unit n text
 head_in delim unit but_last n shown = head_work delim unit but_last n
 
--- the work of `tail`, by the text that the input shows, if it shows one
+-- the work of `tail`, by the text that the input shows, if any
 abbrev pub tail_in : ℕ → Counted → Bool → ℕ → Option (List ℕ) → Work
 tail_in delim unit false n (Some text) = tail_shown delim unit n text
 tail_in delim unit from_nth n shown = tail_work delim unit from_nth n

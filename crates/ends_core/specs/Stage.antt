@@ -105,7 +105,7 @@ least_in from_the_nth = 0
 least_in the_last = 0
 least_in (between from end) = end
 
--- how many bytes are still to come of an input that didn't change
+-- how many bytes of an unchanged input are still to come
 abbrev pub missing_of : Ends → ℕ
 missing_of (First count front) = 0
 missing_of (ButLast kept) = 0
@@ -137,7 +137,6 @@ may_lack (FromNth count front) = false
 may_lack (Last kept) = may_lack_of kept
 may_lack (Between span) = false
 
--- the work of a state
 abbrev pub work : Ends → Work
 work ends = work_in (stretch_of ends) (delim_of ends) (unit_of ends) (count_of ends)
 
@@ -155,7 +154,7 @@ pub record Holds (ends : Ends) (x : List ℕ) : Type 0 where
   pub missing : missing_of ends ≡ least_in (stretch_of ends) - length x
   -- if nothing waits, no memory can be lacking
   pub none : keeps (stretch_of ends) ≡ false → may_lack ends ≡ false
-  -- once as many bytes came in as are to wait, no memory can be lacking
+  -- once as many bytes came in as are kept, no memory can be lacking
   pub full : unit_of ends ≡ Bytes → count_of ends ≤ length x → may_lack ends ≡ false
 
 -- Nothing after x changes the output: the head of x stays; between two places all bytes came. A tail is never done.

@@ -67,16 +67,16 @@ pub data RunStep (told : Bool) (task : Task) (shown : Option (List ℕ)) (most :
 -- How a run ends.
 pub data EndsAs (told_in told : Bool) (task : Task) (inputs : List Input) (sources : List Source) (new : List Slot)
     (status : ℕ) : Type 0 where
-  -- The inputs were done, the outcome is written, and files were removed if that is due. Standard error is left as
-  -- `error`, and is put so among the outputs from the beginning.
+  -- The inputs were done, the outcome is written, and files were removed if that is due. `error` is standard error at
+  -- the end, and stands so among the outputs from the beginning.
   as_defined : (error : Slot) (reached : List Slot)
       → SaysAll told task.speaker (made_by task inputs).messages standard_error error
       → OutputsAt told (streams_with error) (made_by task inputs).part reached
       → Swept (made_by task inputs).sweeps 2 reached new
       → AreDone told_in task.work largest_piece inputs sources → status ≡ status_of (made_by task inputs)
       → EndsAs told_in told task inputs sources new status
-  -- A fault stopped one step at an input. The inputs before it were done and reported, and those after it weren't
-  -- touched. The outputs have what was written before the step, and a beginning of what the step adds. Then files were
+  -- A fault stopped one step at an input. The inputs before it were done and reported, the inputs after it weren't
+  -- touched. The outputs have what was written before the step, and a beginning of what it adds. Then files were
   -- removed if the work clears them. The fault was reported with the reason for which its output broke, unless nothing
   -- is said of a reader that is gone, and the status says so.
   stopped : (fault : Fault) (before : List Input) (input : Input) (after : List Input)

@@ -27,7 +27,7 @@ IsComplete delim line = (text : List ℕ) × (line ≡ text ++ delim ∷ []) × 
 abbrev pub IsOpen : ℕ → List ℕ → Type 0
 IsOpen delim line = (0 < length line) × HasNone delim line
 
--- each line but the last is complete, and the last is complete or open
+-- each line except the last is complete, and the last is complete or open
 abbrev pub AreLines : ℕ → List (List ℕ) → Type 0
 AreLines delim [] = Unit {0}
 AreLines delim (line ∷ []) = IsComplete delim line ⊎ IsOpen delim line

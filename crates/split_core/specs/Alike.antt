@@ -18,6 +18,6 @@ pub record AsIf (work : Work) (Holds : List ℕ → Type 0) (x : List ℕ) : Typ
   pub alike : AreAlike work x other
   pub holds : Holds other
 
--- the terms of a stage that may have been fed other bytes, which its work can't tell from these
+-- the terms of a stage that may have been fed other bytes that are alike
 abbrev pub as_if : {S : Type 0} → Terms S → Terms S
 as_if terms = record terms { Holds = λ stage. AsIf (terms.work stage) (terms.Holds stage) }

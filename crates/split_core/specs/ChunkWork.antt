@@ -60,8 +60,8 @@ abbrev pub chunks_whole : ChunksPlan → Option ℕ → List ℕ → Part
 chunks_whole plan said x =
     part_of (manner_of plan.filing) (map (share Closed) (files_by plan.elide (in_the_end plan.chunks said x)))
 
--- The work of chunks that go to files. If the input showed another length than it has, it changed, and what was written
--- stays. If it showed none, files are opened at the end, too.
+-- The work of chunks in files. If the input showed another length than it has, it changed, and what was written stays.
+-- If it showed none, files are opened at the end, too.
 abbrev pub chunks_work : ChunksPlan → Option ℕ → Work
 chunks_work plan said = record {
   settled = chunks_settled plan said;
@@ -90,8 +90,8 @@ abbrev pub ahead_of : Counted → ℕ
 ahead_of Lines = 4096
 ahead_of Bytes = 0
 
--- The work of one chunk that goes to standard output. What stands before the chunk is dropped, and the first chunk is
--- written as far as it is decided. If the input showed its size, nothing waits, so no memory is asked for.
+-- The work of one chunk, on standard output. What stands before it is dropped, and the first chunk is written as far as
+-- it is decided. If the input showed its size, nothing waits, so no memory is asked for.
 abbrev pub chunk_work : ℕ → Chunks → Option ℕ → Work
 chunk_work place chunks said = record {
   settled = λ x. piece_at place (decided chunks (max place 1) said x);

@@ -55,7 +55,7 @@ abbrev pub part_on : Course → CutUp → Part
 part_on (in_files filing elide) cut = draft_part (manner_of filing) (draft_by elide cut)
 part_on (in_output chunk) cut = piece_at chunk cut
 
--- what is written at the end of a text that is cut up
+-- what is written of a whole text that is cut up
 abbrev pub whole_on : Course → CutUp → Part
 whole_on (in_files filing elide) cut = part_of (manner_of filing) (map (share Closed) (files_by elide cut))
 whole_on (in_output chunk) cut = piece_at chunk cut
@@ -66,7 +66,7 @@ way_on (in_files filing elide) chunks said =
     chunks_work (record { chunks = chunks; elide = elide; filing = filing }) said
 way_on (in_output chunk) chunks said = chunk_work chunk chunks said
 
--- The same work, with what both courses share written once: `settled`, `whole` and `waiting`.
+-- The same work as `way_on`, with what both courses share written once.
 abbrev pub work_on : Course → Chunks → Option ℕ → Work
 work_on on chunks said = record (way_on on chunks said) {
   settled = λ x. part_on on (decided chunks (first_on on) said x);

@@ -3,7 +3,7 @@ use Rattle.std.specs.Prelude.{◌≡◌, ℕ, Bool, List, [], ◌∷◌, ◌++�
 use Rattle.bre_core.specs.{Pattern.{Pattern, nothing, append, Item}, Search.{matches, matches_item}}
 use Rattle.plain_core.specs.{declared.plain.Plain.Plain, inner.Table.IsTable}
 
--- the tables of a concatenation: one for the items before the last, and one for the last item
+-- the tables of a concatenation: of the items before the last, and of the last
 abbrev pub FrameIs : List ℕ → Pattern → List (List Bool) → Option (List (List Bool)) → Type 0
 FrameIs line current before None = (current ≡ nothing) × IsTable (length line) (matches nothing line) before
 FrameIs line current before (Some last) = (pattern : Pattern) × (item : Item) × (current ≡ append pattern item)

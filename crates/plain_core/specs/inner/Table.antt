@@ -23,7 +23,7 @@ leaf Front line from to = matches_item front line from to
 leaf End line from to = matches_item end line from to
 leaf token line from to = from == to
 
--- a stretch that passes the first test, and then a stretch that passes the second
+-- a stretch of the first test, and then a stretch of the second
 abbrev pub joined : (ℕ → ℕ → Bool) → (ℕ → ℕ → Bool) → ℕ → ℕ → Bool
 joined first second from to = any_below (suc to) (λ middle. first from middle && second middle to)
 

@@ -19,7 +19,7 @@ pub record IsOpen (code : List Node) (set : List Bool) : Type 0 where
   pub size : length set ≡ 64 * width code
   pub going : IsMarked set (length code) → ⊥
 
--- a table so far: its sets, of which the first is that of the line's front, and its first entries
+-- a table so far: its sets, the first that of the line's front, and its first entries
 pub record Built (code : List Node) (entries : ℕ) (sets : List (List Bool)) (rows : List ℕ) : Type 0 where
   pub some : 0 < length sets
   pub front : (number : ℕ) → InSets sets 0 number ↔ FlowsOn code true false 0 number

@@ -5,7 +5,7 @@ use Rattle.scan_core.specs.{
   inner.{Hops.{HopsTo, PartsTo, end_of}, Sets.Flows, Words.{Adds, IsIn, unset}},
 }
 
--- each step from a number of a set leads into the set, or a hop leads to the same number
+-- each step from a set leads into the set, or a hop leads there
 abbrev pub IsApart : List Node → Hops → List ℕ → Type 0
 IsApart code hops words = (from to : ℕ) → IsIn words from → Flows code false false from to
     → IsIn words to ⊎ PartsTo hops.onward.items hops.landings.items (from / 64) to

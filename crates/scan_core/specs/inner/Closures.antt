@@ -34,7 +34,7 @@ HasAnchors code at word = (bit : ℕ) → bit < 64 → (bit_at word bit ≡ 1) �
 abbrev pub Stays : List Node → ℕ → ℕ → Type 0
 Stays code from to = Flows code false false from to × (to / 64 ≡ from / 64)
 
--- `all` has the numbers of a word to which its chosen numbers lead within the word
+-- `all` has what the chosen numbers of a word lead to within it
 pub record Closes (code : List Node) (at chosen all : ℕ) : Type 0 where
   pub kept : (bit : ℕ) → bit < 64 → bit_at chosen bit ≡ 1 → bit_at all bit ≡ 1
   pub from_chosen : (number : ℕ) → number < 64 → bit_at all number ≡ 1 → (bit : ℕ) × (bit < 64)

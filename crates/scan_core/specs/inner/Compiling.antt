@@ -58,7 +58,7 @@ Writes Close old new = IsNow old.nodes.items (old.pending.items ++ Group ∷ [])
 Writes Open old new = Closes old new
 Writes (Repeat low high) old new = Begins low high old new
 
--- a token of what is passed over, which is complete with this token if no group is open
+-- a token that is passed over, and ends the item if no group is open
 abbrev pub PassesLeaf : ℕ → Compiling → Compiling → Type 0
 PassesLeaf zero old new = Finishes old.nodes.items old.pending.items new
 PassesLeaf (suc depth) old new = IsNow old.nodes.items old.pending.items (Some (suc depth)) new

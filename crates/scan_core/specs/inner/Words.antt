@@ -63,7 +63,7 @@ abbrev pub IsOf : List Node → Kind → ℕ → Type 0
 IsOf code (Takes byte) number = StepsBy code byte number (number + 1)
 IsOf code Counts number = counted_at code number ≡ 1
 
--- a word has a bit for each of its numbers that is of a kind
+-- a word has a bit for each number of a kind
 abbrev pub IsMask : List Node → Kind → ℕ → ℕ → Type 0
 IsMask code kind at word = (bit : ℕ) → bit < 64 → (bit_at word bit ≡ 1) ↔ IsOf code kind (at * 64 + bit)
 

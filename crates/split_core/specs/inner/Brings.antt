@@ -26,7 +26,7 @@ use Rattle.split_core.specs.{
 abbrev pub with_rest : List ℕ → CutUp → CutUp
 with_rest bytes cut = record { full = cut.full; rest = cut.rest ++ bytes }
 
--- a text that is cut up, with its rest as one more full piece
+-- a text that is cut up, with its rest as a full piece
 abbrev pub with_full : CutUp → CutUp
 with_full cut = record { full = cut.full ++ cut.rest ∷ []; rest = [] }
 
@@ -86,14 +86,14 @@ pub record Gives (told : Bool) (on : Course) (sink next : SinkState) (from to : 
 abbrev pub CarriesOn : SinkState → CutUp → Type 0
 CarriesOn sink cut = Carries sink cut × HasName (course_of sink.aim) sink.place
 
--- what a change of the text that is cut up gives, whatever that was
+-- what a change of any text that is cut up gives
 pub record Changes (told : Bool) (sink : SinkState) (change : CutUp → CutUp) (old new : List Slot)
     (next : SinkState) (fault : Option Fault) : Type 0 where
   pub stays : Stays (course_of sink.aim) sink.aim next.aim old new fault
   pub gives : (cut : CutUp) → CarriesOn sink cut
       → Gives told (course_of sink.aim) sink next cut (change cut) old new fault
 
--- what the end of the text gives, whatever that was
+-- what the end of any text that is cut up gives
 pub record EndsAll (told : Bool) (sink : SinkState) (old new : List Slot)
     (next : SinkState) (fault : Option Fault)
     : Type 0 where

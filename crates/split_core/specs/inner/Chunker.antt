@@ -26,7 +26,7 @@ passed_to chunker front place within = record chunker {
 abbrev pub piece_for : Counted → ℕ → ℕ
 piece_for unit missing = max missing (max (ahead_of unit) 1)
 
--- the state that passed over these bytes is as if it was fed them, whatever they are
+-- the state that passed over these bytes is as if fed them, whatever they are
 abbrev pub TakesFront : ChunkerState → ℕ × ℕ × Bool → Type 0
 TakesFront chunker front = (x : List ℕ) → front.0 ≡ length x
     → TookIn (as_if terms) (Chunks chunker) (Chunks (passed_to chunker front.0 front.1 front.2)) x

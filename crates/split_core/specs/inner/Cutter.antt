@@ -24,7 +24,7 @@ seen_cutter cutter = record {
 abbrev pub cut_to : CutterState → ℕ → List ℕ → List ℕ
 cut_to cutter end text = begun_before cutter.chunks.unit cutter.chunks.delim (max (end - cutter.at) 1) text
 
--- the bytes of the next text that go with the chunk that was begun were written
+-- the bytes that go with the chunk that was begun were written
 pub record WritesTo (told : Bool) (cutter : CutterState) (end : ℕ) (text : List ℕ) (old new : List Slot)
     (next : CutterState) (result : Result ℕ Fault) : Type 0 where
   pub chunks : next.chunks ≡ cutter.chunks
@@ -119,7 +119,7 @@ abbrev pub BeginsBefore : CutterState → ℕ → List ℕ → Type 0
 BeginsBefore cutter end z =
     HasCut cutter z (uncut z) × (begun_before cutter.chunks.unit cutter.chunks.delim end z ≡ z)
 
--- what begins before a place, of the text that was cut off and what waits
+-- what of the text that was cut off and of what waits begins before a place
 abbrev pub all_before : CutterState → List ℕ → ℕ → List ℕ → List ℕ
 all_before cutter waiting end z = begun_before cutter.chunks.unit cutter.chunks.delim end (z ++ waiting)
 

@@ -67,7 +67,7 @@ few_before delim n place x past = elim (cases_lt (delimiters delim _) n) [
       absurd (omega (arith, ap length full, length-first_lines-le delim n (take place x), length-take place x)))
 ]
 
--- complete lines that aren't longer than a stretch of the text all end within the stretch
+-- complete lines that aren't longer than a stretch of the text end within it
 lines_before_all : (delim place : ℕ) (x : List ℕ) → open_from Lines delim x ≤ place
     → delimiters delim (take place x) ≡ delimiters delim x
 lines_before_all delim place x within = let lines = first_lines delim (delimiters delim x) x in

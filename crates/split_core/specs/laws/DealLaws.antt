@@ -27,7 +27,7 @@ pub next_place : (ends : Bool) (place count : ℕ)
     → cond ends (place + 1) place + count ≡ place + cond ends (count + 1) count
 next_place ends place count = grind (arith, nat_tests)
 
--- what follows is dealt from the file on to which the open line goes
+-- what follows is dealt on from the file of the open line
 pub dealt_append : (delim n file place : ℕ) (x y : List ℕ)
     → dealt n file place (lines_of delim (x ++ y)) ≡ dealt n file place (lines_of delim x)
     ++ dealt n file (place + delimiters delim x) (lines_of delim y)

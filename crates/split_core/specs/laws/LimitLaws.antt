@@ -1,5 +1,5 @@
--- What each limit cuts off, and what the next bytes of a piece do to the part that was begun. Laws that a trait cites
--- go by these, and so does what is proved of parts under any limit: none of it has a case for a limit.
+-- What each limit cuts off, and what the next bytes of a piece do to the part that was begun. Laws that a trait cites,
+-- and proofs of parts under any limit, go by these and have no case for a limit.
 use Rattle.std.{
   proofs.{
     Common.{Bool, List, [], ap, append_assoc, arith, drop, false, inl, inr, length, length-append, length-drop, max},
@@ -178,7 +178,7 @@ pub record PartEnds (limit : Limit) (rest : List ℕ) : Type 0 where
   pub full : is_full limit (rest ++ more) ≡ true
   pub first_is : first_part limit (rest ++ more) ≡ settled_rest limit rest
 
--- under `-C` bytes without a delimiter that fill the part end it so
+-- under `-C`, bytes without a delimiter that fill the part end it before what waits
 pub part_ends : (limit : Limit) (rest : List ℕ) → 0 < most limit → is_full limit rest ≡ false
     → 0 < length (waiting_rest limit rest) → PartEnds limit rest
 part_ends (LineBytes n delim) rest some short waits = record {
