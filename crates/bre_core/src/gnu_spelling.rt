@@ -19,19 +19,19 @@ use std::alloc::{AllocError, Global};
 pub enum Place {
     /// Outside of bracket expressions.
     Outside,
-    /// There, after a backslash.
+    /// Outside, after a backslash.
     Escaped,
     /// After the `[` that begins a bracket expression.
     Opened,
-    /// After its `[^`: in its first place, where `]` is a member.
+    /// In the first place of a bracket expression, after `[^`, where `]` is a member.
     First,
-    /// In a later place of it.
+    /// In a later place of a bracket expression.
     Inside,
-    /// After a `[` in it.
+    /// After a `[` in a bracket expression.
     Bracket,
-    /// After `[.`, `[=` or `[:` in it, which this mark and `]` end.
+    /// After `[.`, `[=` or `[:` in a bracket expression, which this mark and `]` end.
     Named(u8),
-    /// There, after the mark.
+    /// After this mark, between `[.`, `[=` or `[:` and its end.
     Marked(u8),
 }
 

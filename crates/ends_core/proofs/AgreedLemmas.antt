@@ -70,7 +70,7 @@ record Cuts (spots_of : List ℕ → ℕ → List Spot) (front_of : List ℕ →
   apart : (k i : ℕ) → early i ≢ late k i
   few : (x : List ℕ) (i : ℕ) → AtMostOne (spots_of x i)
 
--- the first n of a text with fewer, which goes on, have all of it
+-- the first n of a text that goes on have all of the text, if it has fewer
 first_long : (delim : ℕ) (unit : Counted) (n : ℕ) (x y : List ℕ) → measure delim unit x < n
     → length x ≤ length (first_of delim unit n (x ++ y))
 first_long delim unit n x y short = grind (arith, common_steps, first_of-append, first_of-short)

@@ -78,7 +78,7 @@ begins_last {delim} {n} {at} x some begins =
     (rest, lines_and_one delim (drop at (but_one x)) (drop (length x - 1) x) (one_left x some)) begins.counted in
     last_are delim (take at x) (rw front at begins.after) count ∙ ap (last_lines delim n) (take-append-drop at x)
 
--- a text without as many lines is all of them
+-- a text with fewer lines is its own last n lines
 pub few_last : (delim : ℕ) {n : ℕ} (x : List ℕ) → delimiters delim (but_one x) < n → x ≡ last_lines delim n x
 few_last delim [] few = grind (arith, common_steps)
 few_last delim {n} (byte ∷ x) few =

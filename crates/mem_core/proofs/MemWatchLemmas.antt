@@ -160,7 +160,7 @@ forgives_none {watch} {worlds} (suc turns) {forgives} {within} now is unseen = a
     (let count : length (seen watch) ≡ suc turns = ap (λ (those : MemWatchState). length (seen those)) (sym is)
     ∙ length-seen forgives within worlds (suc turns) in let none = ap length unseen in omega arith)
 
--- what is so of the files of the last turn is so of the last look
+-- what is true of the files of the last turn is true of the last look
 module _ {watch : MemWatchState} {worlds : List World} (turns : ℕ) {names : List Watched} {world : World}
     {forgives : Bool} {within : ℕ} {why : Reason}
     (is : record { worlds = worlds; turns = turns; watched = names; forgives = forgives; within = within; why = why }

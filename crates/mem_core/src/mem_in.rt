@@ -235,7 +235,7 @@ struct Break {
     at: usize,
 }
 
-/// Inputs in memory, which tell their bytes. For tests, reads can be made short and an input can be made to fail.
+/// Inputs in memory, with visible bytes. For tests, reads can be made short and an input can be made to fail.
 #[derive(Drop)]
 pub struct MemIn {
     alloc: Global,

@@ -128,8 +128,8 @@ struct Limit {
     bytes: usize,
 }
 
-/// Outputs in memory, which tell their bytes. An output for which no memory is found breaks. For tests, an output can
-/// be given a limit at which it breaks, writes can be made short, and a call can be made to fail.
+/// Outputs in memory, with visible bytes. An output for which no memory is found breaks. For tests, an output can be given a limit at which
+/// it breaks, writes can be made short, and a call can be made to fail.
 #[derive(Drop)]
 pub struct MemOut {
     alloc: Global,

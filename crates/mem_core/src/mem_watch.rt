@@ -82,9 +82,9 @@ impl MemName {
     }
 }
 
-/// Files in memory, whose bytes are visible, and whose changes are planned look by look. For tests, a call can be made to fail, unless it
-/// forgives. If it doesn't, a look at a name that is barred fails, and so does opening it. It keeps the files of each look, and takes
-/// memory for all of them.
+/// Files in memory, with visible bytes, whose changes are planned look by look. For tests, a call can be made to fail, unless it forgives.
+/// If it doesn't, a look at a name that is barred fails, and so does opening it. It keeps the files of each look, and takes memory for all
+/// of them.
 #[derive(Drop)]
 pub struct MemWatch {
     alloc: Global,
@@ -144,8 +144,8 @@ impl MemWatch {
         })
     }
 
-    /// Plans one more look, before which these edits are made, in order, after those of the looks that were planned before. Looks
-    /// that come after the last one planned see no change.
+    /// Plans one more look. Before it these edits are made in order, after the edits for earlier looks. Looks after the last planned look
+    /// see no change.
     ///
     /// # Errors
     ///

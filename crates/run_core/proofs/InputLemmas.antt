@@ -93,7 +93,7 @@ unread_source true (Some slot) sources Q can unread holds = (
 unread_source false (Some slot) sources Q can unread holds =
     (empty, λ t. absurd (cc), holds empty (left_unread false slot sources can unread (λ t. absurd (cc)) (λ off. refl)))
 
--- a source that was looked at is as it was, but for what was asked of it
+-- a source that was looked at is as it was, except for what was asked of it
 
 pub of_looked : (told : Bool) (most : ℕ) (source : Option ℕ) (old new : List Source) (Q : Content → Type 0)
     → OnlyLooked most source old new → OfSource told source new Q → OfSource told source old Q
@@ -600,7 +600,7 @@ sweeps_clears : (task : Task) (work : Work) (is_first : Bool) (name : List ℕ) 
 sweeps_clears task work is_first name None sweeps = cc
 sweeps_clears task work is_first name (Some _) sweeps = grind (arith, common_steps)
 
--- each input says what it says
+-- each input shows what it shows
 pub says_itself : (input : Input) → showing input.shown input ≡ input
 says_itself input = grind (arith, common_steps)
 

@@ -1,4 +1,4 @@
--- Lemmas on what is written after what was written before, on outputs that a fault stopped, and on the message that tells it.
+-- Lemmas on what is written after what was written before, on outputs that a fault stopped, and on the fault's message.
 use Rattle.std.proofs.{
   lemmas.{Grind.common_steps, List.{map-append, append-nil}},
   Common.{◌≡◌, ℕ, ◌+◌, ◌<◌, ◌≤◌, suc, Bool, true, false, List, [], ◌∷◌, ◌++◌, length, take, drop, ◌⊎◌, inl},
@@ -144,8 +144,8 @@ pub swept_from : (clears : Bool) {first other : ℕ} (old new : List Slot) → (
 swept_from true old new same swept = rw (same refl) at swept
 swept_from false old new same swept = swept
 
--- Lemmas on outputs that a fault stopped, and on the message that tells it: standard error is the slot after the first, and what
--- was opened comes after both.
+-- Lemmas on outputs that a fault stopped, and on the fault's message: standard error is the slot after the first, and what was opened comes
+-- after both.
 
 -- both streams are there, and standard error is open
 
@@ -235,7 +235,7 @@ stops_still : {Change : Slot → Slot → Type 0} (step : Step) {mid new : List 
 stops_still step (Write _) place count from has says stops = grind (arith, common_steps, beside_error)
 stops_still step fault place count from has says stops = stops
 
--- what is said after files were removed
+-- what is reported after files were removed
 
 swept_streams : {output error after : Slot} {since now : List Slot} {first : ℕ} → 2 ≤ first
     → SweptFrom first (output ∷ error ∷ since) (output ∷ error ∷ now)
@@ -310,7 +310,7 @@ module _ (told : Bool) (Change : Slot → Slot → Type 0) where
         others = said_beside left.1 said.2;
       }
 
-  -- what a fault left, once its files were removed and its message was said
+  -- what a fault left, once its files were removed and it was reported
   pub record ToldStop (step : Step) (output error : Slot) (low high : Part) (fault : Fault) (clears : Bool) (first : ℕ)
       (mid new : List Slot) : Type 0 where
     pub after : Slot

@@ -120,7 +120,7 @@ fn take_names<A: Adapter, I: Inputs, O: Outs>(
     Ok(progress.failed)
 }
 
-/// Does the tool's work on the input of this name, or says that it can't be opened or read.
+/// Does the tool's work on the input of this name, or reports that it can't be opened or read.
 ///
 /// # Errors
 ///
@@ -196,8 +196,8 @@ fn standard_source(was_read: bool) -> Option<usize>
     if was_read { None } else { Some(0) }
 }
 
-/// Does the tool's work on an input that is open, with its header, and says with which fault it ended or that the input
-/// can't be read further. Without a source it is an empty input.
+/// Does the tool's work on an input that is open, with its header, and reports the fault with which it ended or that the input can't be
+/// read further. Without a source it is an empty input.
 ///
 /// # Errors
 ///
@@ -265,7 +265,7 @@ fn take_input<A: Adapter, I: Inputs, O: Outs>(
     }
 }
 
-/// Says that an input can't be opened or read, and why.
+/// Reports that an input can't be opened or read, and why.
 fn say_why<A: Adapter, I: Inputs, O: Outs>(
     job: &Job<'_, A>,
     source: Option<usize>,

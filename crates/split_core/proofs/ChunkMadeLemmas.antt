@@ -199,7 +199,7 @@ module _ (chunks : Chunks) (filing : Filing) (said : Option ℕ) (x : List ℕ) 
     whole_files (plan_by false) said x some named,
   )
 
--- An input that has another length than it said
+-- An input that has another length than it showed
 
 pub changed_told : (plan : ChunksPlan) (size : ℕ) (x : List ℕ) → (length x ≡ size → ⊥)
     → (chunks_work plan (Some size)).verdict x ≡ Some Changed

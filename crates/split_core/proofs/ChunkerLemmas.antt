@@ -264,7 +264,7 @@ module _ {chunker : ChunkerState} {next : CutterState} {size : ℕ} (piece : Lis
             (cut_brings cuts fits has));
       }) (λ x holds. tt)
 
--- the input has more than it said
+-- the input has more than it showed
 each_course : (on : Course) (chunks : Chunks) (size : ℕ) → is_each_on on ≡ true → (x : List ℕ)
     → (work_on on chunks (Some size)).is_complete x ≡ nat_lt size (length x)
 each_course (in_files filing elide) chunks size each x = refl
@@ -347,7 +347,7 @@ module _ (chunker : ChunkerState) {next : CutterState} {size : ℕ} (piece : Lis
         each_judges (course chunker.cutter) chunker.cutter.chunks size this (x ++ piece) (longer_differs size (x ++ piece) longer),
       ))
 
--- The end of an input that said its length
+-- The end of an input that showed its length
 
 shorter_differs : (size n : ℕ) → n < size → eqb n size ≡ false
 shorter_differs size n less = grind (arith, common_steps)

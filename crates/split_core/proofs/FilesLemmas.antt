@@ -88,7 +88,7 @@ told_more true file n = cc (
   append-nil (opening_line (file n).name),
 )
 
--- what files have is no matter of what it is told of them
+-- what standard output gets about files doesn't depend on what they have
 told_same : (verbose : Bool) (low high : ℕ → File) → ((i : ℕ) → (low i).name ≡ (high i).name) → (start n : ℕ)
     → told_of_files (output_by verbose) (map low (range_with_len start n))
     ≡ told_of_files (output_by verbose) (map high (range_with_len start n))
@@ -150,7 +150,7 @@ next_due filing part high {some} {many} {most} more (is, less) = let file : ℕ 
   name_is = sym is;
 }
 
--- the lines that standard output got since it was told of some
+-- the lines that standard output got after those for some files
 lines_in : (verbose : Bool) (low : List File) (part high : Part) (place : ℕ) (bytes : List ℕ) (why : Fault)
     → FilesBegin low part.files → part.out ≡ told_of_files (output_by verbose) part.files ++ bytes
     → IsDueLine (IsNext part high) (told_before (output_by verbose)) bytes why
@@ -209,7 +209,7 @@ halts_at {filing = filing} {part} {some} {place = place} {why} {reached} {now} D
   own = λ other is. grind (arith, rw is at came, outputs.standard);
 }
 
--- nothing was told of a file that isn't open
+-- standard output got nothing about a file that isn't open
 halts : {told : Bool} {before : List Slot} {filing : Filing} {part : ℕ → Share} {some place : ℕ} {why : Fault}
     {reached now : List Slot} → IsNoOpen why → place ≤ some → OutputsAt told before (part_by filing part some) reached
     → Marks (λ name. ⊥) why reached now → IsAt why (length before) place some
@@ -340,12 +340,12 @@ pub cannot_later : (verbose other : Bool) (old mid new : List Slot) {why : Fault
     → KeepsBroken old mid → CannotOpen other mid new why → CannotOpen verbose old new why
 cannot_later verbose other old mid new same stay fails = grind (arith, common_steps, rose_later)
 
--- what it is told of the next file
+-- what standard output gets about the next file
 line_is : {files : FilesState} {slots : List Slot} → AreReady files slots → line_next files.tells files.names
     ≡ told_before (output_by (is_verbose files.tells)) (name_at files.names.naming (length files.outputs))
 line_is ready = cc (ready.tells, ready.drawn)
 
--- the next file was opened, after standard output was told of it
+-- the next file was opened, after the line about it
 pub reached : (told : Bool) (files : FilesState) {old new : List Slot} (place : ℕ) → AreReady files old
     → place ≡ length files.outputs
     → new ≡ told_next told files.tells files.names old ++ opened (next_name files.names) Fresh ∷ []

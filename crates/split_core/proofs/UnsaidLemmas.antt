@@ -1,4 +1,4 @@
--- Chunks of an input that doesn't say its length.
+-- Chunks of an input that doesn't show its length.
 use Rattle.std.proofs.Common.{rules}
 use Rattle.std.proofs.lemmas.Grind.{common_steps}
 use Rattle.std.specs.{Option.is_none, List.range_with_len}
@@ -310,7 +310,7 @@ carries_same chunks size z place (to_files writer elide) count fits all carries 
     rw (first_cut _ _ z count fits all) at carries
 carries_same chunks size z place (to_output chunk) count fits all carries = grind (arith, common_steps, length-map-range_with_len, fulls_long)
 
--- all of it
+-- what is written so far begins the whole
 
 whole_begins : (on : Course) (cut : CutUp) → Begins (part_on on cut) (whole_on on cut)
 whole_begins (in_files filing elide) cut =

@@ -119,8 +119,8 @@ impl Chunker {
     }
 
     /// How many bytes are passed over before the one chunk that is written, the place of the chunk that was begun with them, and whether
-    /// they end within a line. Of lines these are all bytes but the last before the chunk, which may end a line. What stands before that is
-    /// no matter, and counts as the beginning of a line of the first chunk.
+    /// they end within a line. Of lines these are all bytes except the last before the chunk, which may end a line. What stands before that
+    /// doesn't matter, and counts as the beginning of a line of the first chunk.
     fn front(&self) -> Option<(u64, u64, bool)>
         requires { Holds self.now [] }
         ensures { IfSome result (TakesFront self.now) }

@@ -35,7 +35,7 @@ StayBroken old new = (place : ℕ) → (slot_at old place).is_broken ≡ true �
 abbrev pub KeepsBroken : (Slot → Slot → Type 0) → Type 0
 KeepsBroken Change = (before after : Slot) → Change before after → before.is_broken ≡ true → after.is_broken ≡ true
 
--- whether a place is one of these can be told
+-- it is decided whether a place is one of these
 abbrev pub IsDecided : (ℕ → Type 0) → Type 0
 IsDecided IsOne = (place : ℕ) → IsOne place ⊎ (IsOne place → ⊥)
 

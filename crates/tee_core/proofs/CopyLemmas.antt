@@ -1,4 +1,4 @@
--- Lemmas on copying: what the outputs have after a piece and at the end, and what is said of those that broke.
+-- Lemmas on copying: what the outputs have after a piece and at the end, and which breaks are reported.
 use Rattle.std.{
   proofs.lemmas.{
     Grind.common_steps,
@@ -45,7 +45,7 @@ tells_same on_broken Sound = refl
 tells_same on_broken Broken = refl
 tells_same on_broken Gone = refl
 
--- what is said of one output
+-- what is reported of one output
 
 abbrev said_one : OnBroken → Fault → List ℕ → Standing → Standing → List Message
 said_one on_broken fault name was now = if tells on_broken was now then message_of fault name ∷ [] else []
@@ -481,7 +481,7 @@ module _ {told : Bool} {calling : Calling} {mode : Mode} {on_broken : OnBroken} 
         }
     by those short = absurd (cc)
 
-  -- what is on standard error once it was told
+  -- what is on standard error after a report
   pub said_after : {OutputIs : Option Break → Slot → Type 0} {FileIs : List ℕ → Option Break → Slot → Type 0}
       {mid new : List Slot} {nows : List Standing} (next : After OutputIs FileIs (suc (length pieces)) mid nows)
       → (says : SaysTo told calling
@@ -543,7 +543,7 @@ module _ {told : Bool} {calling : Calling} {mode : Mode} {on_broken : OnBroken} 
   known_many = let count = ap length copies.known_are ∙ length-map (copies.first ∷ copies.broke) standing_of in
       omega (arith, length-broke copies.files_have)
 
--- the message for a piece was said
+-- the breaks in a piece were reported
 pub piece_said : {told : Bool} {calling : Calling} {mode : Mode} {on_broken : OnBroken} {names pieces : List (List ℕ)}
     (piece : List ℕ) {old mid new : List Slot} {known nows : List Standing} → is_done on_broken known ≡ false
     → (copies : Copies told calling mode on_broken names pieces [] old known)

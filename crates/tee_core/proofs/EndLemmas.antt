@@ -37,7 +37,7 @@ nothing_more : {x : List ℕ} (rest : List ℕ) → x ≡ x ++ rest → rest ≡
 nothing_more [] is = refl
 nothing_more {x} (byte ∷ rest) is = absurd (omega (arith, length-append x (byte ∷ rest), ap length is))
 
--- An input that was read up to here, and what is left of it; one that doesn't tell its bytes is one that goes no further.
+-- An input that was read up to here, and what is left of it; if bytes aren't visible, the input goes no further.
 abbrev SeenTo : Bool → Content → List ℕ → Source → Type 0
 SeenTo told there x source = (content : Content) × (rest : List ℕ) × (told ≡ true → content ≡ there) × (content.bytes ≡ x ++ rest) × LeavesOf told source rest
     × CameFrom told content source
@@ -71,7 +71,7 @@ pub seen_broken : (told : Bool) (there : Content) (x : List ℕ) (size : ℕ) (s
 seen_broken told there x size sources new read can broke failed =
     grind (arith, common_steps, whole, read_broken, nothing_more, read_failed, came_broken)
 
--- the read told the end
+-- the read reported the end
 pub seen_ended : (told : Bool) (there : Content) (x : List ℕ) (size : ℕ) (sources new : List Source)
     {buffer old_buffer : List ℕ} {n : ℕ} → (told ≡ true → HasRead there x 0 sources)
     → IsTrue (is_readable sources 0) → (told ≡ true → Gave (source_at sources 0).left old_buffer buffer n) → n ≡ 0
@@ -161,7 +161,7 @@ pub reads_more : {x : List ℕ} (pieces : List (List ℕ)) (piece : List ℕ) {w
 reads_more pieces piece joined sized few so_far is =
     omega (arith, reads_once pieces joined sized few so_far is, length-append pieces (piece ∷ []))
 
--- the fault was told, and the run has this status
+-- the fault was reported, and the run has this status
 abbrev pub ToldSo : Bool → Calling → Fault → List Slot → List Slot → ℕ → Type 0
 ToldSo told calling fault mid new status = TellsOn told (tee_called calling) fault mid new
     × (status ≡ status_after fault calling (output_reason mid fault))

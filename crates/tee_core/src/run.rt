@@ -204,7 +204,7 @@ fn copy_pieces<I: Inputs, O: Outs>(
     None
 }
 
-/// Copies a piece, and says which outputs broke in it.
+/// Copies a piece, and reports which outputs broke in it.
 fn copy_piece<O: Outs>(
     job: &Job<'_>,
     tee: &mut Tee,
@@ -226,7 +226,7 @@ fn copy_piece<O: Outs>(
     tell_broken(job, &Fault::Write(0), known, outs);
 }
 
-/// Closes the files, and says which of them broke in that.
+/// Closes the files, and reports which of them broke in that.
 fn close_all<O: Outs>(job: &Job<'_>, tee: &mut Tee, known: &mut [Standing], outs: &mut O)
     requires tee { IsTeeOf (map (λ name. name.now) job.now.names.now) tee.old }
     requires copies { (mode : Mode) × (pieces : List (List ℕ)) × (messages : List Message)
@@ -242,7 +242,7 @@ fn close_all<O: Outs>(job: &Job<'_>, tee: &mut Tee, known: &mut [Standing], outs
     tell_broken(job, &Fault::Write(0), known, outs);
 }
 
-/// Says what ended the reading before the input's end, if anything did.
+/// Reports what ended the reading before the input's end, if anything did.
 fn tell_input<I: Inputs, O: Outs>(job: &Job<'_>, fault: &Option<Fault>, inputs: &I, outs: &mut O)
     requires { (count : ℕ) × HasStreams (O.slots outs.old) count }
     ensures told { SaysTo O.told job.now.calling (said_of_input fault.now) (O.slots outs.old) (O.slots outs.new) }
@@ -278,8 +278,7 @@ fn tell_broken<O: Outs>(job: &Job<'_>, fault: &Fault, known: &mut [Standing], ou
     }
 }
 
-/// Says of an output that it broke so, unless it is sound, or that is known, or it is gone and nothing is said of that.
-/// Returns how it stands.
+/// Reports that an output broke so, unless it is sound, or that is known, or it is gone and that isn't reported. Returns how it stands.
 fn tell_one<O: Outs>(
     job: &Job<'_>,
     fault: &Fault,

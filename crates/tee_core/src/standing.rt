@@ -11,9 +11,9 @@ use ports_core::{Fault, OnBroken, Reason};
 pub enum Standing {
     /// It isn't broken.
     Sound,
-    /// It broke, and not since its reader is gone.
+    /// It broke, and its reader isn't gone.
     Broken,
-    /// It broke since its reader is gone.
+    /// It broke because its reader is gone.
     Gone,
 }
 
