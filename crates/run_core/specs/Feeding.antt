@@ -92,11 +92,11 @@ pub data IsCall (work : Work) (opening : Needs) (most : ℕ) (content : Content)
 -- How feeding an input by pieces of at most `most` bytes ends, from the state `before` of the outputs on.
 pub data FedAs (told : Bool) (before : List Slot) (work : Work) (opening : Needs) (most : ℕ) (content : Content)
     (WasRead : Step → Type 0) (new : List Slot) : Result Fed Fault → Type 0 where
-  -- the input ended, and the work ends well
+  -- the input ended before the output was complete; the work ends well
   whole : content.breaks_off ≡ false → work.is_complete content.bytes ≡ false → work.verdict content.bytes ≡ None
       → OutputsAt told before (work.whole content.bytes) new
       → FedAs told before work opening most content WasRead new (Ok Whole)
-  -- the output is complete, and the work ends well
+  -- the output is complete; the work ends well
   had_enough : work.is_complete content.bytes ≡ true → work.verdict content.bytes ≡ None
       → OutputsAt told before (work.whole content.bytes) new
       → FedAs told before work opening most content WasRead new (Ok Enough)

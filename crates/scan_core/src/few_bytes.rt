@@ -68,7 +68,7 @@ impl FewBytes {
         few
     }
 
-    /// How common the most common of them is; `COMMON` of more than three.
+    /// How common the most common of these bytes is; `COMMON` of more than three.
     pub fn rank(self) -> u16 {
         match self {
             FewBytes::Zero => 0,

@@ -18,7 +18,7 @@ abbrev pub IsPositive : Cut → Type 0
 IsPositive (Parts limit) = 0 < most limit
 IsPositive (Round n delim) = 0 < n
 
--- The number of a cut or of chunks is at least 1. A chunk or file that is asked for alone is one of all.
+-- The number of a cut or of chunks is at least 1. A chunk or file that is asked for alone exists.
 abbrev pub IsWay : Way → Type 0
 IsWay (way.Cut cut) = IsPositive cut
 IsWay (way.Chunks chunks) = 0 < chunks.count

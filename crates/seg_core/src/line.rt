@@ -21,7 +21,7 @@ pub(crate) const STEP: usize = 64;
 // How many bytes are counted at a time: 64 steps, and a lane can count 255.
 pub(crate) const RUN: usize = 4096;
 
-/// The lines of `bytes`, each ended by `delim` and a slice of it. It takes no memory.
+/// The lines of `bytes`, each ended by `delim`, as slices. It takes no memory.
 pub fn lines(bytes: &[u8], delim: u8) -> Lines<'_>
     ensures left { result ≡ record { delim = delim; text = bytes.now } }
     ensures are { IsLines delim bytes.now (lines_of delim bytes.now) }

@@ -57,7 +57,7 @@ impl Block {
         self.bytes.len() - self.start
     }
 
-    /// How many of them are delimiters.
+    /// How many of its bytes are delimiters.
     pub(crate) fn delimiters(&self) -> usize
         ensures { result ≡ self.now.count }
     {
