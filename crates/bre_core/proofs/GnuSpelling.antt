@@ -131,7 +131,7 @@ bracket_stays {text} {set} {rest} found stays =
     let spelled = list_found text set rest found in
     subst (Stays Opened) (sym spelled.whole) (list_stays spelled.complemented spelled.parts spelled.list stays)
 
--- Outside of them.
+-- Outside of bracket expressions.
 
 outside : (byte : ℕ) {text : List ℕ} → eqb byte 92 ≡ false → eqb byte 91 ≡ false → Stays Outside text
     → Stays Outside (byte ∷ text)

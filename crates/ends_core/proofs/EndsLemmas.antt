@@ -84,7 +84,7 @@ none_settled (Between span) x {verdict} settled =
     none-some verdict (sym (enough_came span.end x (leb-true span.end (length x) settled.0)) ∙ settled.1)
 none_settled ends x settled = false≢true settled.0
 
--- with these bytes the output has what is due, whatever it was fed
+-- with these bytes the output has what is due, whatever came before
 abbrev pub Makes : Ends → List ℕ → (List ℕ → Part) → Type 0
 Makes ends bytes whole = (x : List ℕ) → Holds ends x → record ((work ends).settled x) { out = ((work ends).settled x).out ++ bytes } ≡ whole x
 
@@ -107,7 +107,7 @@ module _ (told : Bool) (ends : Ends) (bytes : List ℕ) {whole : List ℕ → Pa
   pub puts_out : new ≡ with_written 0 (told_of told bytes) old → PutsOut terms ends whole told old new
   puts_out wrote before x at = rw (makes x at.holds) at (out_more told before _ old new bytes at.outputs wrote)
 
-  -- what stopped it stopped an output of bytes
+  -- what stopped a write stopped an output of bytes
   pub cuts_off : {lacks : Bool} {f : Fault} → Stops told lacks bytes old new f → CutsOff terms ends whole told old new f
   cuts_off {f = f} stops before x at = cut (stop.unjudged told stops)
       (subst (λ output. StoppedBetween output told before ((work ends).settled x) (whole x) f new)

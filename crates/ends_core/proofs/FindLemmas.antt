@@ -112,7 +112,7 @@ wanted_before {delim} {end} from size x {block} is place within are short =
     rw (block_then (but_one x) from size, ← here, place) (delimiters-append delim block (drop end (but_one x))) in
     let counted = short.counted in let fewer = short.fewer in omega arith
 
--- the wanted one stands in the block
+-- the wanted delimiter stands in the block
 pub begins_in : {delim count wanted end : ℕ} (from size : ℕ) {at : ℕ} (x : List ℕ) {block : List ℕ}
     → IsWanted delim count wanted end x → from + size ≡ end → end ≤ length x - 1 → block ≡ take size (drop from x)
     → BeginsAt delim wanted block at → BeginsAt delim count (but_one x) (from + at)

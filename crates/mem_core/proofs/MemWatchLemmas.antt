@@ -31,7 +31,7 @@ world_past (first ∷ []) n past = refl
 world_past (first ∷ next ∷ worlds) zero past = absurd (omega arith)
 world_past (first ∷ next ∷ worlds) (suc n) past = world_past (next ∷ worlds) n (omega arith)
 
--- one more changes none of those before
+-- one more list of files changes none before it
 pub world_before : (worlds : List World) (more : World) (n : ℕ) → n < length worlds
     → world_at (worlds ++ more ∷ []) n ≡ world_at worlds n
 world_before [] more n within = absurd (omega arith)
@@ -244,7 +244,7 @@ pub still_shows : {watch : MemWatchState} (new : MemWatchState) {worlds : List W
 still_shows new {worlds} turns {names} {forgives} {within} {why} also waits is same = shows_same new
     (record { worlds = worlds; turns = turns; watched = names; forgives = forgives; within = within; why = why }) also waits same ∙ ap shows is
 
--- one look more is planned: the watch is still at one of them, and begins with no file
+-- one more look is planned: the watch is still at a planned look, and begins with no file
 pub holds_more : (worlds : List World) {new : List World} (world : World) (turns n : ℕ) → turns < length worlds
     → world_at worlds 0 ≡ empty_world → new ≡ worlds ++ world ∷ [] → n ≤ turns + 1
     → (n < length new) × (world_at new 0 ≡ empty_world)

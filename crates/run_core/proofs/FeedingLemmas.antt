@@ -357,7 +357,7 @@ needed_within room (inr (before, piece, is, few, going)) = grind (arith, common_
 
 -- what a run leaves of an input
 
--- all of it was read, and the output was not complete
+-- all of an input was read, and the output was not complete
 pub uses_all : {work : Work} {most slot : ℕ} {there : Content} {x : List ℕ} {source : Source}
     → there.bytes ≡ x ++ source.left.bytes → source.left.bytes ≡ [] → IsNeeded work.is_complete most x
     → work.is_complete x ≡ false → source.reached ≤ length x → Uses work most slot there source

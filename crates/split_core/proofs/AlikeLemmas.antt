@@ -25,7 +25,7 @@ use Rattle.ports_core.specs.declared.fault.Fault.TheVariants as fault_is
 pub same_alike : (work : Work) (x : List ℕ) → AreAlike work x x
 same_alike work x = search rules
 
--- what follows them is no matter: it may be nothing, or more
+-- What follows doesn't matter: nothing, or more
 
 module _ {work : Work} {x z : List ℕ} (alike : AreAlike work x z) where
   pub settled_as : work.settled x ≡ work.settled z

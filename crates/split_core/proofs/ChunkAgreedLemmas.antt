@@ -138,7 +138,7 @@ none_grows chunks x some byte small =
       alone = on.alone;
     }
 
--- all these bytes are this one
+-- all bytes of these pieces are this byte
 record IsAlone (byte : ℕ) (pieces : List (List ℕ)) : Type 0 where
   all : All (λ one. one ≡ byte) (joined pieces)
 

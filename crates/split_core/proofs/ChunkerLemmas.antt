@@ -121,7 +121,7 @@ module _ {chunker : ChunkerState} {next : CutterState} {size : ℕ} {piece : Lis
   fits_done : length (has.spare.used ++ done) ≤ size
   fits_done = omega (arith, done_fits takes (within_size has), has.cut.at, length-append has.spare.used done)
 
-  -- once it is complete, none of the piece is used
+  -- once the output is complete, none of the piece is used
   none_done : (said_work chunker.cutter size).is_complete has.spare.used ≡ true → length piece - past ≡ 0
   none_done complete = omega (arith, takes.still (past_is (cut_is has) ∙ complete))
 

@@ -155,7 +155,7 @@ ends_open {told} {cutter} {size} {slots} ready within short = record {
 
 -- Chunks end one after another
 
--- each of them changes what is there to what it is once it ended
+-- each chunk that ends changes what is there to what is there after it
 pub record Ending (told : Bool) (cutter : CutterState) (size : ℕ) (old slots : List Slot) (now : CutterState)
     : Type 0 where
   pub chunks : now.chunks ≡ cutter.chunks
@@ -404,7 +404,7 @@ end_here : {cutter : CutterState} {size : ℕ} {x : List ℕ} → Place cutter s
     → end_so cutter size ≡ chunk_start cutter.chunks.count size (cutter.sink.place + 1)
 end_here {cutter} at = grind (arith, common_steps)
 
--- all of it stands before that
+-- what is cut off next stands before the end of the chunk that was begun
 all_within : {cutter : CutterState} {size : ℕ} {x : List ℕ} (text : List ℕ) → IsCut cutter size x → Place cutter size x
     → before_chunk cutter.chunks size (ended cutter.chunks size x + 1) (x ++ cut_to cutter (end_so cutter size) text)
     ≡ x ++ cut_to cutter (end_so cutter size) text
@@ -459,7 +459,7 @@ cuts_on {told} {cutter} {mid} {next} {size} text {y} {old} {new = new} fault is 
         from = rw (step.chunks, step.place, ← place.is) (ended_grows _ _ x y);
       })))
 
--- a fault came as it was written
+-- a fault came as a stretch was written
 fulls_follow : (on : Course) (low : CutUp) {high : CutUp} (n : ℕ) → with_fulls n low ≡ high
     → Begins (part_on on low) (part_on on high)
 fulls_follow on low n is = let e : 0 + n ≡ n = omega arith in rw (e, is) at (fulls_begin on low 0 n)

@@ -133,9 +133,9 @@ grow_by {had = had} more less most outside are = record {
   same = λ i out. cc (are i, outside i out, append-nil (had i));
 }
 
--- A fault that stopped them
+-- A fault that stopped the files
 
--- the next one of many is that after some files
+-- the next of many files is the one after some files
 next_due : (filing : Filing) {out : List ℕ} (part high : ℕ → Share) {some many most : ℕ} {name : List ℕ} → many ≤ most
     → (name ≡ name_at filing.names some) × (some < many)
     → IsNext (record { out = out; files = files_by filing part some }) (part_by filing high most) name

@@ -37,7 +37,7 @@ pub record AsksFor (chunker : ChunkerState) (size chunk : ℕ) : Type 0 where
   pub aim : chunker.cutter.sink.aim ≡ to_output chunk
   pub fresh : Holds chunker []
 
--- A text that it may have been fed: no more bytes than stand before the chunk. With them the chunk at a place was begun.
+-- A text that the engine may have been fed: no more bytes than stand before the chunk. With them the chunk at a place was begun.
 record Begins (chunks : Chunks) (size chunk place : ℕ) (within : Bool) (z : List ℕ) : Type 0 where
   before : length z ≤ chunk_start chunks.count size chunk
   some : length z < chunk_start chunks.count size (chunk + 1)
@@ -79,7 +79,7 @@ module _ {chunker : ChunkerState} {size chunk : ℕ} (asks : AsksFor chunker siz
   fits : {place : ℕ} {within : Bool} {z : List ℕ} → Begins chunks size chunk place within z → length z < size
   fits begins = omega (arith, begins.some, ends_in)
 
-  -- nothing is written of it
+  -- nothing is written of this text
   writes_none : {place : ℕ} {within : Bool} {z : List ℕ} → Begins chunks size chunk place within z
       → (chunk_work chunk chunks (Some size)).settled z ≡ nothing
   writes_none {z = z} begins =

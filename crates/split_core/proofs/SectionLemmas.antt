@@ -153,7 +153,7 @@ are_cut {delim} {n} some (one (byte ∷ x) has short) = rw (cut_none (LineBytes 
 are_cut {delim} {n} some (more x _ enough past) =
     rw (cut_first (LineBytes n delim) x (full_from (LineBytes n delim) x some enough), are_cut some past)
 
--- no other parts are those
+-- no other list of parts is right
 pub line_bytes_once : {delim n : ℕ} {x : List ℕ} {these those : List (List ℕ)} → 0 < n
     → AreLineByteParts delim n x these → AreLineByteParts delim n x those → these ≡ those
 line_bytes_once some these those = sym (are_cut some these) ∙ are_cut some those

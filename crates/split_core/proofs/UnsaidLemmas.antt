@@ -63,7 +63,7 @@ writes_on : (cutter : CutterState) (end : ℕ) (w front : List ℕ) → BeginsBe
 writes_on cutter end w front so short =
     rw so.0.at (begun_on _ _ _ w _ (goes_on_so _ _ w so short))
 
--- nothing waits, or it goes with what comes later
+-- nothing waits, or what waits goes with what comes later
 still_all : (cutter : CutterState) (waiting : List ℕ) (end : ℕ) (z : List ℕ) → BeginsBefore cutter end z
     → (length waiting ≡ 0) ⊎ (false ≡ (nat_lt cutter.at end || cutter.is_within)) → all_before cutter waiting end z ≡ z
 still_all cutter waiting end z (has, all) (inl none) = grind (arith, common_steps)

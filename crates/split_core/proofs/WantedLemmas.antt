@@ -85,7 +85,7 @@ few_past chunk chunks size x piece n can few going spare = elim spare.enough [
   long : length (x ++ piece) ≡ length (spare.used ++ spare.rest)
   long = ap length spare.joined
 
--- while it goes on, all that came in was cut off
+-- while the engine goes on, all that came in was cut off
 all_cut : (state : ChunkerState) (size : ℕ) (x : List ℕ) → state.said ≡ Some size → (work state).is_complete x ≡ false
     → Holds state x
     → state.cutter.at ≡ length x

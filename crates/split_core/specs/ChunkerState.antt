@@ -89,7 +89,7 @@ pub record Carries (sink : SinkState) (cut : CutUp) : Type 0 where
   pub placed : length cut.full ≡ sink.place
   pub has : CanHave sink.aim cut
 
--- the outputs that it goes on with can be written, and standard output gets no sizes of files
+-- the outputs of later calls can be written, and standard output gets no sizes of files
 abbrev pub IsAimed : AimState → List Slot → Type 0
 IsAimed (to_files writer elide) slots = CanWrite writer slots × TellsNoSizes writer.tells
 IsAimed (to_output chunk) slots = IsTrue (is_writable slots 0)

@@ -305,7 +305,7 @@ pub call_before : {pieces : List (List ℕ)} (before after : List (List ℕ)) (p
     → pieces ≡ before ++ piece ∷ after → suc (length before) < suc (length pieces)
 call_before before after piece is = grind (arith, common_steps)
 
--- an output is so after a call, with what that adds to what broke when
+-- an output after a call, with what the call adds to what broke when
 abbrev pub Marked : (Option Break → Slot → Type 0) → ℕ → Option Break → Slot → Type 0
 Marked Is call first new = (after : Option Break) × Is after new × Marks call first after (stands_as new)
 

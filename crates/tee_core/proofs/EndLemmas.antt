@@ -42,7 +42,7 @@ abbrev SeenTo : Bool → Content → List ℕ → Source → Type 0
 SeenTo told there x source = (content : Content) × (rest : List ℕ) × (told ≡ true → content ≡ there) × (content.bytes ≡ x ++ rest) × LeavesOf told source rest
     × CameFrom told content source
 
--- one that was read to its end
+-- an input that was read to its end
 abbrev SeenWhole : Bool → Content → List ℕ → Bool → Source → Type 0
 SeenWhole told there x breaks source = (content : Content) × (told ≡ true → content ≡ there) × (content.bytes ≡ x) × (content.breaks_off ≡ breaks) × LeavesOf told source []
     × CameFrom told content source

@@ -21,7 +21,7 @@ use Rattle.ports_core.specs.{
 use Rattle.tee_core.specs.declared.standing.Standing.{Standing, TheVariants.{Sound, Broken, Gone}}
 use Rattle.ports_core.specs.declared.reason.Reason.TheVariants as reason
 
--- who speaks in its messages
+-- who speaks in the messages of `tee`
 abbrev pub tee_called : Calling → Speaker
 tee_called calling = record { calling = calling; tool = Tee }
 

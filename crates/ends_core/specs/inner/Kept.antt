@@ -5,7 +5,7 @@ use Rattle.ports_core.specs.{Slot.{Slot, with_written, told_of}, Write.BrokeAfte
 use Rattle.seg_core.specs.declared.unit.Unit.TheVariants as unit
 use Rattle.ports_core.specs.declared.fault.Fault.TheVariants as fault
 
--- if it keeps bytes and is full, no memory can be lacking
+-- if a store keeps bytes and is full, no memory can be lacking
 abbrev pub FullLacksNone : Kept → Type 0
 FullLacksNone kept = unit_of kept ≡ unit.Bytes → most_of kept ≤ length (held_of kept) → may_lack_of kept ≡ false
 

@@ -127,8 +127,8 @@ abbrev pub empties_by : Bool → Draft → Draft
 empties_by true draft = draft
 empties_by false draft = begun_by (made_of draft.opening draft.bytes) draft
 
--- The files changed so, and the outputs with them; or a fault stopped them. Names ran out only if the file that was
--- begun has none.
+-- The files changed so, and the outputs with them; or a fault stopped that. Names ran out only if the file that was
+-- begun has no name.
 pub record Files (told : Bool) (writer : WriterState) (change : Draft → Draft) (old new : List Slot)
     (next : WriterState) (fault : Option Fault) : Type 0 where
   pub leaves : Leaves writer next old new fault

@@ -104,7 +104,7 @@ pub record CopiesRead (told_in told : Bool) (calling : Calling) (mode : Mode) (o
   pub read : ComesIn told_in content source (is_done on_broken known) pieces fault
   pub copies : Copies told calling mode on_broken names pieces [] slots known
 
--- how a run leaves its outputs, once the files are closed; `before` says how they stood before that
+-- how a run leaves its outputs, once the files are closed; `before` says how they stood until then
 pub record HasCopied (told : Bool) (calling : Calling) (mode : Mode) (on_broken : OnBroken) (names : List (List ℕ))
     (pieces : List (List ℕ)) (fault : Option Fault) (before : List Standing) (slots : List Slot) (known : List Standing)
     : Type 0 where
