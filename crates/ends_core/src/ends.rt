@@ -218,7 +218,7 @@ impl Stage for Ends {
         }
     }
 
-    /// It has no files to remove.
+    /// There are no files to remove.
     fn clear<O: Outs>(&mut self, outs: &mut O) {
         let _ = outs;
     }

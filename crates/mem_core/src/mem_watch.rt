@@ -317,7 +317,7 @@ impl Watch for MemWatch {
         world_in(&self.worlds, next).has_ended(process)
     }
 
-    /// It waits for nothing, and keeps what is asked for.
+    /// Waits for nothing, and keeps what is asked for.
     fn wait_at_most(&mut self, milliseconds: u64) {
         self.within = milliseconds.max(1);
     }

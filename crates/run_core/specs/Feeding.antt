@@ -144,7 +144,7 @@ IsUnread source = (source.taken ≡ []) × (source.reached ≡ 0)
 
 -- What a tool that is done with an input took of it, and what it left: it took enough, and no more than it needed.
 pub record Uses (work : Work) (most slot : ℕ) (there : Content) (source : Source) : Type 0 where
-  -- it took the front of what was there, and left the rest
+  -- the front of what was there, which it took; it left the rest
   pub read : List ℕ
   pub joined : there.bytes ≡ read ++ source.left.bytes
   -- what it took was enough: nothing is left, or the output is complete

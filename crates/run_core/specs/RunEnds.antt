@@ -51,14 +51,14 @@ pub data RunStep (told : Bool) (task : Task) (shown : Option (List ℕ)) (most :
   -- there is no memory to open the input
   unopened : (content : Option Content) (place : ℕ) → slot ≡ Some place → length sources ≤ place
       → RunStep told task shown most so_far header slot sources content (memory_step so_far)
-  -- there is no memory for its header
+  -- there is no memory for the header
   unheaded : (content : Content) → task.with_header ≡ true → Leaves told content slot sources (memory_step so_far)
       → RunStep told task shown most so_far header slot sources (Some content) (memory_step so_far)
-  -- its header is written
+  -- the header is written
   heading : (content : Content) → task.with_header ≡ true
       → Leaves told content slot sources (header_step so_far header)
       → RunStep told task shown most so_far header slot sources (Some content) (header_step so_far header)
-  -- its engine is called
+  -- the engine is called
   calling : (content : Content) (call : Step) → IsCall (task.work shown) (task.opening shown) most content call
       → Leaves told content slot sources call
       → RunStep told task shown most so_far header slot sources (Some content)

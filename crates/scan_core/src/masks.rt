@@ -14,9 +14,9 @@ use std::alloc::Global;
 /// What is asked of a number of a code.
 #[derive(Clone, Copy)]
 pub enum Kind {
-    /// Its node takes this byte.
+    /// The number's node takes this byte.
     Takes(u8),
-    /// It is a position.
+    /// The number is a position.
     Counts,
 }
 

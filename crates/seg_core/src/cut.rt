@@ -51,7 +51,7 @@ pub struct Chunks {
 /// What becomes of an input (POSIX.1-2017, XCU split; chunks and lines in turn are GNU's `-n`). Places are counted from 0.
 #[derive(Clone, Copy, Debug, PartialEq, Eq)]
 pub enum Way {
-    /// It is cut into files, and its length doesn't matter.
+    /// The input is cut into files, and its length doesn't matter.
     Cut(Cut),
     /// What goes with each of its chunks goes to a file.
     Chunks(Chunks),

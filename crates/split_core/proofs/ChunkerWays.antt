@@ -163,7 +163,7 @@ pub lacks_room : {told : Bool} (old : ChunkerState) {piece : List ℕ} {slots : 
 lacks_room old unsaid = passes_lacking (way.Chunks old) _ _ refl (omega arith) (λ first owns. owns)
     (feeds_memory (course old.cutter) old.cutter.chunks unsaid)
 
--- And the end
+-- The call at the end
 
 aimed_writable : (aim : AimState) (chunks : Chunks) (said : Option ℕ) (slots : List Slot) → IsAimed aim slots
     → writes (work_on (course_of aim) chunks said).means.output ≡ true → IsTrue (is_writable slots 0)

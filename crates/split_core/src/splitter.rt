@@ -138,7 +138,7 @@ impl Stage for Splitter {
         }
     }
 
-    /// It removes nothing: all files stay.
+    /// Removes nothing: all files stay.
     fn clear<O: Outs>(&mut self, outs: &mut O) {
         let _ = outs;
     }

@@ -9,11 +9,11 @@ use ports_core::{Fault, OnBroken, Reason};
 /// How an output stands, as far as is known.
 #[derive(Clone, Copy, Debug)]
 pub enum Standing {
-    /// It isn't broken.
+    /// The output isn't broken.
     Sound,
-    /// It broke, and its reader isn't gone.
+    /// The output broke, and its reader isn't gone.
     Broken,
-    /// It broke because its reader is gone.
+    /// The output broke because its reader is gone.
     Gone,
 }
 
