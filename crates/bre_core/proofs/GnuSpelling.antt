@@ -1,4 +1,4 @@
--- A text that has a tree, or no backslash, stays as it is where GNU's spelling is written as POSIX's.
+-- A text that has a tree, or no backslash, stays as it is if GNU's spelling is written as POSIX's.
 use Rattle.std.proofs.{
   lemmas.{
     Grind.common_steps,
@@ -26,7 +26,7 @@ use Rattle.bre_core.specs.{
 }
 use Rattle.bre_core.proofs.Spelled.{begun, interval_read, list_found}
 
--- it stays as it is from this place on
+-- the text stays as it is from this place on
 abbrev pub Stays : Place → List ℕ → Type 0
 Stays place text = respelled_from place text ≡ text
 
@@ -131,7 +131,7 @@ bracket_stays {text} {set} {rest} found stays =
     let spelled = list_found text set rest found in
     subst (Stays Opened) (sym spelled.whole) (list_stays spelled.complemented spelled.parts spelled.list stays)
 
--- Outside of them.
+-- Outside of bracket expressions.
 
 outside : (byte : ℕ) {text : List ℕ} → eqb byte 92 ≡ false → eqb byte 91 ≡ false → Stays Outside text
     → Stays Outside (byte ∷ text)

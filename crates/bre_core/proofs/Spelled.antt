@@ -1,4 +1,4 @@
--- A text is read as a bracket list where it is spelled as one, and only there.
+-- A text is read as a bracket list exactly if it is spelled as one.
 use Rattle.std.proofs.{
   Common.{◌≡◌, ℕ, ◌+◌, ◌-◌, ◌*◌, ◌<◌, ◌≤◌, true, List, [], ◌∷◌, length, get_or, drop, Some, None, ap, ◌∙◌, arith},
   Common.{rules, ◌≢◌, ◌↔◌, ◌⊎◌, inl, inr, false, cond, ◌++◌, Option, refl, sym, subst, append_assoc, Bool, ◌&&◌, eqb},
@@ -46,12 +46,12 @@ pub number_fits : (text : List ℕ) → begins_with_digit text ≡ true → {fou
     → found.0 ≤ 255 → number_at text ≡ Some found
 number_fits text d e h = cond-true _ _ _ (both _ _ d (le-leb _ _ (omega (arith, ap (λ f. f.0) e)))) ∙ ap Some e
 
--- and one that is not
+-- a number that is above 255
 pub number_too_large : (text : List ℕ) (number : ℕ) (rest : List ℕ) → number_from 0 text ≡ number_from number rest
     → 255 < number → number_at text ≡ None
 number_too_large text number rest e h = search (rules, cond-false, and_right, begins_with_digit, lt-leb, number_grows)
 
--- A text is read as an interval where it is spelled as one, and only there.
+-- A text is read as an interval exactly if it is spelled as one.
 
 -- a number and one more digit
 abbrev step : ℕ → ℕ → ℕ

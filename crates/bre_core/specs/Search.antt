@@ -10,12 +10,12 @@ abbrev pub any_below : ℕ → (ℕ → Bool) → Bool
 any_below zero test = false
 any_below (suc bound) test = any_below bound test || test bound
 
--- whether a number of parts of a kind lead from one place to another, each beginning where the one before it ends
+-- whether this many parts of a kind in a row lead from one place to another
 abbrev pub has_parts : (ℕ → ℕ → Bool) → ℕ → ℕ → ℕ → Bool
 has_parts part zero from to = from == to
 has_parts part (suc count) from to = any_below (suc to) (λ middle. has_parts part count from middle && part middle to)
 
--- whether it is no more than a bound, where there is one
+-- whether a count is within its bound, if there is a bound
 abbrev pub is_at_most : Option ℕ → ℕ → Bool
 is_at_most None count = true
 is_at_most (Some high) count = nat_le count high
@@ -27,7 +27,7 @@ abbrev mutual
   matches (append pattern item) line from to =
       any_below (suc to) (λ middle. matches pattern line from middle && matches_item item line middle to)
 
-  -- parts beyond the least number and the stretch's length have an empty one among them
+  -- whether an item matches the stretch; of more than low + to repetitions some would be empty
   pub matches_item : Item → List ℕ → ℕ → ℕ → Bool
   matches_item (set bytes) line from to =
       (to == from + 1) && (nat_lt from (length line) && has bytes (slice_index line from))

@@ -16,7 +16,7 @@ use Rattle.bre_core.specs.{
   Class.is_between,
 }
 
--- digits, one or more, that write a number to base 10, of at most 255; zeros may lead
+-- one or more digits that write a number in base 10, 255 at most; zeros may lead
 pub record IsNumber (digits : List ℕ) (number : ℕ) : Type 0 where
   pub some : digits ≢ []
   pub are_digits : list_all (is_between 48 57) digits ≡ true
@@ -24,7 +24,7 @@ pub record IsNumber (digits : List ℕ) (number : ℕ) : Type 0 where
   pub within : number ≤ 255
 
 -- What stands between `\{` and `\}`: a number; a number and a comma; or two numbers and a comma between them, the first
--- not above the second. The least count of repetitions and the greatest, if there is one.
+-- not above the second. The least count of repetitions, and the greatest if there is a bound.
 pub data AreBounds : List ℕ → ℕ → Option ℕ → Type 0 where
   exactly : (digits : List ℕ) (number : ℕ) → IsNumber digits number → AreBounds digits number (Some number)
   at_least : (digits : List ℕ) (low : ℕ) → IsNumber digits low → AreBounds (digits ++ codes ",") low None
@@ -77,7 +77,7 @@ name_of Graph = codes "graph"
 name_of Print = codes "print"
 name_of Punct = codes "punct"
 
--- a byte, a part and a list of parts, spelled before a text
+-- The spelling of a byte, of a part and of a list of parts, before a text.
 
 abbrev pub byte_before : Spelling → List ℕ → List ℕ
 byte_before (plain byte) text = byte ∷ text
@@ -102,8 +102,8 @@ abbrev pub is_opening : Spelling → List ℕ → Bool
 is_opening (plain byte) text = byte == 91 && (begins_with 46 text || begins_with 61 text || begins_with 58 text)
 is_opening (symbol byte) text = false
 
--- A part before this text is read as what it is. After a single byte no `-` follows that would make a range. The ends
--- of a range are in order, and the second isn't a plain `]`, which would close the list.
+-- A part before this text is read as what it is. A single byte isn't followed by a `-` that would make a range. The
+-- ends of a range are in order, and its second end isn't a plain `]`, which would close the list.
 abbrev pub IsItself : Part → List ℕ → Type 0
 IsItself (single spelling) text = (is_opening spelling text ≡ false) × (is_dash_inside text ≡ false)
 IsItself (range low high) text = (byte_of low ≤ byte_of high) × (is_opening high text ≡ false)
@@ -111,13 +111,13 @@ IsItself (range low high) text = (byte_of low ≤ byte_of high) × (is_opening h
 IsItself (equivalents byte) text = Unit {0}
 IsItself (class name) text = Unit {0}
 
--- A part may begin like this text: in the first place any text will do; in a later one the text begins neither with
+-- A part may begin like this text. In the first place any text will do. In a later place the text begins neither with
 -- `]`, nor with a `-` that isn't directly before the closing `]`.
 abbrev pub MayBegin : Bool → List ℕ → Type 0
 MayBegin true text = Unit {0}
 MayBegin false text = (begins_with 93 text ≡ false) × (is_dash_inside text ≡ false)
 
--- Each part stands where it may. `first` says that the first of them stands in the list's first place.
+-- Each part stands where it may. `first` says that the first part stands in the list's first place.
 abbrev pub Stand : Bool → List Part → List ℕ → Type 0
 Stand first [] text = Unit {0}
 Stand first (part ∷ parts) text = MayBegin first (parts_before (part ∷ parts) text)
@@ -130,7 +130,7 @@ pub record IsBracketList (complemented : Bool) (parts : List Part) (rest : List 
   pub stand : Stand true parts (codes "]" ++ rest)
   pub caret : begins_with 94 (list_before complemented parts rest) ≡ complemented
 
--- a text after a `[` is spelled by the rules, as a list of these members, that matches this set of bytes
+-- a text after a `[` is spelled by the rules, as a list of these members that matches this set of bytes
 pub record IsSpelled (text : List ℕ) (members : List Member) (set : List Bool) (rest : List ℕ) : Type 0 where
   pub complemented : Bool
   pub parts : List Part

@@ -19,19 +19,19 @@ use std::alloc::{AllocError, Global};
 pub enum Place {
     /// Outside of bracket expressions.
     Outside,
-    /// There, after a backslash.
+    /// Outside, after a backslash.
     Escaped,
     /// After the `[` that begins a bracket expression.
     Opened,
-    /// After its `[^`: in its first place, where `]` is a member.
+    /// In the first place of a bracket expression, after `[^`, where `]` is a member.
     First,
-    /// In a later place of it.
+    /// In a later place of a bracket expression.
     Inside,
-    /// After a `[` in it.
+    /// After a `[` in a bracket expression.
     Bracket,
-    /// After `[.`, `[=` or `[:` in it, which this mark and `]` end.
+    /// After `[.`, `[=` or `[:` in a bracket expression, which this mark and `]` end.
     Named(u8),
-    /// There, after the mark.
+    /// After this mark, between `[.`, `[=` or `[:` and its end.
     Marked(u8),
 }
 
@@ -116,13 +116,13 @@ fn written_for(place: Place, text: &[u8]) -> &[u8]
     }
 }
 
-/// The text of a pattern as POSIX spells it, where GNU's spelling may stand too (GNU's manual of grep, Regular Expressions):
-/// `\+` and `\?` for intervals, `\{,n\}` for `\{0,n\}`, `\w`, `\W`, `\s` and `\S` for bracket expressions, a backslash
-/// before a byte that needs none, and the empty pattern. All else stays as it is. It takes memory for the text.
+/// The text of a pattern as POSIX spells it, if GNU's spelling may stand too (GNU's manual of grep, Regular Expressions): `\+` and `\?` for
+/// intervals, `\{,n\}` for `\{0,n\}`, `\w`, `\W`, `\s` and `\S` for bracket expressions, a backslash before a byte that needs none, and the
+/// empty pattern. All else stays as it is. It takes memory for the text.
 ///
 /// # Errors
 ///
-/// `AllocError` where there is none.
+/// `AllocError` if there is no memory.
 pub fn respell(alloc: Global, text: &[u8]) -> Result<Vec<u8>, AllocError>
     ensures { IfOk result (λ posix. posix.items ≡ respelled text.now) }
 {
@@ -141,7 +141,7 @@ pub fn respell(alloc: Global, text: &[u8]) -> Result<Vec<u8>, AllocError>
     Ok(posix)
 }
 
-/// The offset in a text as it was typed, for one in the text that `respell` makes of it.
+/// The offset in a text as it was typed, for an offset in the text that `respell` makes of it.
 fn typed_at(text: &[u8], offset: usize) -> usize
     ensures { result ≡ typed_at text.now offset }
 {
@@ -161,7 +161,7 @@ fn typed_at(text: &[u8], offset: usize) -> usize
 }
 
 impl BreFault {
-    /// The fault of a text that `respell` made of another, with its place in that one, as it was typed.
+    /// The fault of a text that `respell` made of another text, with its place in that other text, as it was typed.
     pub fn as_typed(self, text: &[u8]) -> BreFault
         ensures kind { number_of result ≡ number_of self }
         ensures place { offset_of result ≡ option_map (typed_at text.now) (offset_of self) }

@@ -61,7 +61,7 @@ pub head_agreed : (delim : ℕ) (unit : Counted) (but_last : Bool) (n : ℕ) {x 
 head_agreed delim unit but_last n {x} =
     agreed_now (head_work delim unit but_last n) x (common (head_work delim unit but_last n) (law.head_lawful delim unit but_last n) x) refl
 
--- Where the bytes of an input go that is cut in two after its front: one before the cut goes to one place, and one after it to another.
+-- Where the bytes of an input go that is cut in two after its front: those before the cut go to one place, and those after it to another.
 record Cuts (spots_of : List ℕ → ℕ → List Spot) (front_of : List ℕ → List ℕ) : Type 0 where
   early : ℕ → List Spot
   late : ℕ → ℕ → List Spot
@@ -70,7 +70,7 @@ record Cuts (spots_of : List ℕ → ℕ → List Spot) (front_of : List ℕ →
   apart : (k i : ℕ) → early i ≢ late k i
   few : (x : List ℕ) (i : ℕ) → AtMostOne (spots_of x i)
 
--- the first n of a text with fewer, which goes on, have all of it
+-- the first n of a text that goes on have all of the text, if it has fewer
 first_long : (delim : ℕ) (unit : Counted) (n : ℕ) (x y : List ℕ) → measure delim unit x < n
     → length x ≤ length (first_of delim unit n (x ++ y))
 first_long delim unit n x y short = grind (arith, common_steps, first_of-append, first_of-short)

@@ -54,7 +54,7 @@ use Rattle.ends_core.proofs.{
 use Rattle.ports_core.specs.declared.fault.Fault.TheVariants as fault_is
 use Rattle.ends_core.proofs.KeptLemmas as stop
 
--- what is a function of what was asked for is the same where the same was asked for
+-- what depends only on what was asked for is the same if the same was asked for
 same_for : {A : Type 0} (f : Stretch → ℕ → Counted → ℕ → A) {old new : Ends} → SameAsked old new
     → f (stretch_of new) (delim_of new) (unit_of new) (count_of new)
     ≡ f (stretch_of old) (delim_of old) (unit_of old) (count_of old)
@@ -63,28 +63,28 @@ same_for f same = grind (arith, common_steps)
 pub same_work : {old new : Ends} → SameAsked old new → work new ≡ work old
 same_work same = same_for work_in same
 
--- it writes to standard output alone, and may want memory where the last are kept
+-- a stage writes to standard output alone, and may need memory if the last are kept
 pub on_means : (s : Stretch) (delim : ℕ) (unit : Counted) (n : ℕ) → (work_in s delim unit n).means ≡ on_output (keeps s)
 on_means the_first delim unit n = refl
 on_means s delim unit n = refl
 
--- of an input between two places as many bytes came in as are counted
+-- between two places as many bytes came in as are counted
 came_all : (span : Span) {x : List ℕ} → Holds (Between span) x → span.came ≡ length x
 came_all span holds = omega (arith, holds.missing, holds.past)
 
--- it ends well where nothing is missing
+-- the work ends well if nothing is missing
 pub well_there : (ends : Ends) (x : List ℕ) → missing_of ends ≡ 0 → Holds ends x → (work ends).verdict x ≡ None
 well_there (Between span) x none holds = enough_came span.end x (omega (arith, came_all span holds))
 well_there ends x none holds = refl
 
--- and while bytes come it never ends badly
+-- while bytes come the work never ends badly
 pub none_settled : (ends : Ends) (x : List ℕ) {verdict : Verdict} → IsSettled (work ends) x verdict → ⊥
 none_settled (First _ _) x {verdict} settled = none-some verdict settled.1
 none_settled (Between span) x {verdict} settled =
     none-some verdict (sym (enough_came span.end x (leb-true span.end (length x) settled.0)) ∙ settled.1)
 none_settled ends x settled = false≢true settled.0
 
--- with these bytes the output has what is due, whatever it was fed
+-- with these bytes the output has what is due, whatever came before
 abbrev pub Makes : Ends → List ℕ → (List ℕ → Part) → Type 0
 Makes ends bytes whole = (x : List ℕ) → Holds ends x → record ((work ends).settled x) { out = ((work ends).settled x).out ++ bytes } ≡ whole x
 
@@ -97,7 +97,7 @@ went_out (Last _) piece x holds = refl
 went_out (Between span) piece x holds =
     rw (came_all span holds) (ap only_out (sym (bytes_between-append span.from span.end x piece)))
 
--- and at the end
+-- what is written at the end is what the output gains by it
 pub rest_out : (ends : Ends) → Makes ends (due_at_end ends) (work ends).whole
 rest_out (Last _) x holds = ap only_out holds.waits
 rest_out ends x holds = grind (arith, common_steps)
@@ -107,7 +107,7 @@ module _ (told : Bool) (ends : Ends) (bytes : List ℕ) {whole : List ℕ → Pa
   pub puts_out : new ≡ with_written 0 (told_of told bytes) old → PutsOut terms ends whole told old new
   puts_out wrote before x at = rw (makes x at.holds) at (out_more told before _ old new bytes at.outputs wrote)
 
-  -- what stopped it stopped an output of bytes
+  -- what stopped a write stopped an output of bytes
   pub cuts_off : {lacks : Bool} {f : Fault} → Stops told lacks bytes old new f → CutsOff terms ends whole told old new f
   cuts_off {f = f} stops before x at = cut (stop.unjudged told stops)
       (subst (λ output. StoppedBetween output told before ((work ends).settled x) (whole x) f new)
@@ -191,7 +191,7 @@ takes_in ends {next} piece same past missing left waits full x holds =
       full = full_lacks next (x ++ piece) waits_next full;
     }
 
--- a head is complete exactly where it is done
+-- a head is complete exactly if it is done
 
 incomplete : (delim : ℕ) (unit : Counted) (but_last : Bool) (n : ℕ) (x : List ℕ) → delim < 256
     → (not but_last && nat_le n (measure delim unit x)) ≡ false → IsDone delim unit but_last n x → ⊥
@@ -226,7 +226,7 @@ full_is (First count _) holds = grind (arith, common_steps)
 full_is (Between span) holds = ap (nat_le span.end) (came_all span holds)
 full_is ends holds = refl
 
--- where memory may be wanted, something is kept
+-- if memory may be lacking, something is kept
 pub lacks_kept : (ends : Ends) → may_lack ends ≡ true → keeps (stretch_of ends) ≡ true
 lacks_kept (First count _) lacking = cc
 lacks_kept ends lacking = cc
@@ -276,7 +276,7 @@ on_ok_each (Err f) also is too three = tt
 
 -- what is passed over of an input before any piece is as a piece with which nothing is written
 
--- of nothing nothing is written
+-- with no byte nothing is written
 pub silent_none : (ends : Ends) → WritesNothing ends []
 silent_none (FromNth _ front) = (stays front front.unit).0
 silent_none (Between span) = (omega arith, inl refl)
@@ -373,13 +373,13 @@ first_within delim unit n x =
           (first_then_after delim unit n x),
     )
 
--- the first n of a text are as many, where it has them
+-- the first n of a text are n, if it has as many
 first_measures : (delim : ℕ) (unit : Counted) (n : ℕ) (x : List ℕ) → n ≤ measure delim unit x
     → n ≤ measure delim unit (first_of delim unit n x)
 first_measures delim Lines n x full = omega (arith, delimiters-first_lines delim n x full)
 first_measures delim Bytes n x full = omega (arith, length-take n x)
 
--- of n lines or bytes the last byte is needed
+-- if n lines or bytes are used, the last byte is needed
 last_needed : (delim : ℕ) (unit : Counted) (n : ℕ) {k : ℕ} {used : List ℕ} → length used ≡ suc k
     → first_of delim unit n used ≡ used → measure delim unit (take k used) < n
 last_needed delim unit n {k} {used} long again = elim (cases_lt (measure delim unit (take k used)) n) [
@@ -459,7 +459,7 @@ rest_left delim unit n used {rest} needed enough =
     append_cancel_left used _ _ (rw (written_used delim unit n needed enough) at
     (first_then_after delim unit n (used ++ rest)))
 
--- which bytes aren't used is decided by when the output is complete
+-- the bytes that aren't used depend only on when the output is complete
 spare_so : {one other : Work} {x : List ℕ} {n : ℕ} → one.is_complete ≡ other.is_complete → IsSpare one x n
     → IsSpare other x n
 spare_so same spare = record {
@@ -479,8 +479,8 @@ spare_here (Between span) {x} holds = spare_so refl
     (subst (IsSpare (head_work 0 Bytes false span.end) x) (length-drop span.end x ∙ sym holds.past) (first_used 0 Bytes span.end))
 spare_here ends {x} holds = all_used (work ends) x refl
 
--- a text that goes on from x, cut in two where more stands before the cut than in x: the cut is after x, and what is before
--- it and after x has no more delimiters than bytes
+-- a text that goes on from x, cut in two so that more stands before the cut than in x: the cut is after x, and what is before it and after
+-- x has no more delimiters than bytes
 
 goes_past : (delim : ℕ) (x piece used rest : List ℕ) → x ++ piece ≡ used ++ rest
     → delimiters delim x < delimiters delim used → length x < length used

@@ -65,7 +65,7 @@ last_are : (delim : ℕ) {n : ℕ} (front : List ℕ) {y : List ℕ} → ends_wi
     → y ≡ last_lines delim n (front ++ y)
 last_are delim front closed count = grind (arith, common_steps, lines_of-append, drop_at, joined-lines_of)
 
--- they begin after the delimiter that is the n-th from the end, where the last byte isn't counted
+-- the last n lines begin after the n-th delimiter from the end, if the last byte isn't counted
 pub begins_last : {delim n at : ℕ} (x : List ℕ) → 0 < length x → BeginsAt delim n (but_one x) at
     → drop at x ≡ last_lines delim n x
 begins_last {delim} {n} {at} x some begins =
@@ -78,7 +78,7 @@ begins_last {delim} {n} {at} x some begins =
     (rest, lines_and_one delim (drop at (but_one x)) (drop (length x - 1) x) (one_left x some)) begins.counted in
     last_are delim (take at x) (rw front at begins.after) count ∙ ap (last_lines delim n) (take-append-drop at x)
 
--- a text without as many lines is all of them
+-- a text with fewer lines is its own last n lines
 pub few_last : (delim : ℕ) {n : ℕ} (x : List ℕ) → delimiters delim (but_one x) < n → x ≡ last_lines delim n x
 few_last delim [] few = grind (arith, common_steps)
 few_last delim {n} (byte ∷ x) few =
@@ -101,7 +101,7 @@ block_then y from size = rw (← drop-drop, take-append-drop) refl
 abbrev pub IsWanted : ℕ → ℕ → ℕ → ℕ → List ℕ → Type 0
 IsWanted delim count wanted end x = count ≡ wanted + delimiters delim (drop end (but_one x))
 
--- those in the block needn't be found before it
+-- delimiters in the block needn't be found before it
 pub wanted_before : {delim count wanted end : ℕ} (from size : ℕ) {found : ℕ} (x : List ℕ) {block : List ℕ}
     → IsWanted delim count wanted end x → from + size ≡ end → end ≤ length x - 1 → block ≡ take size (drop from x)
     → FallsShort delim wanted block found
@@ -112,7 +112,7 @@ wanted_before {delim} {end} from size x {block} is place within are short =
     rw (block_then (but_one x) from size, ← here, place) (delimiters-append delim block (drop end (but_one x))) in
     let counted = short.counted in let fewer = short.fewer in omega arith
 
--- the wanted one stands in the block
+-- the wanted delimiter stands in the block
 pub begins_in : {delim count wanted end : ℕ} (from size : ℕ) {at : ℕ} (x : List ℕ) {block : List ℕ}
     → IsWanted delim count wanted end x → from + size ≡ end → end ≤ length x - 1 → block ≡ take size (drop from x)
     → BeginsAt delim wanted block at → BeginsAt delim count (but_one x) (from + at)
@@ -146,7 +146,7 @@ pub all_wanted : (delim : ℕ) {count wanted : ℕ} (end : ℕ) {x : List ℕ} �
     → 0 < wanted → x ≡ last_lines delim count x
 all_wanted delim end is front some = grind (arith, common_steps, few_last)
 
--- Where they begin in what an input shows
+-- Where the last lines begin in what an input shows
 
 -- looks into the front of the buffer
 pub looked_block : {most slot : ℕ} (size : ℕ) (buffer : List ℕ) {old mid new : List Source}
@@ -156,8 +156,8 @@ pub looked_block : {most slot : ℕ} (size : ℕ) (buffer : List ℕ) {old mid n
 looked_block {most} size buffer so_far can few is = looked_again {least = most} so_far
     (looked_once (looked_readable so_far can) (omega (arith, length-take size buffer)) is) (omega arith)
 
--- What is known of the text that an input shows, of which its end was looked at from a place on: this number of delimiters is
--- still wanted before it. Where inputs don't tell their bytes, any text with that end is one that it may show.
+-- What is known of the text that an input shows, of which its end was looked at from a place on: this number of delimiters is still wanted
+-- before it. If bytes aren't visible, the input may show any text with that end.
 pub record SeenFrom (told : Bool) (left : Content) (delim count wanted end len : ℕ) : Type 0 where
   pub text : List ℕ
   pub shown : told ≡ true → left.shown ≡ Some text
@@ -219,7 +219,7 @@ block_seen false {end = end} {len} from size {block} seen place within long show
       rw from_there (sym (take_at block (drop end seen.text) size long)),
     )
 
--- where a part that is so long begins
+-- where the last n lines or bytes begin, if they are the text from here on
 place_is : (delim : ℕ) (unit : Counted) (n : ℕ) {at : ℕ} (text : List ℕ) → at ≤ length text
     → drop at text ≡ last_of delim unit n text → at ≡ place_of delim unit n text
 place_is delim unit n {at} text within is = omega (arith, sym (ap length is) ∙ length-drop at text)
@@ -241,7 +241,7 @@ module _ {told : Bool} {left : Content} {delim count wanted end len : ℕ} where
         len = many;
       }
 
-  -- or not in it
+  -- the wanted delimiter doesn't stand in a block
   pub seen_more : (from size : ℕ) {found : ℕ} {block : List ℕ} → SeenFrom told left delim count wanted end len
       → from + size ≡ end → end ≤ len - 1 → length block ≡ size → (told ≡ true → ShowsOf left from block)
       → FallsShort delim wanted block found → SeenFrom told left delim count (wanted - found) from len

@@ -1,5 +1,5 @@
--- `head` and `tail` of an input that shows its bytes: they are lawful and keep nothing back, and where the text that was
--- shown comes, they end as those that know nothing of it do.
+-- `head` and `tail` of an input that shows its bytes: they are lawful and keep nothing back, and if the text comes that was shown, they end
+-- as those that know nothing of it do.
 use Rattle.std.proofs.{
   lemmas.{
     Bool.{cases_lt, le-leb, leb-true, le-ltb, lt-ltb},

@@ -4,20 +4,18 @@ use Rattle.ports_core.specs.{Part.only_out, Work.{Work, on_output, always_well}}
 use Rattle.seg_core.specs.declared.unit.Unit.{Unit as Counted, TheVariants.{Lines, Bytes}}
 use Rattle.ends_core.specs.Ends.{measure, last_of, head_of}
 
--- how many bytes more than it uses a head may be given: none where bytes are counted, and else the end of a piece in which
--- its last line ends
+-- how many bytes past the last that it uses a head may be given: of lines, its last line may end within a piece; of
+-- bytes none
 abbrev pub ahead_of : Counted → ℕ
 ahead_of Lines = 4096
 ahead_of Bytes = 0
 
--- what came in and isn't written yet, since what follows decides it: the last lines or bytes, where all but them are
--- asked for
+-- what came in and waits: the last n lines or bytes, if all except these are asked for
 abbrev pub head_waiting : ℕ → Counted → Bool → ℕ → List ℕ → List ℕ
 head_waiting delim unit but_last n x = if but_last then last_of delim unit n x else []
 
--- What a head makes of its input: what belongs to the head whatever may still come is written at once, and nothing at
--- the end. Of the first n it is complete once n came in. It takes memory where all but the last are asked for, since
--- those wait.
+-- The work of `head`. What belongs to the head, whatever comes, is written at once. The first n are complete once n
+-- came in. All except the last n never are, and take memory for what waits.
 abbrev pub head_work : ℕ → Counted → Bool → ℕ → Work
 head_work delim unit but_last n = record {
   settled = λ x. only_out (head_of delim unit but_last n x);
@@ -34,7 +32,7 @@ head_work delim unit but_last n = record {
 abbrev pub AreBytes : List ℕ → Type 0
 AreBytes x = All (λ byte. byte < 256) x
 
--- whatever bytes come after x, the head of it is that of x
+-- whatever bytes come after x, the head stays that of x
 abbrev pub IsDone : ℕ → Counted → Bool → ℕ → List ℕ → Type 0
 IsDone delim unit but_last n x = (y : List ℕ) → AreBytes y
     → head_of delim unit but_last n (x ++ y) ≡ head_of delim unit but_last n x

@@ -1,5 +1,6 @@
--- `head` of all but the last, and `tail` of the last, where an input shows its bytes before they are read: they begin and
--- end where those of the text do that was shown. So nothing waits. What comes may be another text, or more.
+-- `head` of all except the last, and `tail` of the last, if an input shows its bytes before they are read: what is
+-- written begins and ends where it does in the text that was shown. So nothing waits. What comes may be another text,
+-- or more.
 use Rattle.std.specs.{
   Prelude.{◌≡◌, ℕ, ◌-◌, zero, suc, nat_le, nat_lt, Bool, true, false, Option, Some, None, List, []},
   Prelude.{length, take, drop, if◌then◌else◌},
@@ -13,12 +14,12 @@ use Rattle.ports_core.specs.{
 }
 use Rattle.ends_core.specs.{declared.find.Found.Found, Ends.last_of, Head.head_work, Tail.tail_work}
 
--- an input that ends with fewer than n bytes has changed since it was shown
+-- an input that showed n bytes and ends with fewer has changed
 abbrev pub changed_below : ℕ → List ℕ → Option Verdict
 changed_below zero x = None
 changed_below (suc n) x = if nat_lt (length x) (suc n) then Some Changed else None
 
--- how many bytes stand before the last n lines or bytes
+-- how many bytes of a text stand before its last n lines or bytes
 abbrev pub place_of : ℕ → Counted → ℕ → List ℕ → ℕ
 place_of delim unit n text = length text - length (last_of delim unit n text)
 
@@ -26,8 +27,8 @@ place_of delim unit n text = length text - length (last_of delim unit n text)
 abbrev pub bytes_between : ℕ → ℕ → List ℕ → List ℕ
 bytes_between from end x = drop from (take end x)
 
--- What is made of an input of which these are asked for, and which showed them all: each is written as it comes. With the
--- last one the output is complete, whatever comes after it. An input that ends before has changed.
+-- The work of the bytes from one place up to another, of an input that showed them all: each is written as it comes.
+-- With the last the output is complete. An input that ends before has changed.
 abbrev pub between_work : ℕ → ℕ → Work
 between_work from end = record {
   settled = λ x. only_out (bytes_between from end x);
@@ -40,27 +41,27 @@ between_work from end = record {
   ahead = 0;
 }
 
--- what a head of all but the last n makes of an input that showed this text: its first bytes, as many as stand before
--- the last n of what was shown
+-- `head` of all except the last n, of an input that showed this text: as many bytes as stand before the last n of what
+-- was shown
 abbrev pub head_shown : ℕ → Counted → ℕ → List ℕ → Work
 head_shown delim unit n text = between_work 0 (place_of delim unit n text)
 
--- and a tail of the last n: those from there on, up to the end of what was shown
+-- `tail` of the last n, of an input that showed this text: the bytes from where these begin to the text's end
 abbrev pub tail_shown : ℕ → Counted → ℕ → List ℕ → Work
 tail_shown delim unit n text = between_work (place_of delim unit n text) (length text)
 
--- what a head makes of an input, by the text that this shows, if it shows one
+-- the work of `head`, by the text that the input shows, if any
 abbrev pub head_in : ℕ → Counted → Bool → ℕ → Option (List ℕ) → Work
 head_in delim unit true n (Some text) = head_shown delim unit n text
 head_in delim unit but_last n shown = head_work delim unit but_last n
 
--- and a tail
+-- the work of `tail`, by the text that the input shows, if any
 abbrev pub tail_in : ℕ → Counted → Bool → ℕ → Option (List ℕ) → Work
 tail_in delim unit false n (Some text) = tail_shown delim unit n text
 tail_in delim unit from_nth n shown = tail_work delim unit from_nth n
 
--- what was found of the last n lines or bytes of an input: where they begin, and how many bytes it has, in the text that it
--- shows; in some text, where inputs don't tell theirs
+-- What was found of the last n lines or bytes of an input: where they begin, and how many bytes the text has that it
+-- shows. If bytes aren't visible, that is some text.
 pub record SeenLast (told : Bool) (left : Content) (delim : ℕ) (unit : Counted) (n : ℕ) (found : Found) : Type 0 where
   pub text : List ℕ
   pub shown : told ≡ true → left.shown ≡ Some text

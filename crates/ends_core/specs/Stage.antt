@@ -20,7 +20,7 @@ pub data Stretch : Type 0 where
   -- the bytes from one place up to another, of an input that showed them
   between : (from end : ℕ) → Stretch
 
--- the last are kept
+-- whether the last lines or bytes are kept
 abbrev pub keeps : Stretch → Bool
 keeps the_first = false
 keeps all_but_last = true
@@ -28,7 +28,7 @@ keeps from_the_nth = false
 keeps the_last = true
 keeps (between from end) = false
 
--- what it makes of an input, where n lines or bytes were asked for
+-- the work of a stretch, if n lines or bytes were asked for
 abbrev pub work_in : Stretch → ℕ → Counted → ℕ → Work
 work_in the_first delim unit n = head_work delim unit false n
 work_in all_but_last delim unit n = head_work delim unit true n
@@ -36,7 +36,7 @@ work_in from_the_nth delim unit n = tail_work delim unit true n
 work_in the_last delim unit n = tail_work delim unit false n
 work_in (between from end) delim unit n = between_work from end
 
--- how many of the front are written, or passed over
+-- how many lines or bytes at the front are written, or passed over
 abbrev pub front_in : Stretch → ℕ → ℕ
 front_in the_first n = n
 front_in all_but_last n = n
@@ -58,7 +58,7 @@ unit_of (FromNth count front) = front.unit
 unit_of (Last kept) = kept_unit kept
 unit_of (Between span) = Bytes
 
--- the byte with which lines end, where it counts lines
+-- the byte with which lines end, if lines are counted
 abbrev pub delim_of : Ends → ℕ
 delim_of (First count front) = front.delim
 delim_of (ButLast kept) = kept_delim kept
@@ -74,14 +74,14 @@ count_of (FromNth count front) = count
 count_of (Last kept) = most_of kept
 count_of (Between span) = span.end
 
--- what it was asked for; lines alone have a delimiter
+-- what a stage was asked for; only lines have a delimiter
 pub record IsAsked (stretch : Stretch) (unit : Counted) (count delim : ℕ) (ends : Ends) : Type 0 where
   pub stretch_is : stretch_of ends ≡ stretch
   pub unit_is : unit_of ends ≡ unit
   pub count_is : count_of ends ≡ count
   pub delim_is : unit ≡ Lines → delim_of ends ≡ delim
 
--- how many of the front are still to come
+-- how many lines or bytes at the front are still to come
 abbrev pub left_of : Ends → ℕ
 left_of (First count front) = front.left
 left_of (ButLast kept) = 0
@@ -89,7 +89,7 @@ left_of (FromNth count front) = front.left
 left_of (Last kept) = 0
 left_of (Between span) = span.from - span.came
 
--- how many bytes came in after the last one that is written
+-- how many bytes came in after the last byte that is written
 abbrev pub past_of : Ends → ℕ
 past_of (First count front) = front.past
 past_of (ButLast kept) = 0
@@ -97,7 +97,7 @@ past_of (FromNth count front) = 0
 past_of (Last kept) = 0
 past_of (Between span) = span.came - span.end
 
--- how many bytes an input has that didn't change since it showed them, or more
+-- how many bytes an input has at least, if it didn't change after it showed them
 abbrev pub least_in : Stretch → ℕ
 least_in the_first = 0
 least_in all_but_last = 0
@@ -105,7 +105,7 @@ least_in from_the_nth = 0
 least_in the_last = 0
 least_in (between from end) = end
 
--- how many of these are still to come
+-- how many bytes of an unchanged input are still to come
 abbrev pub missing_of : Ends → ℕ
 missing_of (First count front) = 0
 missing_of (ButLast kept) = 0
@@ -113,7 +113,7 @@ missing_of (FromNth count front) = 0
 missing_of (Last kept) = 0
 missing_of (Between span) = span.end - span.came
 
--- how many bytes of an input stand after the last one that is written
+-- how many bytes of an input stand after the last byte that is written
 abbrev pub past_in : Stretch → ℕ → Counted → ℕ → List ℕ → ℕ
 past_in the_first delim unit n x = length x - length (first_of delim unit n x)
 past_in all_but_last delim unit n x = 0
@@ -129,7 +129,7 @@ waiting_of (FromNth count front) = []
 waiting_of (Last kept) = held_of kept
 waiting_of (Between span) = []
 
--- there may be no memory for more of them
+-- whether there may be no memory for more waiting bytes
 abbrev pub may_lack : Ends → Bool
 may_lack (First count front) = false
 may_lack (ButLast kept) = may_lack_of kept
@@ -137,14 +137,13 @@ may_lack (FromNth count front) = false
 may_lack (Last kept) = may_lack_of kept
 may_lack (Between span) = false
 
--- what it makes of its input
 abbrev pub work : Ends → Work
 work ends = work_in (stretch_of ends) (delim_of ends) (unit_of ends) (count_of ends)
 
 abbrev pub waiting : Ends → List ℕ → List ℕ
 waiting ends x = (work ends).waiting x
 
--- it can have been fed x
+-- the stage may have been fed x
 pub record Holds (ends : Ends) (x : List ℕ) : Type 0 where
   -- the delimiter is a byte
   pub byte : delim_of ends < 256
@@ -153,11 +152,12 @@ pub record Holds (ends : Ends) (x : List ℕ) : Type 0 where
   pub waits : waiting_of ends ≡ waiting ends x
   pub past : past_of ends ≡ past_in (stretch_of ends) (delim_of ends) (unit_of ends) (count_of ends) x
   pub missing : missing_of ends ≡ least_in (stretch_of ends) - length x
-  -- where nothing waits no memory can be wanting, nor once as many bytes came in as wait
+  -- if nothing waits, no memory can be lacking
   pub none : keeps (stretch_of ends) ≡ false → may_lack ends ≡ false
+  -- once as many bytes came in as are kept, no memory can be lacking
   pub full : unit_of ends ≡ Bytes → count_of ends ≤ length x → may_lack ends ≡ false
 
--- whatever comes after x, a head stays; a tail is never done; of bytes between two places all came
+-- Nothing after x changes the output: the head of x stays; between two places all bytes came. A tail is never done.
 abbrev pub done_in : Stretch → ℕ → Counted → ℕ → List ℕ → Type 0
 done_in the_first delim unit n x = IsDone delim unit false n x
 done_in all_but_last delim unit n x = IsDone delim unit true n x
@@ -168,7 +168,7 @@ done_in (between from end) delim unit n x = end ≤ length x
 abbrev pub is_done : Ends → List ℕ → Type 0
 is_done ends x = done_in (stretch_of ends) (delim_of ends) (unit_of ends) (count_of ends) x
 
--- how many bytes it has to count
+-- how many bytes the stage has to count
 abbrev pub size_of : Ends → ℕ
 size_of (First count front) = front.past
 size_of (ButLast kept) = length (held_of kept)
@@ -176,7 +176,7 @@ size_of (FromNth count front) = 0
 size_of (Last kept) = length (held_of kept)
 size_of (Between span) = span.came
 
--- it writes to standard output alone
+-- what the stage owes; it writes to standard output alone
 abbrev pub terms : Terms Ends
 terms = record {
   Holds = Holds;

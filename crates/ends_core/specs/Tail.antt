@@ -4,12 +4,12 @@ use Rattle.ports_core.specs.{Part.{nothing, only_out}, Work.{Work, on_output, al
 use Rattle.seg_core.specs.declared.unit.Unit.{Unit as Counted}
 use Rattle.ends_core.specs.Ends.{last_of, tail_of}
 
--- what came in and isn't written yet, since what follows decides it: the last lines or bytes, where these are asked for
+-- what came in and waits: the last n lines or bytes, if these are asked for
 abbrev pub tail_waiting : ℕ → Counted → Bool → ℕ → List ℕ → List ℕ
 tail_waiting delim unit from_nth n x = if from_nth then [] else last_of delim unit n x
 
--- What a tail makes of its input: from the nth on, all that it has is written at once; the last are written at the end.
--- There is always more that can come. It takes memory where the last are asked for, since those wait.
+-- The work of `tail`. From number n on, all is written at once. The last n are written at the end, and take memory
+-- while they wait. The output is never complete.
 abbrev pub tail_work : ℕ → Counted → Bool → ℕ → Work
 tail_work delim unit from_nth n = record {
   settled = λ x. if from_nth then only_out (tail_of delim unit true n x) else nothing;

@@ -31,20 +31,20 @@ use crate::span::Span;
 use ports_core::{Fault, Guarded, Inputs, Outs, Stage};
 use std::alloc::Global;
 
-/// Writes a part of an input, each byte as soon as nothing that follows can change that it is written. For the first, from
-/// the nth on, and between two places it takes no memory. For all but the last, and for the last, it takes as much as the
-/// last lines or bytes of what came in, and of bytes no more is asked for once as many came in as are kept.
+/// Writes a part of an input, each byte as soon as nothing that follows can change that it is written. For the first, from number n on, and
+/// between two places it takes no memory. For all but the last, and for the last, it takes as much as the last lines or bytes of what came
+/// in; of bytes no more once as many came in as are kept.
 #[derive(Drop)]
 pub enum Ends {
-    /// The first lines or bytes: how many were asked for, and those that are still to come.
+    /// The first lines or bytes: how many were asked for, and how many are still to come.
     First(u64, Front),
-    /// All but the last, which are kept.
+    /// All but the last lines or bytes, which are kept.
     ButLast(Kept),
-    /// All from the nth on: which n that is, and those that are still to be passed over.
+    /// All from number n on: n, and how many are still to be passed over.
     FromNth(u64, Front),
-    /// The last, which are kept and written at the end.
+    /// The last lines or bytes, which are kept and written at the end.
     Last(Kept),
-    /// The bytes from one place up to another, of an input that showed where its last ones begin and end.
+    /// The bytes from one place up to another, of an input that showed where its last lines or bytes begin and end.
     Between(Span),
 }
 
@@ -52,7 +52,7 @@ pub enum Ends {
 /// are GNU's).
 pub struct Head;
 
-/// `tail`: the last lines or bytes of an input, or all from the nth on (POSIX.1-2017, XCU tail).
+/// `tail`: the last lines or bytes of an input, or all from number n on (POSIX.1-2017, XCU tail).
 pub struct Tail;
 
 impl Head {
@@ -61,7 +61,7 @@ impl Head {
     ///
     /// # Errors
     ///
-    /// `Memory` where there is no room for what waits: only where all but the last are asked for.
+    /// `Memory` if there is no room for what waits: only if all but the last are asked for.
     pub fn open(
         alloc: Global,
         unit: Unit,
@@ -84,8 +84,8 @@ impl Head {
         Ok(Guarded::new(Ends::First(count, front)))
     }
 
-    /// An engine that writes the first `place` bytes of an input that showed as many: those that stand before the last lines
-    /// or bytes of what it showed. It takes no memory, and its `close` gives `Changed` where fewer came.
+    /// An engine that writes the first `place` bytes of an input that showed as many before its last lines or bytes. It takes no memory,
+    /// and its `close` gives `Changed` if fewer came.
     pub fn up_to(place: u64) -> Guarded<Ends>
         ensures holds { HoldsIn Holds result [] }
         ensures does { (delim : ℕ) (unit : Counted) (n : ℕ) (text : List ℕ) → place_of delim unit n text ≡ place
@@ -106,7 +106,7 @@ impl Tail {
     ///
     /// # Errors
     ///
-    /// `Memory` where there is no room for what waits: only where the last are asked for.
+    /// `Memory` if there is no room for what waits: only if the last are asked for.
     pub fn open(
         alloc: Global,
         unit: Unit,
@@ -129,9 +129,8 @@ impl Tail {
         Ok(Guarded::new(Ends::Last(kept)))
     }
 
-    /// An engine that writes the bytes of an input from `place` up to `len`: the last lines or bytes of what it showed, which
-    /// were `len` bytes. Whatever comes after these is not written. It takes no memory, and its `close` gives `Changed` where
-    /// fewer came.
+    /// An engine that writes the bytes of an input from `place` up to `len`: the last lines or bytes of what it showed, which were `len`
+    /// bytes. Whatever comes after these is not written. It takes no memory, and its `close` gives `Changed` if fewer came.
     pub fn after(place: u64, len: u64) -> Guarded<Ends>
         ensures holds { HoldsIn Holds result [] }
         ensures does { (delim : ℕ) (unit : Counted) (n : ℕ) (text : List ℕ) → place_of delim unit n text ≡ place
@@ -154,7 +153,7 @@ impl Stage for Ends {
     ///
     /// # Errors
     ///
-    /// `Write(0)` where standard output broke, `Memory` where there is no room for what waits.
+    /// `Write(0)` if standard output broke, `Memory` if there is no room for what waits.
     #[tactic(auto, using(ports_core::proofs::WriteLemmas::none_written, crate::proofs::KeptLemmas::or_no_room))]
     fn pass<O: Outs>(&mut self, piece: &[u8], outs: &mut O) -> Result<(), Fault>
         requires fits { size_of self.old + length piece.now < 2 ^ 64 }
@@ -179,8 +178,8 @@ impl Stage for Ends {
         }
     }
 
-    /// Passes over bytes that an input shows, before any piece, and returns how many these are: where all from the nth byte or
-    /// from a place on are asked for, those before it.
+    /// Passes over bytes that an input shows, before any piece, and returns how many these are: those before the nth byte or before the
+    /// place from which on bytes are asked for.
     fn load<I: Inputs>(&mut self, slot: usize, most: usize, inputs: &mut I) -> u64
         requires input { IsTrue (is_readable (I.sources inputs.old) slot) }
         requires none { size_of self.old ≡ 0 }
@@ -195,11 +194,11 @@ impl Stage for Ends {
         }
     }
 
-    /// Writes what waits, where the last are asked for.
+    /// Writes what waits, if the last are asked for.
     ///
     /// # Errors
     ///
-    /// `Write(0)` where standard output broke, `Verdict(Changed)` where fewer bytes came in than were shown.
+    /// `Write(0)` if standard output broke, `Verdict(Changed)` if fewer bytes came in than were shown.
     fn finish<O: Outs>(&mut self, outs: &mut O) -> Result<(), Fault>
         requires writable { IsTrue (is_writable (O.slots outs.old) 0) }
         ensures same { SameAsked self.old self.new }
@@ -219,7 +218,7 @@ impl Stage for Ends {
         }
     }
 
-    /// It has no files to remove.
+    /// There are no files to remove.
     fn clear<O: Outs>(&mut self, outs: &mut O) {
         let _ = outs;
     }
@@ -243,8 +242,8 @@ impl Stage for Ends {
         }
     }
 
-    /// As many bytes as are still needed, where that is known; of a head of lines as many as lines, of which each has one at
-    /// least, but 4,096 where that is more.
+    /// As many bytes as are still needed, if that is known. For the first lines, as many as lines, of which each has at least one byte, and
+    /// at least 4,096.
     fn wanted(&self) -> u64
         ensures { result ≡ wanted_by self.now }
     {

@@ -17,9 +17,9 @@ pub struct Found {
     pub len: u64,
 }
 
-/// Where the last `count` lines or bytes begin of what an input shows, and how many bytes that has. Lines end with `delim`, and
-/// are looked for from the end, in blocks as large as the buffer; bytes need no look. It takes no memory. None where
-/// the input shows nothing, or can't be looked at.
+/// Where the last `count` lines or bytes begin of what an input shows, and how many bytes that has. Lines end with `delim`, and are looked
+/// for from the end, in blocks as large as the buffer; bytes need no look. It takes no memory. None if the input shows nothing, or can't be
+/// looked at.
 pub fn find_last<I: Inputs>(
     unit: Unit,
     count: u64,
@@ -54,8 +54,8 @@ pub fn find_last<I: Inputs>(
     }
 }
 
-/// Where the last `count` of the lines begin that an input shows in `len` bytes. Each delimiter before the last byte ends a
-/// line after which another one follows.
+/// Where the last `count` of the lines begin that an input shows in `len` bytes. Each delimiter before the last byte ends a line after
+/// which another line follows.
 fn find_lines<I: Inputs>(
     count: u64,
     delim: u8,

@@ -23,10 +23,9 @@ ghost use Rattle.ports_core.specs.{
 use crate::Unit;
 use ports_core::{Fault, Verdict};
 
-/// What a head has of a text x and of y that follows it. Of the first lines or bytes it has those of x, and then
-/// those of y that are still to come. Of all but the last it has all but the last of x, and then all but the last of
-/// what waited with y after it. So what is written never changes. What waits in a head of all but the last that was
-/// fed a text is the last of it.
+/// What a head has of a text x and of y that follows it. Of the first lines or bytes it has those of x, and then those of y that are still
+/// to come. Of all but the last it has all but the last of x, and then all but the last of what waited with y after it. So what is written
+/// never changes. What waits in a head of all but the last are the last of what came in.
 pub fn head_goes_on(unit: Unit, delim: u8)
     ensures first { (n : ℕ) (x y : List ℕ)
         → first_of delim unit n (x ++ y) ≡ first_of delim unit n x ++ first_of delim unit (n - measure delim unit x) y }
@@ -39,8 +38,8 @@ pub fn head_goes_on(unit: Unit, delim: u8)
     let _ = (unit, delim);
 }
 
-/// The first lines or bytes of a text and what stands after them are together the text, and so are all but the last
-/// and the last. Where all but the last are asked for, what is written and what waits are together what came in.
+/// The first lines or bytes of a text and what stands after them are together the text, and so are all but the last and the last. If all
+/// but the last are asked for, what is written and what waits are together what came in.
 pub fn nothing_is_lost(unit: Unit, delim: u8)
     ensures first { (n : ℕ) (x : List ℕ) → first_of delim unit n x ++ after_of delim unit n x ≡ x }
     ensures last { (n : ℕ) (x : List ℕ) → but_last_of delim unit n x ++ last_of delim unit n x ≡ x }
@@ -64,9 +63,9 @@ pub fn head_uses_what_it_writes(unit: Unit, delim: u8)
     let _ = (unit, delim);
 }
 
-/// What a tail has of a text x and of y that follows it. From the nth on it has what it has of x, and then what
-/// stands in y after those that are still to be passed over. The last are the last of what waited with y after it. So
-/// what waits, the last of what came in, is all that has to be kept, and it is no more than was asked for.
+/// What a tail has of a text x and of y that follows it. From number n on it has what it has of x, and then what stands in y after those
+/// that are still to be passed over. The last are the last of what waited with y after it. So only the last of what came in have to be
+/// kept, and these are what waits: no more than was asked for.
 pub fn tail_goes_on(unit: Unit, delim: u8)
     ensures from_nth { (n : ℕ) (x y : List ℕ)
         → tail_of delim unit true n (x ++ y)
@@ -80,10 +79,9 @@ pub fn tail_goes_on(unit: Unit, delim: u8)
     let _ = (unit, delim);
 }
 
-/// What is settled is what all continuations agree on, and the bytes that wait are those that two continuations put to
-/// different places, or one of them nowhere. So nothing is written that could still change, and nothing is kept back
-/// that can't. This holds of every count, 0 too, after any bytes. Where a byte goes is said by spots, and each output has
-/// at each spot just the one byte that goes there.
+/// What is settled is what all continuations agree on, and the bytes that wait are those that two continuations put to different places, or
+/// that only one of the two writes. So nothing is written that could still change, and nothing is kept back that can't. This is true of
+/// every count, 0 too, after any bytes. Spots say where a byte goes, and each output has at each spot just the one byte that goes there.
 pub fn agreed_is_settled(unit: Unit, delim: u8)
     ensures head { (but_last : Bool) (n : ℕ) (x : List ℕ)
         → IsAgreed (head_work delim unit but_last n) x ((head_work delim unit but_last n).settled x) }
@@ -101,10 +99,10 @@ pub fn agreed_is_settled(unit: Unit, delim: u8)
     let _ = (unit, delim);
 }
 
-/// The same where the input shows its bytes before they are read. Nothing waits then, whatever it showed and whatever comes.
-/// Where the text comes that it showed, the outputs are in the end those that it would have without showing it, whatever
-/// comes after it, and the work ends well. The output of a head is complete once all before the last came, and that of a tail
-/// once as many bytes came as were shown: then no more is read. Where fewer come, the work ends with `Changed`.
+/// The same if the input shows its bytes before they are read. Nothing waits then, whatever it showed and whatever comes. If the text comes
+/// that it showed, the outputs are at the end those that it would have without showing it, whatever comes after it, and the work ends well.
+/// The output of a head is complete once all before the last came, and that of a tail once as many bytes came as were shown: then no more
+/// is read. If fewer come, the work ends with `Changed`.
 pub fn shown_is_settled(unit: Unit, delim: u8)
     ensures head { (n : ℕ) (text x : List ℕ)
         → IsAgreed (head_shown delim unit n text) x ((head_shown delim unit n text).settled x) }
@@ -134,9 +132,9 @@ pub fn shown_is_settled(unit: Unit, delim: u8)
     let _ = (unit, delim);
 }
 
-/// No memory can be wanting for a piece where nothing waits, whatever came in: in a head of the first lines or bytes, and a
-/// tail from the nth on. Nor where bytes wait, once as many came in as are to wait. Then `feed` fails only where standard
-/// output breaks, or where the input is too long.
+/// No memory can be lacking for a piece if nothing waits, whatever came in: in a head of the first lines or bytes, and a tail from number n
+/// on. Nor if bytes wait, once as many came in as are to wait. Then `feed` fails only if standard output breaks, or if the input is too
+/// long.
 pub fn full_windows_lack_nothing()
     ensures full { (engine : GuardState Ends) (x : List ℕ) → HoldsIn Holds engine x → unit_of engine.stage ≡ Unit.Bytes
         → count_of engine.stage ≤ length x → may_lack engine.stage ≡ false }

@@ -7,9 +7,9 @@ use ports_core::{Fault, Inputs, Outs, Verdict, pass_over, write_whole};
 /// The bytes of an input from one place up to another, while its pieces come.
 #[derive(Drop)]
 pub struct Span {
-    /// How many bytes stand before them.
+    /// The first place.
     pub from: u64,
-    /// How many bytes the input has up to the last of them.
+    /// The second place.
     pub end: u64,
     /// How many bytes of the input came in.
     pub came: u64,
@@ -20,7 +20,7 @@ impl Span {
     ///
     /// # Errors
     ///
-    /// `Write(0)` where standard output broke.
+    /// `Write(0)` if standard output broke.
     pub fn pass<O: Outs>(&mut self, piece: &[u8], outs: &mut O) -> Result<(), Fault>
         requires writable { IsTrue (is_writable (O.slots outs.old) 0) }
         requires fits { self.old.came + length piece.now < 2 ^ 64 }
@@ -38,9 +38,9 @@ impl Span {
         }
     }
 
-    /// Passes over what stands before them in an input of which no byte came in, without reading it, and returns how many bytes
-    /// that were. The last byte up to their end is read in any case: so it is seen where the input has become shorter. 0 where
-    /// there are no more than one read gives, or where the input shows nothing or can't be passed over. It takes no memory.
+    /// Passes over what stands before the first place in an input of which no byte came in, without reading it, and returns how many bytes
+    /// that were. The last byte before the second place is read in any case: so it is seen if the input has become shorter. 0 if there are
+    /// no more bytes than one read gives, or if the input shows nothing or can't be passed over. It takes no memory.
     pub fn pass_over<I: Inputs>(&mut self, slot: usize, most: usize, inputs: &mut I) -> u64
         requires input { IsTrue (is_readable (I.sources inputs.old) slot) }
         requires fresh { self.old.came ≡ 0 }
@@ -58,7 +58,7 @@ impl Span {
         front
     }
 
-    /// How many bytes are still to come up to the last of them.
+    /// How many bytes are still to come up to the second place.
     pub fn missing(&self) -> u64
         ensures { result ≡ self.now.end - self.now.came }
     {
@@ -69,7 +69,7 @@ impl Span {
     ///
     /// # Errors
     ///
-    /// `Verdict(Changed)` where it ended before the last of them.
+    /// `Verdict(Changed)` if the input ended before the second place.
     pub fn finish(&self) -> Result<(), Fault>
         ensures ok { OnOk result (self.now.end - self.now.came ≡ 0) }
         ensures err { IfErr result
@@ -83,7 +83,7 @@ impl Span {
     }
 }
 
-/// A place in the piece, or its end where that stands before the place.
+/// A place in the piece, or the piece's end if that stands before the place.
 fn place_in(place: u64, piece: &[u8]) -> usize
     ensures { result ≡ min place (length piece.now) }
 {

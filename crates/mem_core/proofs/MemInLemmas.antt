@@ -19,7 +19,7 @@ use Rattle.mem_core.specs.{
 }
 use Rattle.ports_core.specs.declared.fault.Fault.TheVariants as fault
 
--- whatever it shows
+-- Whatever an input shows
 
 module _ (shown : Option (List ℕ)) (why : Reason) where
   -- the input that an input in memory is seen as

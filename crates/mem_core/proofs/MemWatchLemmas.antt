@@ -31,7 +31,7 @@ world_past (first ∷ []) n past = refl
 world_past (first ∷ next ∷ worlds) zero past = absurd (omega arith)
 world_past (first ∷ next ∷ worlds) (suc n) past = world_past (next ∷ worlds) n (omega arith)
 
--- one more changes none of those before
+-- one more list of files changes none before it
 pub world_before : (worlds : List World) (more : World) (n : ℕ) → n < length worlds
     → world_at (worlds ++ more ∷ []) n ≡ world_at worlds n
 world_before [] more n within = absurd (omega arith)
@@ -49,7 +49,7 @@ world_again (first ∷ []) (suc n) = refl
 world_again (first ∷ next ∷ worlds) zero = refl
 world_again (first ∷ next ∷ worlds) (suc n) = world_again (next ∷ worlds) n
 
--- the same looks at the same times
+-- both have the same files at the same looks
 abbrev pub SameWorlds : List World → List World → Type 0
 SameWorlds new old = (n : ℕ) → world_at new n ≡ world_at old n
 
@@ -118,7 +118,7 @@ latest_seen false within worlds zero is = ap (λ world. kept (shown false world)
 latest_seen true within worlds zero is = ap (λ world. kept (shown true world)) (sym is)
 latest_seen forgives within worlds (suc n) is = ap kept (latest-last (seen_by forgives within worlds n) _)
 
--- where nothing is forgiven, a call may have failed
+-- if nothing is forgiven, a call may have failed
 latest_breaks : (forgives : Bool) (within : ℕ) (worlds : List World) (n : ℕ) (name : List ℕ) → forgives ≡ false
     → (latest (seen_by forgives within worlds n)).breaks name ≡ true
 latest_breaks forgives within worlds zero name is = refl
@@ -160,7 +160,7 @@ forgives_none {watch} {worlds} (suc turns) {forgives} {within} now is unseen = a
     (let count : length (seen watch) ≡ suc turns = ap (λ (those : MemWatchState). length (seen those)) (sym is)
     ∙ length-seen forgives within worlds (suc turns) in let none = ap length unseen in omega arith)
 
--- what is so of the files of the last turn is so of the last look
+-- what is true of the files of the last turn is true of the last look
 module _ {watch : MemWatchState} {worlds : List World} (turns : ℕ) {names : List Watched} {world : World}
     {forgives : Bool} {within : ℕ} {why : Reason}
     (is : record { worlds = worlds; turns = turns; watched = names; forgives = forgives; within = within; why = why }
@@ -232,7 +232,7 @@ turned {worlds} new turns {n} {names} {forgives} {within} {why} is same next =
     (ap (seen_by forgives within new) next
     ∙ turns_on (record { worlds = worlds; turns = turns; watched = names; forgives = forgives; within = within; why = why }) new same)
 
--- where nothing more was planned, the last files are added once more
+-- if nothing more was planned, the last files are added once more
 pub same_again : (worlds : List World) {new : List World} {world : World} → world ≡ world_at worlds (length worlds)
     → new ≡ worlds ++ world ∷ [] → SameWorlds new worlds
 same_again worlds last is n = ap (λ those. world_at those n) (is ∙ ap (λ those. worlds ++ those ∷ []) last) ∙ world_again worlds n
@@ -244,7 +244,7 @@ pub still_shows : {watch : MemWatchState} (new : MemWatchState) {worlds : List W
 still_shows new {worlds} turns {names} {forgives} {within} {why} also waits is same = shows_same new
     (record { worlds = worlds; turns = turns; watched = names; forgives = forgives; within = within; why = why }) also waits same ∙ ap shows is
 
--- one look more is planned: the watch is still at one of them, and begins with no file
+-- one more look is planned: the watch is still at a planned look, and begins with no file
 pub holds_more : (worlds : List World) {new : List World} (world : World) (turns n : ℕ) → turns < length worlds
     → world_at worlds 0 ≡ empty_world → new ≡ worlds ++ world ∷ [] → n ≤ turns + 1
     → (n < length new) × (world_at new 0 ≡ empty_world)

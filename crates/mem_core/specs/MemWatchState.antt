@@ -15,11 +15,11 @@ pub record MemWatchState : Type 0 where
   -- how many looks began
   pub turns : ℕ
   pub watched : List Watched
-  -- a name that can't be read counts as missing
+  -- whether a name that can't be read counts as missing
   pub forgives : Bool
   -- within how many milliseconds a look begins
   pub within : ℕ
-  -- why calls fail that do
+  -- the reason for which calls fail
   pub why : Reason
 
 abbrev pub edit_of : Change → Edit
@@ -30,7 +30,7 @@ edit_of (change.Remove name) = remove name.now
 edit_of (change.End process) = end process
 edit_of (change.Bar name is) = bar name.now is
 
--- the files at the look of this number, from 1; those at the last look that was planned stay
+-- the files at look n, counted from 1; after the last look that was planned they stay
 abbrev pub world_at : List World → ℕ → World
 world_at [] n = empty_world
 world_at (world ∷ []) n = world

@@ -24,7 +24,7 @@ pub(crate) struct Cause {
     pub(crate) why: Reason,
 }
 
-/// Why it breaks, by the first plan for its number; `Other` where there is none.
+/// Why it breaks, by the first plan for its number; `Other` if there is none.
 pub(crate) fn planned(causes: &[Cause], slot: usize) -> Reason {
     for cause in causes {
         if cause.slot == slot {

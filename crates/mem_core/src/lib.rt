@@ -1,4 +1,4 @@
-//! Inputs, outputs and watched names in memory, which tell their bytes: for tests, and for whoever runs the tools without files.
+//! Inputs, outputs and watched names in memory, with visible bytes: for tests, and for whoever runs the tools without files.
 #![tactic(auto)]
 
 mod edit;

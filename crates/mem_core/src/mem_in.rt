@@ -31,11 +31,11 @@ struct MemSource {
     reason: Reason,
     /// The length of the largest buffer that it was to fill, by a read or a look.
     asked: usize,
-    /// How many of the bytes reads gave, also where some of these were given back.
+    /// How many of the bytes reads gave, also if some of these were given back.
     reached: usize,
-    /// How many of the bytes that the last read gave were not given back; none where bytes were passed over since.
+    /// How many of the bytes that the last read gave were not given back; none if bytes were passed over since.
     last: usize,
-    /// The last read told the end: it gave nothing, though there was room.
+    /// Whether the last read reported the end: it gave nothing, though there was room.
     ended: bool,
     /// How many reads were made, at most 2^64-1.
     reads: u64,
@@ -110,8 +110,7 @@ impl MemSource {
         }
     }
 
-    /// Fills a beginning of the buffer with at most `most` bytes, and returns how many. None where the input breaks
-    /// off, for this reason.
+    /// Fills a beginning of the buffer with at most `most` bytes, and returns how many. None if the input breaks off, for this reason.
     fn read(&mut self, buffer: &mut [u8], most: usize, why: Reason) -> Option<usize>
         requires { 0 < most }
         ensures bound { IfSome result (λ n. n ≤ length buffer.old) }
@@ -157,7 +156,7 @@ impl MemSource {
         self.asked = self.asked.max(size);
     }
 
-    /// Fills the buffer with what is shown from a place on, where that is as much.
+    /// Fills the buffer with what is shown from a place on, if that is as much.
     fn read_at(&mut self, place: u64, buffer: &mut [u8]) -> bool
         ensures shows { IsTrue result → ShowsOf self.old.left place buffer.new }
         ensures can { ShowsAll self.old.left (place + length buffer.old) → IsTrue result }
@@ -170,7 +169,7 @@ impl MemSource {
         }
     }
 
-    /// Passes over the next bytes, where there are as many.
+    /// Passes over the next bytes, if there are as many.
     fn skip(&mut self, count: u64) -> bool
         ensures there { IsTrue result → count ≤ length self.old.left.bytes }
         ensures can { count ≤ length self.old.left.bytes → IsTrue result }
@@ -236,7 +235,7 @@ struct Break {
     at: usize,
 }
 
-/// Inputs in memory, which tell their bytes. For tests, reads can be made short and an input can be made to fail.
+/// Inputs in memory, with visible bytes. For tests, reads can be made short and an input can be made to fail.
 #[derive(Drop)]
 pub struct MemIn {
     alloc: Global,
@@ -265,7 +264,7 @@ impl MemIn {
     ///
     /// # Errors
     ///
-    /// `Memory` where there is no room for it.
+    /// `Memory` if there is no room for it.
     pub fn new(alloc: Global) -> Result<Self, Fault>
         ensures ok { IfOk result (λ inputs. inputs
             ≡ record {
@@ -293,7 +292,7 @@ impl MemIn {
     ///
     /// # Errors
     ///
-    /// `Memory` where there is no room for the bytes: nothing is changed.
+    /// `Memory` if there is no room for the bytes: nothing is changed.
     pub fn input(&mut self, bytes: &[u8]) -> Result<(), Fault>
         ensures ok { OnOk result (self.new
             ≡ record self.old { sources = changed_at 0 (holds bytes.now) self.old.sources }) }
@@ -302,11 +301,11 @@ impl MemIn {
         self.input_showing(bytes, b"")
     }
 
-    /// The same, with the text that standard input shows before it is read; nothing where that is empty.
+    /// As `input`, with the text that standard input shows before it is read; nothing if that is empty.
     ///
     /// # Errors
     ///
-    /// `Memory` where there is no room for the bytes and the text: nothing is changed.
+    /// `Memory` if there is no room for the bytes and the text: nothing is changed.
     pub fn input_showing(&mut self, bytes: &[u8], shown: &[u8]) -> Result<(), Fault>
         ensures ok { OnOk result (self.new
             ≡ record self.old { sources = changed_at 0 (showing bytes.now shown.now) self.old.sources }) }
@@ -320,12 +319,12 @@ impl MemIn {
         Ok(())
     }
 
-    /// Adds a file with this name and these bytes, which it shows before they are read, and takes memory for all. Of several
-    /// files of one name the first counts.
+    /// Adds a file with this name and these bytes, which it shows before they are read, and takes memory for all. If several files have one
+    /// name, the first counts.
     ///
     /// # Errors
     ///
-    /// `Memory` where there is no room for it: nothing is changed.
+    /// `Memory` if there is no room for it: nothing is changed.
     pub fn file(&mut self, name: &str, bytes: &[u8]) -> Result<(), Fault>
         ensures ok { OnOk result (self.new
             ≡ record self.old { files = self.old.files ++ file_of name.now bytes.now bytes.now ∷ [] }) }
@@ -334,11 +333,11 @@ impl MemIn {
         self.file_showing(name, bytes, bytes)
     }
 
-    /// The same of a file that changes: it shows this text, or nothing where that is empty, and then gives other bytes.
+    /// As `file`, of a file that changes: it shows this text, or nothing if that is empty, and then gives other bytes.
     ///
     /// # Errors
     ///
-    /// `Memory` where there is no room for it: nothing is changed.
+    /// `Memory` if there is no room for it: nothing is changed.
     pub fn file_showing(&mut self, name: &str, bytes: &[u8], shown: &[u8]) -> Result<(), Fault>
         ensures ok { OnOk result (self.new
             ≡ record self.old { files = self.old.files ++ file_of name.now bytes.now shown.now ∷ [] }) }
@@ -356,12 +355,12 @@ impl MemIn {
         self.piece = n;
     }
 
-    /// Makes an input fail after it has given `at` more bytes; one that holds fewer ends as before. An input that
-    /// isn't opened yet fails once it has given `at` bytes. Of several such plans for one input the first counts.
+    /// Makes an input fail after it has given `at` more bytes; if it holds fewer, it ends as before. An input that isn't opened yet fails
+    /// once it has given `at` bytes. If there are several such plans for one input, the first counts.
     ///
     /// # Errors
     ///
-    /// `Memory` where there is no room for the plan: nothing is changed.
+    /// `Memory` if there is no room for the plan: nothing is changed.
     pub fn break_at(&mut self, slot: usize, at: usize) -> Result<(), Fault>
         ensures ok { OnOk result (self.new ≡ with_break slot at self.old) }
         ensures err { IfErr result (λ fault. (fault ≡ Fault.Memory) × (self.new ≡ self.old)) }
@@ -373,7 +372,7 @@ impl MemIn {
         Ok(self.breaks.push(Break { slot, at })?)
     }
 
-    /// The bytes of an input that are left to read; none where there is no input of that number.
+    /// The bytes of an input that are left to read; none if there is no input of that number.
     pub fn unread(&self, slot: usize) -> &[u8]
         ensures { result.now ≡ (source_at self.now.sources slot).left.bytes }
     {
@@ -383,11 +382,11 @@ impl MemIn {
         }
     }
 
-    /// Says why an input breaks or can't be opened, if so. Of several reasons for one input the first counts.
+    /// Says why an input breaks or can't be opened, if so. If there are several reasons for one input, the first counts.
     ///
     /// # Errors
     ///
-    /// `Memory` where there is no room to note the reason: nothing is changed.
+    /// `Memory` if there is no room to note the reason: nothing is changed.
     pub fn breaks_as(&mut self, slot: usize, why: Reason) -> Result<(), Fault>
         ensures same { self.new ≡ self.old }
         ensures err { IfErr result (λ fault. fault ≡ Fault.Memory) }
@@ -417,7 +416,7 @@ fn shown_by(alloc: Global, text: &[u8]) -> Result<Option<Vec<u8>>, AllocError>
     Ok(Some(Vec::from_slice(alloc, text)?))
 }
 
-/// Fills the buffer with the bytes of a text from a place on, where there are as many.
+/// Fills the buffer with the bytes of a text from a place on, if there are as many.
 fn copy_from(text: &[u8], place: u64, buffer: &mut [u8]) -> bool
     ensures shows { IsTrue result → Shows text.now place buffer.new }
     ensures can { place + length buffer.old ≤ length text.now → IsTrue result }
@@ -459,7 +458,7 @@ fn find<'a>(mut files: &'a [MemFile], name: &str) -> Option<&'a MemFile>
     None
 }
 
-/// Makes an input break off where it is planned to, by the first plan for its number.
+/// Makes an input break off at the place that is planned, by the first plan for its number.
 fn break_as_planned(source: &mut MemSource, mut breaks: &[Break], slot: usize)
     ensures { source.new ≡ breaks_in (map (λ b. (b.slot, b.at)) breaks.entry.now) slot source.old }
 {

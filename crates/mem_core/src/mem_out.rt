@@ -65,7 +65,7 @@ impl MemSlot {
         }
     }
 
-    /// One whose file couldn't be opened for this reason.
+    /// A slot whose file couldn't be opened for this reason.
     fn refused(alloc: Global, name: String, why: Reason) -> Self
         ensures { result ≡ unopened why (string_bytes name) }
     {
@@ -74,8 +74,8 @@ impl MemSlot {
         slot
     }
 
-    /// Appends as much of the piece as there is room for, and returns how many bytes that is. None where it has bytes
-    /// and none fits, or where there is no memory: it breaks for this reason.
+    /// Appends as much of the piece as there is room for, and returns how many bytes that is. None if it has bytes and none fits, or if
+    /// there is no memory: the slot breaks for this reason.
     fn append(&mut self, piece: &[u8], room: usize, why: Reason) -> Option<usize>
         ensures within { IfSome result (λ n. n ≤ length piece.now) }
         ensures some { IfSome result (λ n. 0 < length piece.now → 0 < n) }
@@ -128,8 +128,8 @@ struct Limit {
     bytes: usize,
 }
 
-/// Outputs in memory, which tell their bytes. An output for which no memory is found breaks. For tests, an output can
-/// be given a limit at which it breaks, writes can be made short, and a call can be made to fail.
+/// Outputs in memory, with visible bytes. An output for which no memory is found breaks. For tests, an output can be given a limit at which
+/// it breaks, writes can be made short, and a call can be made to fail.
 #[derive(Drop)]
 pub struct MemOut {
     alloc: Global,
@@ -138,9 +138,9 @@ pub struct MemOut {
     causes: Vec<Cause>,
     /// The most bytes that a write takes.
     most: usize,
-    /// The number of calls from now to the one that fails, which is counted too. None where none is to fail.
+    /// The number of calls from now to the call that fails, which is counted too. None if no call is to fail.
     failing_in: Option<u64>,
-    /// The same of calls of `still_read`, to the one that finds no reader.
+    /// The number of calls of `still_read` from now to the call that finds no reader.
     unread_in: Option<u64>,
 }
 
@@ -155,7 +155,7 @@ impl MemOut {
     ///
     /// # Errors
     ///
-    /// `Memory` where there is no room for them.
+    /// `Memory` if there is no room for them.
     pub fn new(alloc: Global) -> Result<Self, Fault>
         ensures ok { IfOk result (λ outs. outs ≡ streams) }
         ensures err { IfErr result (λ fault. fault ≡ Fault.Memory) }
@@ -174,12 +174,12 @@ impl MemOut {
         })
     }
 
-    /// Lets an output, opened already or later, take this many bytes in all. The first write beyond them breaks it.
-    /// Of several limits for one output the first counts.
+    /// Lets an output, opened already or later, take this many bytes in all. The first write beyond them breaks it. If there are several
+    /// limits for one output, the first counts.
     ///
     /// # Errors
     ///
-    /// `Memory` where there is no room to note the limit: nothing is changed.
+    /// `Memory` if there is no room to note the limit: nothing is changed.
     pub fn limit(&mut self, slot: usize, bytes: usize) -> Result<(), Fault>
         ensures same { self.new ≡ self.old }
         ensures err { IfErr result (λ fault. fault ≡ Fault.Memory) }
@@ -187,12 +187,12 @@ impl MemOut {
         Ok(self.limits.push(Limit { slot, bytes })?)
     }
 
-    /// Says why an output breaks, opened already or later, if it does. Of several reasons for one output the first counts. One that
-    /// broke already keeps its reason.
+    /// Says why an output breaks, opened already or later, if it does. If there are several reasons for one output, the first counts. An
+    /// output that broke already keeps its reason.
     ///
     /// # Errors
     ///
-    /// `Memory` where there is no room to note the reason: nothing is changed.
+    /// `Memory` if there is no room to note the reason: nothing is changed.
     pub fn breaks_as(&mut self, slot: usize, why: Reason) -> Result<(), Fault>
         ensures same { self.new ≡ self.old }
         ensures err { IfErr result (λ fault. fault ≡ Fault.Memory) }
@@ -216,15 +216,15 @@ impl MemOut {
         self.failing_in = Some(call);
     }
 
-    /// Makes one of the calls of `still_read` find that nobody reads the output, counted from here on; the next one has the
-    /// number 1. All others find a reader.
+    /// Makes one of the calls of `still_read` find that nobody reads the output, counted from here on; the next call has the number 1. All
+    /// others find a reader.
     pub fn unread_at(&mut self, call: u64)
         ensures { self.new ≡ self.old }
     {
         self.unread_in = Some(call);
     }
 
-    /// Whether the file of an output was removed; false where there is no output of that number.
+    /// Whether the file of an output was removed; false if there is no output of that number.
     pub fn removed(&self, slot: usize) -> bool
         ensures { result ≡ is_removed (slot_at self.now slot).state }
     {
@@ -237,7 +237,7 @@ impl MemOut {
         }
     }
 
-    /// The bytes written through an output; none where there is no output of that number.
+    /// The bytes written through an output; none if there is no output of that number.
     pub fn bytes(&self, slot: usize) -> &[u8]
         ensures { result.now ≡ (slot_at self.now slot).written }
     {
@@ -343,7 +343,7 @@ impl Outs for MemOut {
         }
     }
 
-    /// As it was planned by `breaks_as`, once it broke; `Other` of one for which there was no memory.
+    /// The reason that was planned by `breaks_as`, once it broke; `Other` of a slot for which there was no memory.
     fn reason(&self, slot: usize) -> Reason {
         match self.slots.kept.get(slot) {
             Some(out) => out.reason,

@@ -82,9 +82,9 @@ impl MemName {
     }
 }
 
-/// Files in memory, which tell their bytes, and whose changes are planned look by look. For tests, a call can be made to fail, unless
-/// it forgives. Where it doesn't, a look of a name that is barred fails, and so does opening it.
-/// It keeps the files of each look, and takes memory for all of them.
+/// Files in memory, with visible bytes, whose changes are planned look by look. For tests, a call can be made to fail, unless it forgives.
+/// If it doesn't, a look at a name that is barred fails, and so does opening it. It keeps the files of each look, and takes memory for all
+/// of them.
 #[derive(Drop)]
 pub struct MemWatch {
     alloc: Global,
@@ -93,7 +93,7 @@ pub struct MemWatch {
     /// How many looks began.
     turns: usize,
     names: Vec<MemName>,
-    /// The number of calls from now to the one that fails, which is counted too. None where none is to fail.
+    /// The number of calls from now to the call that fails, which is counted too. None if no call is to fail.
     failing_in: Option<u64>,
     /// A name that can't be read counts as missing, and no call fails.
     forgives: bool,
@@ -123,7 +123,7 @@ impl MemWatch {
     ///
     /// # Errors
     ///
-    /// `Memory` where there is no room for it.
+    /// `Memory` if there is no room for it.
     pub fn new(alloc: Global) -> Result<Self, Fault>
         ensures ok { IfOk result (λ watch. watch ≡ no_looks) }
         ensures err { IfErr result (λ fault. fault ≡ Fault.Memory) }
@@ -144,12 +144,12 @@ impl MemWatch {
         })
     }
 
-    /// Plans one more look, before which these edits are made, in order, after those of the looks that were planned before. Looks
-    /// that come after the last one planned see no change.
+    /// Plans one more look. Before it these edits are made in order, after the edits for earlier looks. Looks after the last planned look
+    /// see no change.
     ///
     /// # Errors
     ///
-    /// `Memory` where there is no room for it: nothing is changed.
+    /// `Memory` if there is no room for it: nothing is changed.
     pub fn then(&mut self, edits: &[Edit<'_>]) -> Result<(), Fault>
         ensures ok { OnOk result (self.new ≡ with_look (map edit_of edits.now) self.old) }
         ensures err { IfErr result (λ fault. (fault ≡ Fault.Memory) × (self.new ≡ self.old)) }
@@ -202,7 +202,7 @@ impl MemWatch {
         fails(&mut self.failing_in)
     }
 
-    /// The same of a call that looks where a name leads or opens it, which fails too where the name can't be read.
+    /// Whether a call that looks where a name leads, or opens it, fails now: also if the name can't be read.
     fn refuses(&mut self, place: usize) -> bool
         requires { IsTrue (is_watchable self.old.watched place) }
         ensures same { self.new ≡ self.old }
@@ -317,7 +317,7 @@ impl Watch for MemWatch {
         world_in(&self.worlds, next).has_ended(process)
     }
 
-    /// It waits for nothing, and keeps what is asked for.
+    /// Waits for nothing, and keeps what is asked for.
     fn wait_at_most(&mut self, milliseconds: u64) {
         self.within = milliseconds.max(1);
     }

@@ -95,7 +95,7 @@ impl MemWorld {
         })
     }
 
-    /// The file to which a name leads; none where it leads nowhere.
+    /// The file to which a name leads; none if it leads nowhere.
     pub(crate) fn file_of(&self, name: &str) -> Option<usize>
         ensures { result ≡ led_to self.now.links name.now }
     {
@@ -109,7 +109,7 @@ impl MemWorld {
         None
     }
 
-    /// The file to which a look finds a name to lead: none where it can't be read, if that is forgiven.
+    /// The file to which a look finds a name to lead: none if it can't be read, and that is forgiven.
     pub(crate) fn leads(&self, name: &str, forgives: bool) -> Option<usize>
         ensures { result ≡ (shown forgives self.now).leads name.now }
     {
@@ -133,7 +133,7 @@ impl MemWorld {
         false
     }
 
-    /// What a file holds; nothing where there is no such file.
+    /// What a file holds; nothing if there is no such file.
     pub(crate) fn bytes(&self, file: usize) -> &[u8]
         ensures { result.now ≡ held_in self.now.files file }
     {

@@ -15,7 +15,7 @@ use scan_core::Bre;
 use std::alloc::Global;
 use std::mem;
 
-/// The stretches of the concatenation that is gone over, its last item apart, and of those around it, the innermost last.
+/// The tables of the concatenation that is gone over, with its last item apart, and of the concatenations around it, the innermost last.
 #[derive(Drop)]
 struct Plain {
     around: Vec<Table>,
@@ -37,7 +37,7 @@ impl Plain {
         })
     }
 
-    /// Appends the last item to those before it.
+    /// Appends the last item to the items before it.
     fn settle(&mut self, alloc: Global, line: &[u8]) -> Result<(), BreFault>
         ensures around { OnOk result (self.new.around ≡ self.old.around) }
         ensures before { (current : Pattern) → FrameIs line.now current self.old.before self.old.last
@@ -92,9 +92,9 @@ impl Plain {
 
 /// Whether some stretch of the line, taken without its newline, matches the pattern (XBD 9.1).
 ///
-/// For a line of n bytes it keeps (n + 1) times (n + 1) flags for what it has gone over and for each open group, and while an
-/// item is repeated for each number of parts, of which n are tried beyond the least one. Each token takes up to n to the power
-/// of 3 steps, a duplication as many for each number of parts: this is the plain program that a faster one is compared with.
+/// For a line of n bytes it keeps (n + 1) times (n + 1) flags for what it has gone over and for each open group. While an item is repeated,
+/// it keeps as many for each number of parts, of which n are tried beyond the least one. Each token takes up to n to the power of 3 steps,
+/// a duplication as many for each number of parts: this is the plain program that a faster one is compared with.
 ///
 /// # Errors
 ///

@@ -48,7 +48,7 @@ fn leaf_at(token: &Token, line: &[u8], from: usize, to: usize) -> bool
     }
 }
 
-/// Whether a stretch of the one and then a stretch of the other lead from one place to another.
+/// Whether a stretch of the first table and then a stretch of the second lead from one place to another.
 fn joined_at(first: &Table, second: &Table, from: usize, to: usize) -> bool
     ensures { result ≡ joined (at first.now) (at second.now) from to }
 {
@@ -59,7 +59,7 @@ fn joined_at(first: &Table, second: &Table, from: usize, to: usize) -> bool
     found || first.at(from, to) && second.at(to, to)
 }
 
-/// Whether a number is no more than a bound, where there is one.
+/// Whether a number is within its bound, if there is a bound.
 fn is_at_most(high: Option<u8>, count: usize) -> bool
     ensures { result ≡ is_at_most high count }
 {
@@ -81,7 +81,7 @@ fn repeated_at(runs: &[Table], low: u8, high: Option<u8>, from: usize, to: usize
     found
 }
 
-/// The flags of one row: of which places a test holds.
+/// The flags of one row: for which places a test is true.
 fn row_of<F: Fn(usize, usize) -> bool>(
     alloc: Global,
     line: &[u8],
@@ -137,7 +137,7 @@ impl Table {
         Ok(table_of(alloc, line, |from, to| leaf_at(token, line, from, to))?)
     }
 
-    /// These stretches, each followed by one of another table.
+    /// These stretches, each followed by a stretch of another table.
     pub fn with_after(&self, alloc: Global, line: &[u8], item: &Table) -> Result<Table, BreFault>
         ensures ok { (first second : ℕ → ℕ → Bool) → IsTable (length line.now) first self.now
             → IsTable (length line.now) second item.now
@@ -147,7 +147,7 @@ impl Table {
         Ok(table_of(alloc, line, |from, to| joined_at(self, item, from, to))?)
     }
 
-    /// These stretches from low to high times, or at least low times where high is `None`.
+    /// These stretches from low to high times, or at least low times if high is `None`.
     pub fn repeated(
         &self,
         alloc: Global,

@@ -43,7 +43,7 @@ stops work read low high {needs} ended ahead Lacks Ends {fault} {old} {new} is l
 abbrev pub OfVerdict : Fault → (Verdict → Type 0) → Type 0
 OfVerdict fault P = (verdict : Verdict) × (fault ≡ fault_is.Verdict verdict) × P verdict
 
--- a verdict comes only where the work ends so
+-- a verdict comes only if the work ends so
 pub judges : (means : Means) {needs : Needs} (Lacks : Type 0) (Ends : Verdict → Type 0) {fault : Fault} {over : Bool}
     {taken size : ℕ} {old new : List Slot} → is_verdict fault ≡ true
     → IsCaused (IsMet means needs Lacks Ends old new) over taken size old new fault → OfVerdict fault Ends
@@ -202,7 +202,7 @@ module _ {S : Type 0} {terms : Terms S} {told : Bool} {start now : GuardState S}
       kept
       (λ unjudged. rw passes.same at (cleared unjudged (length before) (passes.owns (length before) (so_far.owns (length before) begun.0)))))
 
-  -- the loop ended with the input, or where nothing more can follow
+  -- the loop ended with the input, or as nothing more can follow
   pub ended : (laws : (s : S) (x : List ℕ) → terms.Holds s x → IsLawful (terms.work s)) {opening : Needs} {most : ℕ}
       {content : Content} (WasRead : Step → Type 0) {z : List ℕ} {new before : List Slot} {fed : Fed}
       {result : Result Fed Fault} → BeginsAt terms told start.stage before old
@@ -257,7 +257,7 @@ pub needed_more : {is_complete : List ℕ → Bool} {most n : ℕ} (x buffer : L
     → IsNeeded is_complete most (x ++ take n buffer)
 needed_more x buffer going within = grind (arith, common_steps)
 
--- the input that is there, where it tells its bytes, and else one that has what was read of it
+-- the input that is there, if bytes are visible, and else an input that has what was read
 
 pub of_read : (told : Bool) (there : Content) (bytes : List ℕ) (breaks_off : Bool) (source : Source)
     (P : Content → Type 0) → (told ≡ true → (there.bytes ≡ bytes) × (there.breaks_off ≡ breaks_off))
@@ -285,7 +285,7 @@ of_more true there x rest source P all came holds =
 of_more false there x rest source P all came holds =
     let from = came (unshown x) (λ off. refl) in (unshown x, λ t. absurd (cc), (holds _ (λ t. absurd (cc)) [] (sym (append-nil x)) from, from))
 
--- where the output was complete, no end had to be told
+-- if the output was complete, no read had to report the end
 pub told_by_complete : {work : Work} (content : Content) (source : Source) {x : List ℕ} (rest : List ℕ) → IsLawful work
     → work.is_complete x ≡ true → content.bytes ≡ x ++ rest → ToldEnd work content source
 told_by_complete content source {x} rest lawful complete is ends going =
@@ -311,7 +311,7 @@ needed_front (inr going) = grind (arith, common_steps)
 
 -- Lemmas on what an engine uses of its input, and what is given back of it.
 
--- What was taken of an input since `start`: x. Where nothing was taken before, reads gave no more.
+-- What was taken of an input since `start`: x. If nothing was taken before, reads gave no more.
 pub record HasTaken (x : List ℕ) (slot : ℕ) (start sources : List Source) : Type 0 where
   pub taken : (source_at sources slot).taken ≡ (source_at start slot).taken ++ x
   pub far : IsUnread (source_at start slot) → (source_at sources slot).reached ≤ length x
@@ -357,7 +357,7 @@ needed_within room (inr (before, piece, is, few, going)) = grind (arith, common_
 
 -- what a run leaves of an input
 
--- all of it was read, and the output was not complete
+-- all of an input was read, and the output was not complete
 pub uses_all : {work : Work} {most slot : ℕ} {there : Content} {x : List ℕ} {source : Source}
     → there.bytes ≡ x ++ source.left.bytes → source.left.bytes ≡ [] → IsNeeded work.is_complete most x
     → work.is_complete x ≡ false → source.reached ≤ length x → Uses work most slot there source

@@ -93,7 +93,7 @@ unread_source true (Some slot) sources Q can unread holds = (
 unread_source false (Some slot) sources Q can unread holds =
     (empty, λ t. absurd (cc), holds empty (left_unread false slot sources can unread (λ t. absurd (cc)) (λ off. refl)))
 
--- a source that was looked at is as it was, but for what was asked of it
+-- a source that was looked at is as it was, except for what was asked of it
 
 pub of_looked : (told : Bool) (most : ℕ) (source : Option ℕ) (old new : List Source) (Q : Content → Type 0)
     → OnlyLooked most source old new → OfSource told source new Q → OfSource told source old Q
@@ -110,7 +110,7 @@ pub looked_unread : (most : ℕ) (source : Option ℕ) (old new : List Source) �
 looked_unread most None old new looked unread = tt
 looked_unread most (Some _) old new looked unread = rw looked.looked unread
 
--- where a source is there, it shows what it shows
+-- some text, or none, is what a source shows
 pub shows_something : (told : Bool) (source : Option ℕ) (sources : List Source)
     → (shown : Option (List ℕ)) × IsShown told source sources shown
 shows_something told None sources = (None, refl)
@@ -161,7 +161,7 @@ pub takes_missing : {told : Bool} {laid : ℕ → List ℕ → Option Content} {
 takes_missing differs some (from.broke at _ number lies is) = grind (arith, common_steps)
 takes_missing differs some (from.no_room is) = takes_none is
 
--- its number is used up
+-- an input that can't be opened uses up its number
 pub opens_missing : {told : Bool} {laid : ℕ → List ℕ → Option Content} {name : List ℕ} {old new : List Source}
     {fault : Fault} {slot : ℕ} → is_dash name ≡ false → OpensNothing told laid old new name fault
     → fault ≡ Open slot → length new ≡ next_slot (length old) name
@@ -355,7 +355,7 @@ module _ (told_in told : Bool) (task : Task) (most : ℕ) (is_first failed was_r
       (after_part so_far (after_part header part)) reached
   part_after error_now part there = rw (after_assoc so_far header part) at there
 
-  -- it went well
+  -- the engine's part went well
   went_well : (content : Content) (new : List Slot)
       → WasDone content → is_enough work content ≡ true
       → work.verdict content.bytes ≡ None → OutputsAt told mid (work.whole content.bytes) new
@@ -594,13 +594,13 @@ of_no_room {told} was_read {laid} {name} {sources} {so_far} {error} {old} differ
 joined_nothing : {a : Outcome} → joined a no_outcome ≡ a
 joined_nothing = search rules
 
--- files are removed only where the work clears them
+-- files are removed only if the work clears them
 sweeps_clears : (task : Task) (work : Work) (is_first : Bool) (name : List ℕ) (content : Option Content)
     → (of_content task work is_first name content).sweeps ≡ true → work.clears ≡ true
 sweeps_clears task work is_first name None sweeps = cc
 sweeps_clears task work is_first name (Some _) sweeps = grind (arith, common_steps)
 
--- each input says what it says
+-- each input shows what it shows
 pub says_itself : (input : Input) → showing input.shown input ≡ input
 says_itself input = grind (arith, common_steps)
 
@@ -622,7 +622,7 @@ pub record Walked (told_in told : Bool) (task : Task) (world : World) (names lef
   pub swept : Swept made.sweeps 2 reached slots
   pub says : SaysAll told task.speaker made.messages standard_error error
   pub failed : progress.failed ≡ made.failed
-  -- where the work clears files, there is one name at most
+  -- if the work clears files, there is at most one name
   pub alone : (shown : Option (List ℕ)) → (task.work shown).clears ≡ true
       → (left ≡ []) ⊎ ((length left ≤ 1) × (length slots ≡ 2))
   pub unswept : 1 ≤ length left → made.sweeps ≡ false
@@ -674,7 +674,7 @@ walk_begins {told} {sources = sources} {slots} fresh are alone =
 module _ {told_in told : Bool} {task : Task} {world : World} {names left : List (List ℕ)} {progress : RunProgress}
     {laid : ℕ → List ℕ → Option Content} {sources : List Source} {slots : List Slot}
     (walked : Walked told_in told task world names left progress laid sources slots) where
-  -- where names are left, no file was removed
+  -- if names are left, no file was removed
   pub slots_at : 1 ≤ length left → OutputsAt told (streams_with walked.error) walked.made.part slots
   slots_at some = grind (arith, common_steps, walked)
 

@@ -1,4 +1,4 @@
--- Lemmas on what is written after what was written before, on outputs that a fault stopped, and on the message that tells it.
+-- Lemmas on what is written after what was written before, on outputs that a fault stopped, and on the fault's message.
 use Rattle.std.proofs.{
   lemmas.{Grind.common_steps, List.{map-append, append-nil}},
   Common.{◌≡◌, ℕ, ◌+◌, ◌<◌, ◌≤◌, suc, Bool, true, false, List, [], ◌∷◌, ◌++◌, length, take, drop, ◌⊎◌, inl},
@@ -132,20 +132,20 @@ stop_after {output} {told} {base} {first} {low} {high} {fault} {mid} {now} at st
   from = rw (length-append first.files stop.part.files) (from_after fault (length base) stop.place (length stop.part.files) (length first.files) (outputs_count told base first mid at) stop.from);
 }
 
--- where there is no file, none is to be removed
+-- if there is no file, none is to be removed
 
 pub none_to_sweep : (clears : Bool) {first : ℕ} (slots : List Slot) → length slots ≤ first
     → Swept clears first slots slots
 none_to_sweep clears {first} slots past = swept_none clears first slots (λ place above. none_past slots place (omega arith))
 
--- the same from another place, where it matters
+-- the same files are swept from another place, if that matters
 pub swept_from : (clears : Bool) {first other : ℕ} (old new : List Slot) → (clears ≡ true → first ≡ other)
     → Swept clears first old new → Swept clears other old new
 swept_from true old new same swept = rw (same refl) at swept
 swept_from false old new same swept = swept
 
--- Lemmas on outputs that a fault stopped, and on the message that tells it: standard error is the slot after the first, and what
--- was opened comes after both.
+-- Lemmas on outputs that a fault stopped, and on the fault's message: standard error is the slot after the first, and what was opened comes
+-- after both.
 
 -- both streams are there, and standard error is open
 
@@ -235,7 +235,7 @@ stops_still : {Change : Slot → Slot → Type 0} (step : Step) {mid new : List 
 stops_still step (Write _) place count from has says stops = grind (arith, common_steps, beside_error)
 stops_still step fault place count from has says stops = stops
 
--- what is said after files were removed
+-- what is reported after files were removed
 
 swept_streams : {output error after : Slot} {since now : List Slot} {first : ℕ} → 2 ≤ first
     → SweptFrom first (output ∷ error ∷ since) (output ∷ error ∷ now)
@@ -276,7 +276,7 @@ marked_beside IsName (Write _) place count output error since now from marks = �
 marked_beside IsName (Open _) place count output error since now from marks = λ is. omega arith
 marked_beside IsName fault place count output error since now from marks = tt
 
--- so its name and its reason are the same where only that output differs
+-- the name and the reason in a fault's message are the same if only another output differs
 same_beside : (fault : Fault) (old new : List Slot) → IsBeside fault
     → ((place : ℕ) → (place ≡ 1 → ⊥) → slot_at new place ≡ slot_at old place)
     → (output_named new fault ≡ output_named old fault) × (output_reason new fault ≡ output_reason old fault)
@@ -310,7 +310,7 @@ module _ (told : Bool) (Change : Slot → Slot → Type 0) where
         others = said_beside left.1 said.2;
       }
 
-  -- what a fault left, once its files were removed and its message was said
+  -- what a fault left, once its files were removed and it was reported
   pub record ToldStop (step : Step) (output error : Slot) (low high : Part) (fault : Fault) (clears : Bool) (first : ℕ)
       (mid new : List Slot) : Type 0 where
     pub after : Slot
@@ -330,7 +330,7 @@ module _ (told : Bool) (Change : Slot → Slot → Type 0) where
   stop_swept step clears {fault} {reached} {mid} {new} {first} past opened stop why swept says =
       let has = stop_error opened stop in
       let said = said_swept clears mid new first past (rw has.are at swept) says in
-      -- the same text said of outputs with the same streams
+      -- standard error got the same text, beside other outputs
       let too : OnError Change reached (has.output ∷ said.after ∷ has.since) = λ top other rest is.
       let same : has.output ∷ has.error ∷ has.since ≡ top ∷ other ∷ rest = sym has.are ∙ is in
       let was : has.error ≡ other = cc in (said.after, subst (λ those. Change those said.after) was said.says, cc) in

@@ -16,7 +16,7 @@ use Rattle.ports_core.specs.{
 use Rattle.run_core.specs.declared.feeding.Fed.{Fed, TheVariants.{Whole, Enough, Broken}}
 use Rattle.ports_core.specs.declared.fault.Fault.TheVariants as fault_is
 
--- the input ends, or the output is complete before it breaks off
+-- whether the input ends, or the output is complete before the input breaks off
 abbrev pub is_enough : Work → Content → Bool
 is_enough work content = not content.breaks_off || work.is_complete content.bytes
 
@@ -24,24 +24,27 @@ is_enough work content = not content.breaks_off || work.is_complete content.byte
 abbrev pub made_of : Work → Content → Part
 made_of work content = if is_enough work content then work.whole content.bytes else work.settled content.bytes
 
--- One step of a run at an input: what was written before it and what with it, what it may use for that, and what of the
--- input came in.
+-- One step of a run at an input.
 pub record Step : Type 0 where
+  -- what was written before the step
   pub low : Part
+  -- what is written with the step
   pub high : Part
-  -- what it writes to standard output, and whether to files that it opens
+  -- what it writes to standard output
   pub output : Output
+  -- whether it writes to files that it opens
   pub files : Bool
-  -- it may want memory, or open files
+  -- whether it may need memory, or new files
   pub needs : Needs
+  -- what of the input came in
   pub read : List ℕ
-  -- it comes once a read told the end
+  -- whether it comes after a read reported the end
   pub ended : Bool
   -- how many bytes may have been given back before it
   pub ahead : ℕ
 
--- What stops a step, where the outputs are left so: no memory, an output broke, a file could not be opened, more input
--- than any tool takes; each only where the step can meet it.
+-- Which faults can stop a step, if the outputs are left so: no memory, a broken output, a file that couldn't be opened,
+-- more input than any tool takes; each only if the step can meet it.
 abbrev pub Stops : Step → List Slot → Fault → Type 0
 Stops step now Memory = step.needs.memory ≡ true
 Stops step now (Write slot) = (slot ≡ 0 → writes step.output ≡ true) × (step.files ≡ false → slot ≡ 0)
@@ -50,12 +53,12 @@ Stops step now (Open slot) = (step.files ≡ true) × (step.needs.files ≡ true
 Stops step now TooLong = 2 ^ 63 ≤ length step.read
 Stops step now fault = ⊥
 
--- the engine has got all of an input that it needs: the input ended, or nothing more could follow
+-- the engine has all of an input that it needs: the input ended, or the output is complete
 pub data HasAll (work : Work) (content : Content) (x : List ℕ) : Type 0 where
   to_end : content.breaks_off ≡ false → content.bytes ≡ x → HasAll work content x
   enough : (rest : List ℕ) → content.bytes ≡ x ++ rest → work.is_complete x ≡ true → HasAll work content x
 
--- a call of an engine, which may need this
+-- the step of an engine's call that may need this
 abbrev pub call_of : Work → Needs → List ℕ → Part → Part → Step
 call_of work needs read low high = record {
   low = low;
@@ -68,7 +71,7 @@ call_of work needs read low high = record {
   ahead = 0;
 }
 
--- the call that closes it, at the end of the input or where the output is complete with what came in
+-- the call that closes an engine, at the end of the input or once the output is complete with what came in
 abbrev pub close_of : Work → List ℕ → Step
 close_of work x = record (call_of work work.means.closing x (work.settled x) (work.whole x)) {
   ended = not (work.is_complete x);
@@ -86,49 +89,51 @@ pub data IsCall (work : Work) (opening : Needs) (most : ℕ) (content : Content)
   closes : (x : List ℕ) → HasAll work content x → IsNeeded work.is_complete most x
       → IsCall work opening most content (close_of work x)
 
--- How feeding an input by pieces of at most `most` bytes ends, from the outputs as they were before: it ended, or
--- nothing more could follow; or it broke off before that, and the files go if the work clears them; or the work itself
--- ends with a verdict, and the files go likewise; or a fault stopped one call, no byte was taken after it (`WasRead`
--- says what that leaves), and then the files go.
+-- How feeding an input by pieces of at most `most` bytes ends, from the state `before` of the outputs on.
 pub data FedAs (told : Bool) (before : List Slot) (work : Work) (opening : Needs) (most : ℕ) (content : Content)
     (WasRead : Step → Type 0) (new : List Slot) : Result Fed Fault → Type 0 where
+  -- the input ended before the output was complete; the work ends well
   whole : content.breaks_off ≡ false → work.is_complete content.bytes ≡ false → work.verdict content.bytes ≡ None
       → OutputsAt told before (work.whole content.bytes) new
       → FedAs told before work opening most content WasRead new (Ok Whole)
+  -- the output is complete; the work ends well
   had_enough : work.is_complete content.bytes ≡ true → work.verdict content.bytes ≡ None
       → OutputsAt told before (work.whole content.bytes) new
       → FedAs told before work opening most content WasRead new (Ok Enough)
+  -- the input broke off before the output was complete; the files go if the work clears them
   broke_off : content.breaks_off ≡ true → work.is_complete content.bytes ≡ false → (reached : List Slot)
       → OutputsAt told before (work.settled content.bytes) reached → Swept work.clears (length before) reached new
       → FedAs told before work opening most content WasRead new (Ok Broken)
+  -- the work ends with a verdict; the files go if the work clears them
   judged : (verdict : Verdict) → is_enough work content ≡ true → Judges work content.bytes verdict
       → (reached : List Slot) → OutputsAt told before (work.whole content.bytes) reached
       → Swept work.clears (length before) reached new
       → FedAs told before work opening most content WasRead new (Err (fault_is.Verdict verdict))
+  -- a fault stopped a call; no byte was taken later (`WasRead` says what is left); the files go if the work clears them
   stopped : (fault : Fault) → is_verdict fault ≡ false → (call : Step) → IsCall work opening most content call
       → WasRead call → (reached : List Slot) → Stops call reached fault
       → StoppedBetween call.output told before call.low call.high fault reached
       → Swept work.clears (length before) reached new
       → FedAs told before work opening most content WasRead new (Err fault)
 
--- What is left of an input where a fault stopped this step: it didn't break, and where inputs tell their bytes, all is left
--- but what came in. Where the step comes at the end, a read told that.
+-- What is left of an input if a fault stopped this step: it didn't break, and if bytes are visible, all is left except
+-- what came in. If the step comes at the end, a read reported the end.
 pub record LeavesOf (told : Bool) (content : Content) (source : Source) (step : Step) : Type 0 where
   pub came : CameFrom told content source
   pub sound : source.is_broken ≡ false
   pub ended : step.ended ≡ true → source.ended ≡ true
   pub joined : told ≡ true → content.bytes ≡ step.read ++ source.left.bytes
 
--- of standard input reads gave no more than came in by this step, but for what was given back
+-- of standard input, reads gave at most what came in by this step and what was given back
 abbrev pub IsReadTo : ℕ → Source → Step → Type 0
 IsReadTo slot source step = slot ≡ 0 → source.reached ≤ length step.read + step.ahead
 
--- an input that ended before the output was complete: a read told the end
+-- if an input ended before the output was complete, a read reported the end
 abbrev pub ToldEnd : Work → Content → Source → Type 0
 ToldEnd work content source = content.breaks_off ≡ false → work.is_complete content.bytes ≡ false
     → source.ended ≡ true
 
--- a fault that stops the run: one that is no verdict
+-- whether a fault stops the run: it is no verdict
 abbrev pub is_stop : Result Fed Fault → Bool
 is_stop (Ok fed) = false
 is_stop (Err fault) = not (is_verdict fault)
@@ -139,18 +144,18 @@ IsUnread source = (source.taken ≡ []) × (source.reached ≡ 0)
 
 -- What a tool that is done with an input took of it, and what it left: it took enough, and no more than it needed.
 pub record Uses (work : Work) (most slot : ℕ) (there : Content) (source : Source) : Type 0 where
-  -- it took the front of what was there, and left the rest
+  -- the front of what was there, which it took; it left the rest
   pub read : List ℕ
   pub joined : there.bytes ≡ read ++ source.left.bytes
-  -- that was enough: there is no more, or no more could change its output
+  -- what it took was enough: nothing is left, or the output is complete
   pub enough : (source.left.bytes ≡ []) ⊎ (work.is_complete read ≡ true)
-  -- and it was needed: without its last piece, of at most `most` bytes, the output could still change
+  -- what it took was needed: without the last piece, of at most `most` bytes, the output isn't complete
   pub needed : IsNeeded work.is_complete most read
-  -- where the work ends well, each byte was: without the last one the output could still change
+  -- if the work ends well, each byte was needed: without the last byte the output isn't complete
   pub exact : work.verdict read ≡ None → IsNeeded work.is_complete 1 read
-  -- of standard input, which others may read after it, reads gave at most this much more, and that was given back
+  -- of standard input, which others may read later, reads gave at most this much more, which was given back
   pub few : slot ≡ 0 → source.reached ≤ length read + work.ahead
 
--- of the input that was there, this is left, and what was read was needed
+-- `left` is left of the input that was there, and what was read was needed
 abbrev pub ReadsFor : (List ℕ → Bool) → ℕ → Content → Content → Type 0
 ReadsFor is_complete most there left = (x : List ℕ) × IsNeeded is_complete most x × (there.bytes ≡ x ++ left.bytes)

@@ -8,11 +8,11 @@ use Rattle.ports_core.specs.{Inputs.empty, Source.Content}
 pub record Input : Type 0 where
   -- what headers and messages call it
   pub name : List ℕ
-  -- its number among the inputs, where it has one
+  -- its number among the inputs, if it has one
   pub slot : Option ℕ
   -- what it shows before it is read, if it shows anything
   pub shown : Option (List ℕ)
-  -- what it holds; none where it can't be opened
+  -- what it holds; none if it can't be opened
   pub content : Option Content
 
 -- the operand `-` is standard input
@@ -23,7 +23,7 @@ abbrev pub has_dash : List (List ℕ) → Bool
 has_dash [] = false
 has_dash (name ∷ names) = is_dash name || has_dash names
 
--- what an input shows, where inputs tell their bytes; one that can't be opened shows nothing
+-- what an input shows if bytes are visible; an input that can't be opened shows nothing
 abbrev pub shown_of : Option Content → Option (List ℕ)
 shown_of None = None
 shown_of (Some content) = content.shown
@@ -48,12 +48,12 @@ file_input name slot content = record {
   content = content;
 }
 
--- what the inputs are: what lies at a name for a number, and what standard input holds
+-- what there is to read: what an input of this number finds at a name, and what standard input holds
 pub record World : Type 0 where
   pub laid : ℕ → List ℕ → Option Content
   pub standard : Content
 
--- the input for one name: was a `-` before it, and which number comes next
+-- the input for a name, by whether a `-` came before and by the next number
 abbrev pub input_of : World → Bool → ℕ → List ℕ → Bool → Input
 input_of world was_read slot name is_standard =
     if is_standard
@@ -73,11 +73,11 @@ inputs_from world was_read slot (name ∷ names) =
 abbrev pub inputs_at : World → List (List ℕ) → List Input
 inputs_at world names = inputs_from world false 1 names
 
--- an input that is read shows this, whatever it holds
+-- an input that shows this, if it has a number
 abbrev pub showing : Option (List ℕ) → Input → Input
 showing shown input = if is_some input.slot then record input { shown = shown } else input
 
--- the input may be the one for the name, whatever it holds and shows
+-- the input is an input for the name, whatever it holds and shows
 abbrev pub IsFor : Bool → ℕ → List ℕ → Input → Type 0
 IsFor was_read slot name input = (world : World) × (shown : Option (List ℕ))
     × (input ≡ showing shown (input_of world was_read slot name (is_dash name)))
@@ -88,8 +88,8 @@ AreFrom was_read slot (name ∷ names) [] = ⊥
 AreFrom was_read slot (name ∷ names) (input ∷ inputs) = IsFor was_read slot name input
     × AreFrom (was_read || is_dash name) (next_slot slot name) names inputs
 
--- Inputs that tell their bytes are those that are there; of others it is known only that they are inputs for these
--- names: nothing is said of their bytes, nor of what they show.
+-- The inputs are inputs for these names. If bytes are visible, they are what is there; if not, nothing is said of their
+-- bytes, nor of what they show.
 pub record Finds (told : Bool) (world : World) (names : List (List ℕ)) (inputs : List Input) : Type 0 where
   pub are : AreFrom false 1 names inputs
   pub there : told ≡ true → inputs ≡ inputs_at world names

@@ -3,14 +3,14 @@ use Rattle.std.specs.Prelude.{◌≡◌, ℕ, ◌≤◌, ◌<◌, Bool, true, fa
 use Rattle.ports_core.specs.{Source.{Content, Source, source_at, source_of}, Work.Work, Inputs.CameFrom}
 use Rattle.run_core.specs.{Feeding.{IsReadTo, LeavesOf, Step, ToldEnd, Uses}, Input.{Input, next_slot}}
 
--- What is left of an input that was done, which was read from this source: where inputs tell their bytes, all but what
--- was used. Where it ended, a read told that, or the output was complete. What could not be opened is not open.
+-- What is left of an input that was done, by its source. If bytes are visible, all is left except what was used. If the
+-- input ended, a read reported that, or the output was complete. An input that couldn't be opened isn't open.
 abbrev pub IsLeft : Bool → Work → ℕ → ℕ → Option Content → Source → Type 0
 IsLeft told work most slot None source = source.is_open ≡ false
 IsLeft told work most slot (Some content) source = (told ≡ true → Uses work most slot content source)
     × CameFrom told content source × ToldEnd work content source
 
--- the same of an input by its number, under which it was opened; a second `-` has none
+-- what is left of an input that was done, by its number; a later `-` has none
 abbrev pub IsDone : Bool → Work → ℕ → Option ℕ → Option Content → List Source → Type 0
 IsDone told work most None content sources = Unit {0}
 IsDone told work most (Some slot) content sources = (slot < length sources)
@@ -21,13 +21,13 @@ AreDone told work most [] sources = Unit {0}
 AreDone told work most (input ∷ inputs) sources =
     IsDone told (work input.shown) most input.slot input.content sources × AreDone told work most inputs sources
 
--- what is left of an input by its number, where a fault stopped this step
+-- what is left of an input by its number, if a fault stopped this step
 abbrev pub Leaves : Bool → Content → Option ℕ → List Source → Step → Type 0
 Leaves told content None sources = λ step. Unit {0}
 Leaves told content (Some slot) sources = λ step. LeavesOf told content (source_at sources slot) step
     × (told ≡ true → IsReadTo slot (source_at sources slot) step)
 
--- an input to which a run did not come: it was not opened, or nothing was asked of it
+-- an input to which a run didn't come: it wasn't opened, or nothing was asked of it
 abbrev pub IsUntouched : Option ℕ → Option Content → List Source → Type 0
 IsUntouched None content sources = Unit {0}
 IsUntouched (Some slot) content sources = (length sources ≤ slot)
@@ -37,7 +37,7 @@ abbrev pub AreUntouched : List Input → List Source → Type 0
 AreUntouched [] sources = Unit {0}
 AreUntouched (input ∷ inputs) sources = IsUntouched input.slot input.content sources × AreUntouched inputs sources
 
--- how many inputs there are once these names were taken: each but `-` opens one
+-- how many inputs there are once these names were taken: each name except `-` opens one
 abbrev pub count_after : ℕ → List (List ℕ) → ℕ
 count_after count [] = count
 count_after count (name ∷ names) = count_after (next_slot count name) names

@@ -19,7 +19,7 @@ use Rattle.run_core.specs.{
   Task.{Task, made_by, after_part, header_text, are_missing, status_of},
 }
 
--- a step after what was written before it
+-- a step, after what was written before
 abbrev pub step_after : Part → Step → Step
 step_after first step = record step { low = after_part first step.low; high = after_part first step.high }
 
@@ -36,45 +36,49 @@ own_step low high output needs = record {
   ahead = 0;
 }
 
--- it writes nothing, and may want memory
+-- a step that writes nothing, and may need memory
 abbrev pub memory_step : Part → Step
 memory_step so_far = own_step so_far so_far gets_none (record { memory = true; files = false })
 
--- it writes a header
+-- a step that writes a header
 abbrev pub header_step : Part → List ℕ → Step
 header_step so_far header = own_step so_far (after_part so_far (only_out header)) gets_bytes no_needs
 
--- One step at an input, which shows this, after what was written before it: there is no room to open it; or
--- none for its header, where headers are; or that is written; or its engine is called. The input didn't break, and no
--- byte of it was taken but what came in by then; of standard input, none was read but that, and what was given back.
+-- One step at an input that shows this, after what was written before. If the input was opened, it didn't break, and
+-- only what came in was taken: `Leaves`.
 pub data RunStep (told : Bool) (task : Task) (shown : Option (List ℕ)) (most : ℕ) (so_far : Part) (header : List ℕ)
     (slot : Option ℕ) (sources : List Source) : Option Content → Step → Type 0 where
+  -- there is no memory to open the input
   unopened : (content : Option Content) (place : ℕ) → slot ≡ Some place → length sources ≤ place
       → RunStep told task shown most so_far header slot sources content (memory_step so_far)
+  -- there is no memory for the header
   unheaded : (content : Content) → task.with_header ≡ true → Leaves told content slot sources (memory_step so_far)
       → RunStep told task shown most so_far header slot sources (Some content) (memory_step so_far)
+  -- the header is written
   heading : (content : Content) → task.with_header ≡ true
       → Leaves told content slot sources (header_step so_far header)
       → RunStep told task shown most so_far header slot sources (Some content) (header_step so_far header)
+  -- the engine is called
   calling : (content : Content) (call : Step) → IsCall (task.work shown) (task.opening shown) most content call
       → Leaves told content slot sources call
       → RunStep told task shown most so_far header slot sources (Some content)
       (step_after (after_part so_far (only_out header)) call)
 
--- A run ended so: its inputs were done, its outcome is written, its files were removed if that is due, and standard
--- error was left as `error`; or a fault stopped it within one step at an input, when those before it were done and told,
--- and those after it were not touched: then the outputs lie between what was written before that step and what with it,
--- the files were removed if the work clears them, the fault was told after the messages for those inputs, with the
--- reason for which its output broke, unless it is a reader that is gone of which nothing is said, and the status says so;
--- or there was no memory for the run at all, and no input was opened or touched.
+-- How a run ends.
 pub data EndsAs (told_in told : Bool) (task : Task) (inputs : List Input) (sources : List Source) (new : List Slot)
     (status : ℕ) : Type 0 where
+  -- The inputs were done, the outcome is written, and files were removed if that is due. `error` is standard error at
+  -- the end, and stands so among the outputs from the beginning.
   as_defined : (error : Slot) (reached : List Slot)
       → SaysAll told task.speaker (made_by task inputs).messages standard_error error
       → OutputsAt told (streams_with error) (made_by task inputs).part reached
       → Swept (made_by task inputs).sweeps 2 reached new
       → AreDone told_in task.work largest_piece inputs sources → status ≡ status_of (made_by task inputs)
       → EndsAs told_in told task inputs sources new status
+  -- A fault stopped one step at an input. The inputs before it were done and reported, the inputs after it weren't
+  -- touched. The outputs have what was written before the step, and a beginning of what it adds. Then files were
+  -- removed if the work clears them. The fault was reported with the reason for which its output broke, unless nothing
+  -- is said of a reader that is gone, and the status says so.
   stopped : (fault : Fault) (before : List Input) (input : Input) (after : List Input)
       (said error : Slot) (step : Step) (reached : List Slot)
       → inputs ≡ before ++ input ∷ after → AreDone told_in task.work largest_piece before sources
@@ -88,10 +92,11 @@ pub data EndsAs (told_in told : Bool) (task : Task) (inputs : List Input) (sourc
       → Tells told task.speaker (output_reason new fault) fault (output_named new fault) said error
       → status ≡ status_after fault task.speaker.calling (output_reason new fault)
       → EndsAs told_in told task inputs sources new status
+  -- There was no memory for the run, and no input was opened or touched.
   no_room : (error : Slot) → SaysAll told task.speaker (message_of Memory [] ∷ []) standard_error error
       → new ≡ streams_with error → AreUntouched inputs sources → length sources ≡ 1 → status ≡ 1
       → EndsAs told_in told task inputs sources new status
 
--- the inputs that a run found, and how it ended with them
+-- a run found some inputs for these names, and `P` is true of them
 abbrev pub RunsOver : Bool → World → List (List ℕ) → (List Input → Type 0) → Type 0
 RunsOver told world names P = (inputs : List Input) × Finds told world names inputs × P inputs

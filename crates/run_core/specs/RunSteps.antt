@@ -23,7 +23,8 @@ pub record Opens {S : Type 0} (terms : Terms S) (asked : Work) (told : Bool) (ol
   pub owns : terms.Owns engine.stage (length old) new
   pub outputs : OutputsAt told old (asked.settled []) new
 
--- it could not be opened: the outputs lie before what is written at first, and no file is left if the work clears them
+-- an engine couldn't be opened: the outputs have a beginning of what is first written, and files go if the work clears
+-- them
 pub record OpensShort (asked : Work) (opening : Needs) (told : Bool) (old new : List Slot)
     (fault : Fault) : Type 0 where
   pub unjudged : is_verdict fault ≡ false
@@ -32,16 +33,16 @@ pub record OpensShort (asked : Work) (opening : Needs) (told : Bool) (old new : 
   pub stop : StoppedBetween asked.means.output told old nothing (asked.settled []) fault reached
   pub swept : Swept asked.clears (length old) reached new
 
--- what a source shows, as it is where inputs tell their bytes; one that is no input shows nothing
+-- what a source shows, if bytes are visible; without a source nothing is shown
 abbrev pub IsShown : Bool → Option ℕ → List Source → Option (List ℕ) → Type 0
 IsShown told None sources shown = shown ≡ None
 IsShown told (Some slot) sources shown = told ≡ true → shown ≡ (source_at sources slot).left.shown
 
--- at most looks were made at a source, and nothing else was done
+-- nothing was done at a source except looks, of at most `most` bytes each
 abbrev pub OnlyLooked : ℕ → Option ℕ → List Source → List Source → Type 0
 OnlyLooked most None old new = new ≡ old
 OnlyLooked most (Some slot) old new = HasLooked most slot old new
 
--- the input for a name, where inputs tell what they have
+-- what lies at each name, and what standard input has left
 abbrev pub world_of : (ℕ → List ℕ → Option Content) → List Source → World
 world_of laid sources = record { laid = laid; standard = (source_at sources 0).left }

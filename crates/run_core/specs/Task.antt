@@ -16,24 +16,24 @@ use Rattle.ports_core.specs.declared.fault.Fault.TheVariants as fault_is
 pub record Task : Type 0 where
   -- who speaks in its messages
   pub speaker : Speaker
-  -- what it makes of an input which shows this before it is read, or nothing
+  -- what it makes of an input that shows this text, or none
   pub work : Option (List ℕ) → Work
   -- what opening its engine may need
   pub opening : Option (List ℕ) → Needs
-  -- what the message of a verdict with which that work ends speaks of, where the input has this name
+  -- what the message of a verdict speaks of, if the input has this name
   pub subject : Verdict → List ℕ → List ℕ
   -- whether a header goes before each input
   pub with_header : Bool
 
--- what a run leaves where its outputs take all that they are given
+-- what a run leaves if its outputs take all that it writes
 pub record Outcome : Type 0 where
   -- standard output, and the files in order
   pub part : Part
-  -- what is said on standard error, in order
+  -- what is reported on standard error, in order
   pub messages : List Message
-  -- a fault was met
+  -- whether a fault was met
   pub failed : Bool
-  -- the files are removed in the end
+  -- whether the files are removed at the end
   pub sweeps : Bool
 
 abbrev pub status_of : Outcome → ℕ
@@ -42,7 +42,7 @@ status_of outcome = if outcome.failed then 1 else 0
 abbrev pub no_outcome : Outcome
 no_outcome = record { part = nothing; messages = []; failed = false; sweeps = false }
 
--- what is written after a part
+-- a part, and what is written after it
 abbrev pub after_part : Part → Part → Part
 after_part first next = record { out = first.out ++ next.out; files = first.files ++ next.files }
 
@@ -62,13 +62,13 @@ abbrev pub verdict_messages : Task → List ℕ → Option Verdict → List Mess
 verdict_messages task name None = []
 verdict_messages task name (Some verdict) = message_of (fault_is.Verdict verdict) (task.subject verdict name) ∷ []
 
--- the work ends with a verdict, or the input breaks off before it is done
+-- whether the work ends with a verdict, or the input breaks off before the output is complete
 abbrev pub ends_badly : Work → Content → Bool
 ends_badly work content = if is_enough work content then is_some (work.verdict content.bytes) else true
 
--- One input, on which this work is done: a message where it can't be opened (its number stands in no message); else its
--- header, what the tool makes of it, and a message for the verdict with which its work ends, or where the input breaks
--- off. After either the files go if the work clears them.
+-- The outcome of one input. If it can't be opened, there is a message (its number is in no message). Else there are its
+-- header and what the tool makes of it. There is a message for a verdict, and if the input breaks off too early. After
+-- either the files go if the work clears them.
 abbrev pub of_content : Task → Work → Bool → List ℕ → Option Content → Outcome
 of_content task work is_first name None =
     record no_outcome { messages = message_of (Open 0) name ∷ []; failed = true }
@@ -87,17 +87,17 @@ abbrev pub is_missing : Option Content → Bool
 is_missing None = true
 is_missing (Some content) = false
 
--- the inputs in order; the header of the first that can be opened is the first
+-- the outcome of inputs in order; the first that can be opened has the first header
 abbrev pub of_inputs : Task → Bool → List Input → Outcome
 of_inputs task is_first [] = no_outcome
 of_inputs task is_first (input ∷ inputs) =
     joined (of_input task is_first input) (of_inputs task (is_first && is_missing input.content) inputs)
 
--- all inputs of a run
+-- the outcome of all inputs of a run
 abbrev pub made_by : Task → List Input → Outcome
 made_by task inputs = of_inputs task true inputs
 
--- no header went before any of these
+-- whether none of these inputs can be opened
 abbrev pub are_missing : List Input → Bool
 are_missing [] = true
 are_missing (input ∷ inputs) = is_missing input.content && are_missing inputs

@@ -30,8 +30,8 @@ pub trait Adapter {
     ///
     /// # Errors
     ///
-    /// `Memory` where there is no room for it, `Open` where one of its first files can't be opened, `Write` where an output
-    /// broke; each only where the task says that opening may need it. No file is left then, if the work clears them.
+    /// `Memory` if there is no room for it, `Open` if one of its first files can't be opened, `Write` if an output broke; each only if the
+    /// task says that opening may need it. No file is left then, if the work clears them.
     fn open<I: Inputs, O: Outs>(
         &self,
         alloc: Global,

@@ -19,19 +19,18 @@ use ports_core::{Fault, Guarded, Inputs, Outs, Stage};
 /// What became of an input.
 #[derive(Clone, Copy, Debug, PartialEq, Eq)]
 pub enum Fed {
-    /// It ended, and the engine could have gone on.
+    /// The input ended, and the engine could have gone on.
     Whole,
     /// The engine was done with it: nothing more could follow in the output.
     Enough,
-    /// It broke off before that, and the engine isn't closed.
+    /// The input broke off before that, and the engine isn't closed.
     Broken,
 }
 
-/// Feeds an engine all of an input until it is done with it: first what it takes in without a read, and then pieces of at
-/// most the buffer's length; of standard input pieces of no more than it wants at once. What it doesn't use of the last
-/// piece is given back. Then, or at the end of the input, the engine is closed. Where the input breaks off before that,
-/// and after a fault, the engine gives its files up. The engine was opened before; what that may have needed (`opening`
-/// in the clause) is the caller's to say.
+/// Feeds an engine all of an input until the engine is done with it: first what it takes in without a read, and then pieces of at most the
+/// buffer's length; of standard input pieces of no more than it wants at once. What it doesn't use of the last piece is given back. Then,
+/// or at the end of the input, the engine is closed. If the input breaks off before that, and after a fault, the engine gives its files up.
+/// The engine was opened before, which may have needed what the caller says (`opening` in the clause).
 ///
 /// # Errors
 ///

@@ -43,14 +43,14 @@ pub struct RunProgress {
     was_read: bool,
     /// No header was written.
     is_first: bool,
-    /// A fault was told.
+    /// A fault was reported.
     failed: bool,
 }
 
-/// A whole run of a tool over the inputs of these names, in order (POSIX.1-2017, XBD 12.2: `-` is standard input; a later `-` is empty).
-/// It writes headers and what the tool makes of each input, and tells each fault on standard error; a fault of memory, of an output or
-/// of length ends the run. Its status is 1 where a fault was met, else 0. It takes memory for a buffer of 65,536 bytes and for what the
-/// tool's engine, headers and messages need.
+/// A whole run of a tool over the inputs of these names, in order (POSIX.1-2017, XBD 12.2: `-` is standard input; a later `-` is empty). It
+/// writes headers and what the tool makes of each input, and reports each fault on standard error; a fault of memory, of an output or of
+/// length ends the run. Its status is 1 if a fault was met, else 0. It takes memory for a buffer of 65,536 bytes and for what the tool's
+/// engine, headers and messages need.
 pub fn run_inputs<A: Adapter, I: Inputs, O: Outs>(
     alloc: Global,
     adapter: &A,
@@ -81,8 +81,7 @@ pub fn run_inputs<A: Adapter, I: Inputs, O: Outs>(
     }
 }
 
-/// Does the tool's work on the inputs of these names, in order, by pieces of the buffer's length, and returns whether a
-/// fault was told.
+/// Does the tool's work on the inputs of these names, in order, by pieces of the buffer's length, and returns whether a fault was reported.
 ///
 /// # Errors
 ///
@@ -121,7 +120,7 @@ fn take_names<A: Adapter, I: Inputs, O: Outs>(
     Ok(progress.failed)
 }
 
-/// Does the tool's work on the input of this name, or says that it can't be opened or read.
+/// Does the tool's work on the input of this name, or reports that it can't be opened or read.
 ///
 /// # Errors
 ///
@@ -190,15 +189,15 @@ pub fn is_dash(name: &str) -> bool
     name == STANDARD_INPUT
 }
 
-/// Where a `-` reads from: from standard input the first time, and from nowhere again.
+/// What a `-` reads: standard input the first time, and nothing again.
 fn standard_source(was_read: bool) -> Option<usize>
     ensures { result ≡ standard_source was_read }
 {
     if was_read { None } else { Some(0) }
 }
 
-/// Does the tool's work on an input that is open, with its header, and says with which fault it ended or that the input
-/// can't be read further. Without a source it is an empty input.
+/// Does the tool's work on an input that is open, with its header, and reports the fault with which it ended or that the input can't be
+/// read further. Without a source it is an empty input.
 ///
 /// # Errors
 ///
@@ -266,7 +265,7 @@ fn take_input<A: Adapter, I: Inputs, O: Outs>(
     }
 }
 
-/// Says that an input can't be opened or read, and why.
+/// Reports that an input can't be opened or read, and why.
 fn say_why<A: Adapter, I: Inputs, O: Outs>(
     job: &Job<'_, A>,
     source: Option<usize>,
@@ -283,7 +282,7 @@ fn say_why<A: Adapter, I: Inputs, O: Outs>(
     say(job.alloc, job.adapter.speaker(), why, fault, name, outs);
 }
 
-/// Why a source broke; one that is no input never does.
+/// Why a source broke; `Other` without a source.
 fn reason_of<I: Inputs>(source: Option<usize>, inputs: &I) -> Reason
     ensures { result ≡ reason_of source (I.sources inputs.now) }
 {
@@ -293,11 +292,11 @@ fn reason_of<I: Inputs>(source: Option<usize>, inputs: &I) -> Reason
     }
 }
 
-/// Writes the header of an input, where headers are written.
+/// Writes the header of an input, if headers are written.
 ///
 /// # Errors
 ///
-/// `Memory` where there is no room for it, `Write(0)` where standard output broke.
+/// `Memory` if there is no room for it, `Write(0)` if standard output broke.
 fn put_header<A: Adapter, O: Outs>(
     job: &Job<'_, A>,
     name: &str,

@@ -1,4 +1,4 @@
-//! A run of a tool over its inputs: each is fed to an engine of its own, piece by piece, and what went wrong is said.
+//! A run of a tool over its inputs: each is fed to an engine of its own, piece by piece, and faults are reported.
 #![tactic(auto)]
 
 mod adapter;

@@ -385,7 +385,7 @@ module _ {code : List Node} {closures : Closures} {hop : Hop} {old mid : List �
     settled = λ none. settled;
   }
     where
-      -- its bit was there
+      -- the bit of the hop's end was there
       was_in : IsIn mid (end_of hop) → IsIn old (end_of hop)
       was_in k =
           let now = sym (ap (λ w. bit_at w hop.bit) (read_led is size led)) ∙ (is_in_word mid hop.word hop.bit is.bit).1 k in

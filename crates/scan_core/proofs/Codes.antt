@@ -42,7 +42,7 @@ at-split [] b n node h = inr (n, omega arith, h)
 at-split (x ∷ a) b zero node h = inl h
 at-split (x ∷ a) b (suc n) node h = elim (at-split a b n _ h) [ inl g ↦ inl g | inr g ↦ inr (g.0, omega arith, g.2) ]
 
--- the same step further on in a longer code
+-- a step further on in a longer code
 leads_shift : (node : Node) (line : List ℕ) (base at place at' place' : ℕ) {there there' : ℕ} → there ≡ base + at
     → there' ≡ base + at' → Leads node line at place at' place' → Leads node line there place there' place'
 leads_shift (Take bytes) line base at place at' place' d e h = (omega arith, h.1, h.2, h.3)
@@ -325,7 +325,7 @@ module _ {code : List Node} {line : List ℕ} {Kind : ℕ → ℕ → Type 0} (e
           path_on (starred code) (loops count from to q)
           (1, (length (starred code), to, (Choose (length code + 2), refl, (inr (omega (arith, size)), refl)), (refl, refl)))
 
--- The code of a pattern: it is walked through just where the pattern matches.
+-- The code of a pattern: it is walked through exactly if the pattern matches.
 
 abbrev pub AtMost : (ℕ → ℕ → Type 0) → ℕ → ℕ → ℕ → Type 0
 AtMost Kind most from to = (count : ℕ) × (count ≤ most) × Parts Kind count from to
@@ -403,7 +403,7 @@ mutual
   item_exact (group pattern) line o = code_exact pattern line o
   item_exact (repeat item low high) line o = exact_repeated (item_exact item line o.0) high o.1
 
--- the line contains a match just where the end is entered at one of its places
+-- the line contains a match exactly if the end is entered at one of its places
 pub contained : (pattern : Pattern) {line : List ℕ} → IsOrdered pattern
     → Contains pattern line ↔ ((place : ℕ) × (place ≤ length line)
     × Entered (code_of pattern) line (length (code_of pattern)) place)

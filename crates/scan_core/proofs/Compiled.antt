@@ -179,7 +179,7 @@ mutual
       let d : Duplication = record { start = length old.nodes.items; low = low; high = Some (suc high) } in
       repeated_out old.nodes.items (code_of_item item) p.0 new old.pending.items d refl (ap (λ l. l ++ reverse (code_of_item item)) begins.nodes) begins.pending (write_item item p.0 new o.0 begins.passing p.2)
 
--- the bounds of a tree's duplications are in order where those of its tokens are
+-- the bounds of a tree's duplications are in order if those of its tokens are
 bounded_parts : (one other : List Token) → AreBounded (one ++ other) → AreBounded one × AreBounded other
 bounded_parts [] other b = (tt, b)
 bounded_parts (token ∷ one) other b = let parts = bounded_parts one other b.1 in ((b.0, parts.0), parts.1)

@@ -53,7 +53,7 @@ counted_out (node ∷ code) (suc number) h = let r = counted_out code number (om
 abbrev pub Led : List Node → ℕ → List ℕ → ℕ → Type 0
 Led code byte words number = (before : ℕ) × IsIn words before × StepsBy code byte before number
 
--- the same, with what is in each set
+-- what a byte leads to from a set, and what is in each set
 abbrev pub LedOrBase : List Node → ℕ → List ℕ → List ℕ → ℕ → Type 0
 LedOrBase code byte base words number = Led code byte words number ⊎ IsIn base number
 

@@ -65,7 +65,7 @@ starred_out {marked} {chosen} before code {start} {size} low b n s m ch e =
     here = rw parted (stretch_after (before ++ Back (length code + 1) ∷ []) (Choose (length code + 2) ∷ [])
         (omega (arith, length-append before (Back (length code + 1) ∷ []), b)) (omega (arith, length-reverse code, counted)))
 
--- the item where it stands, nodes having been written after it
+-- the item at its place, after more nodes have been written
 item_here : {nodes now : List Node} (more before code : List Node) {start size : ℕ} → length before ≡ start
     → nodes ≡ before ++ reverse code → size ≡ length nodes - start
     → now ≡ nodes ++ more → stretch start size now ≡ reverse code

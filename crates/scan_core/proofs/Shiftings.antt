@@ -30,7 +30,7 @@ use Rattle.scan_core.proofs.{Enterings.{positions_most, weight_length, parts_any
 
 -- The sets of entered nodes along a line, place by place.
 
--- which place of the line this is
+-- the flags say whether a place is the line's first and its last
 pub record IsPlace (line : List ℕ) (place : ℕ) (at_first at_last : Bool) : Type 0 where
   pub within : place ≤ length line
   pub first : IsTrue at_first ↔ (place ≡ 0)
@@ -209,7 +209,7 @@ walked_starts t = search rules
 
 module _ {code : List Node} {sets : List (List Bool)} {line : List ℕ} {place state steps : ℕ}
     (w : Walked code sets line place state steps) (h : place < length line) where
-  -- what is entered where the state's set is, and before
+  -- what is entered at the place of the state's set, and before
   walked_here : AreEntered code line place (InSets sets state)
   walked_here number = search (rules, inner_entered)
 
@@ -247,7 +247,7 @@ walked_stay {code} {sets} (suc more) {place} {state} t w h b s =
     (sym (s (place + more) (omega arith) (omega arith))) (omega (arith, w.known, t.most))
     (omega (arith, mul-suc (positions_among code (set_at sets state)) more)))
 
--- what is entered after a byte is entered also where the line ends there
+-- what is entered after a byte is entered also if the line ends there
 entered_there : (code : List Node) {line : List ℕ} {place number : ℕ} → place < length line
     → Inner code line (suc place) number → Entered code line number (suc place)
 entered_there code {line} {place} {number} h i = elim (cases_eq (suc place) (length line)) [

@@ -1,4 +1,4 @@
--- What is seen of a text without matching its lines.
+-- What is known of a text before its lines are matched.
 use Rattle.std.specs.Prelude.{◌≡◌, ℕ, ◌+◌, ◌<◌, false, List, ◌++◌, length}
 use Rattle.bre_core.specs.{Pattern.Pattern, Search.contains}
 

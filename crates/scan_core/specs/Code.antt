@@ -17,7 +17,7 @@ At [] number node = ⊥
 At (head ∷ rest) zero node = node ≡ head
 At (head ∷ rest) (suc number) node = At rest number node
 
--- from a node entered at a place of the line another is entered
+-- a node that is entered at a place of the line leads to another node and place
 abbrev pub Leads : Node → List ℕ → ℕ → ℕ → ℕ → ℕ → Type 0
 Leads (Take bytes) line at place at' place' = (at' ≡ at + 1) × (place' ≡ place + 1) × (place < length line)
     × IsTrue (has bytes (slice_index line place))
@@ -38,17 +38,20 @@ Walks code line (suc count) at place to stop = (at' : ℕ) × (place' : ℕ) × 
 abbrev pub Path : List Node → List ℕ → ℕ → ℕ → ℕ → ℕ → Type 0
 Path code line at place to stop = (count : ℕ) × Walks code line count at place to stop
 
--- the nodes of an item or none; of an item any number of times; up to `count` times; `count` times
+-- the nodes of an item that may be left out
 abbrev pub maybe : List Node → List Node
 maybe code = Choose (length code + 1) ∷ code
 
+-- the nodes of an item any number of times
 abbrev pub starred : List Node → List Node
 starred code = Choose (length code + 2) ∷ (code ++ Back (length code + 1) ∷ [])
 
+-- the nodes of an item up to `count` times
 abbrev pub up_to : ℕ → List Node → List Node
 up_to zero code = []
 up_to (suc count) code = maybe (code ++ up_to count code)
 
+-- the nodes of an item `count` times
 abbrev pub copies : ℕ → List Node → List Node
 copies zero code = []
 copies (suc count) code = copies count code ++ code
@@ -69,11 +72,11 @@ abbrev mutual
   code_of_item (group pattern) = code_of pattern
   code_of_item (repeat item low high) = copies low (code_of_item item) ++ tail_of (code_of_item item) low high
 
--- a node is entered at a place, the search having begun at every place up to it
+-- a walk from number 0, begun at some place of the line, enters this number at this place
 abbrev pub Entered : List Node → List ℕ → ℕ → ℕ → Type 0
 Entered code line number place = (from : ℕ) × (from ≤ length line) × Path code line 0 from number place
 
--- no duplication's least is above its most
+-- no repetition's least count is above its greatest
 abbrev mutual
   pub IsOrdered : Pattern → Type 0
   IsOrdered nothing = Unit {0}
@@ -86,7 +89,7 @@ abbrev mutual
   IsOrderedItem (group pattern) = IsOrdered pattern
   IsOrderedItem (repeat item low high) = IsOrderedItem item × IsAtMost high low
 
--- a step back is no position, any other node is one
+-- how many positions a node is: a step back is none
 abbrev pub weight_of : Node → ℕ
 weight_of (Take bytes) = 1
 weight_of First = 1

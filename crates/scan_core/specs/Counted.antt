@@ -1,5 +1,5 @@
--- How many steps a search takes that goes to the end of the line: one for each position at each place where it can be
--- entered.
+-- How many steps a search takes that goes to the end of the line: one for each position at each place at which the
+-- position can be entered.
 use Rattle.std.specs.Prelude.{◌≡◌, ◌↔◌, ℕ, ◌+◌, ◌<◌, ◌≤◌, Bool, List, [], ◌∷◌, length, slice_index_or}
 use Rattle.scan_core.specs.{declared.node.Node.Node, Code.Entered, Sets.{IsMarked, positions_among}}
 
@@ -12,7 +12,7 @@ abbrev pub positions_in_all : List Node → List (List Bool) → ℕ
 positions_in_all code [] = 0
 positions_in_all code (set ∷ sets) = positions_among code set + positions_in_all code sets
 
--- the steps of the first places: a flag for each number that can be entered there
+-- the steps at the first places: one for each position that can be entered there
 pub record AreSteps (code : List Node) (line : List ℕ) (places steps : ℕ) : Type 0 where
   pub sets : List (List Bool)
   pub all : length sets ≡ places
@@ -28,7 +28,7 @@ IsStepCount code line steps = AreSteps code line (length line + 1) steps
 abbrev pub EndsIn : List Node → List ℕ → Type 0
 EndsIn code line = (place : ℕ) × (place ≤ length line) × Entered code line (length code) place
 
--- at least the steps of all places before the one at which the end is entered first
+-- `steps` is at least the number of steps at all places before the first place at which the end is entered
 pub record HasStepsBefore (code : List Node) (line : List ℕ) (steps : ℕ) : Type 0 where
   pub place : ℕ
   pub within : place ≤ length line

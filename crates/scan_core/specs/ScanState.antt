@@ -1,7 +1,7 @@
 -- What the contracts see of a `Scan`.
 use Rattle.std.specs.Prelude.{ℕ}
 
--- the positions of the patterns that it has room for, and the steps of the last search
+-- how many positions there is room for, and the steps of the last search
 pub record ScanState : Type 0 where
   pub positions : ℕ
   pub steps : ℕ

@@ -1,4 +1,4 @@
--- A table of sets of a code's numbers: which set a byte leads to.
+-- What a walk along a line with a pattern's table returns.
 use Rattle.std.specs.Prelude.{◌↔◌, ℕ, ◌+◌, ◌*◌, ◌≤◌, Bool, IsTrue, IsFalse, List, length}
 use Rattle.scan_core.specs.{
   declared.{node.Node.Node, walk.Outcome.Outcome},
@@ -6,7 +6,7 @@ use Rattle.scan_core.specs.{
   Counted.{EndsIn, HasStepsBefore, IsStepCount},
 }
 
--- whether a line has a match
+-- `found` says whether a line has a match
 abbrev pub IsFound : List Node → List ℕ → Bool → Type 0
 IsFound code line found = IsTrue found ↔ EndsIn code line
 

@@ -33,7 +33,7 @@ pub struct Bre {
     closures: Closures,
     table: Option<Table>,
     shifts: Option<ShiftTable>,
-    /// What each line with a match has, where that is known.
+    /// What each line with a match has, if that is known.
     needle: Option<Needle>,
 }
 
@@ -61,16 +61,14 @@ impl Bre {
     /// Reads a basic regular expression (POSIX.1-2017, XBD 9.3, in the POSIX locale), in one pass over the text, and makes
     /// ready to match lines with it.
     ///
-    /// A pattern keeps one entry for each of its tokens, of which it has no more than the text has bytes, at most two nodes
-    /// of 340 bytes for each of its positions, and where it has at most 8,191 nodes a table of up to 4,096 sets with 544 bytes
-    /// for each; where these are at most nine, also 4,096 bytes of words. What each line with a match has takes no more bytes than
-    /// the pattern has positions.
+    /// A pattern keeps one entry for each of its tokens, which are no more than the bytes of the text, and at most two nodes of 340 bytes
+    /// for each of its positions. If it has at most 8,191 nodes, it keeps a table of up to 4,096 sets with 544 bytes for each; if these are
+    /// at most nine, also 4,096 bytes of words. What each line with a match has takes no more bytes than the pattern has positions.
     ///
     /// # Errors
     ///
-    /// One of the kinds `Empty` to `Class` where the text is no pattern: the first fault from left to right, with its place.
-    /// `TooLarge` where a 256th group would be open at once, or where the whole text reads and has more than 65,535
-    /// positions. `Memory` where a growth is refused.
+    /// One of the kinds `Empty` to `Class` if the text is no pattern: the first fault from left to right, with its place. `TooLarge` if a
+    /// 256th group would be open at once, or if the whole text reads and has more than 65,535 positions. `Memory` if a growth is refused.
     pub fn read(alloc: Global, text: &[u8]) -> Result<Bre, BreFault>
         ensures reads { IfOk result (Reads text.now) }
         ensures groups { IfOk result (λ bre. depth_of bre ≤ 255) }
@@ -114,8 +112,8 @@ impl Bre {
         &self.expression
     }
 
-    /// Whether a line that isn't empty has a match, by the pattern's table; `None` where there is no table, or no room in it
-    /// for a set that the line leads to. It is always inlined, so that a caller that wants no steps counts none.
+    /// Whether a line that isn't empty has a match, by the pattern's table; `None` if there is no table, or no room in it for a set that
+    /// the line leads to. It is always inlined, so that a caller that wants no steps counts none.
     #[inline(always)]
     pub fn walk(&self, line: &[u8]) -> Option<Outcome>
         requires { 0 < length line.now }
@@ -131,9 +129,9 @@ impl Bre {
         }
     }
 
-    /// How many bytes at the beginning of a text are seen to have no match without matching: no stretch of the text that ends
-    /// before them, such as a line, contains one. What each line with a match has is looked for, the rarest such byte or
-    /// text; where nothing is known that each has, these are none.
+    /// How many bytes at the beginning of a text are seen to have no match without matching: no stretch of the text that ends before them,
+    /// such as a line, contains a match. The rarest byte or text that each line with a match has is looked for; if none is known, the
+    /// answer is 0.
     pub fn clear_before(&self, text: &[u8]) -> usize
         ensures within { result ≤ length text.now }
         ensures clear { IsClear self.now text.now result }

@@ -85,7 +85,7 @@ fn find(sets: &[Marks], key: u64, words: &[u64]) -> Option<usize>
     None
 }
 
-/// The entry that leads to a set: it is added to the others where there is room.
+/// The entry that leads to a set: it is added to the others if there is room.
 fn lead_to(
     alloc: Global,
     sets: &mut Vec<Marks>,
@@ -137,7 +137,7 @@ fn are_alike(nodes: &[Node], one: u8, other: u8) -> bool
     true
 }
 
-/// The first byte that each node treats as it does this one.
+/// The first byte that each node treats as it does this byte.
 fn twin_of(nodes: &[Node], byte: u8) -> u8
     ensures { AreAlike nodes.now byte result }
 {
@@ -188,7 +188,7 @@ fn advance(words: &mut [u64], nodes: &[Node], masks: &Masks, closures: &Closures
 }
 
 impl Building {
-    /// The set of the front of a line that isn't empty; none where the pattern's end is in it.
+    /// The set of the front of a line that isn't empty; none if the pattern's end is in it.
     fn begin(alloc: Global, nodes: &[Node], most: usize) -> Result<Option<Building>, BreFault>
         requires most { 0 < most }
         requires code { IsCode nodes.now }
@@ -300,10 +300,10 @@ fn states_of(
     Ok(states)
 }
 
-/// The table of a code: none where the pattern's end is entered at the front of each line, or where the code is long. The
-/// masks and closures are those of these nodes.
+/// The table of a code: none if the pattern's end is entered at the front of each line, or if the code is long. The masks and closures are
+/// those of these nodes.
 ///
-/// It has up to 4,096 sets, and fewer where the code is long, with 512 bytes of entries for each, and its state.
+/// It has up to 4,096 sets, or fewer if the code is long, with 512 bytes of entries for each, and its state.
 pub fn build(
     alloc: Global,
     nodes: &[Node],

@@ -87,7 +87,7 @@ impl Compiling {
         Ok(())
     }
 
-    /// Begins a duplication, or passes its item over where it stands no time.
+    /// Begins a duplication, or passes its item over if it stands no time.
     fn begin(&mut self, low: u8, high: Option<u8>) -> Result<(), BreFault>
         requires begun { AreBegun self.old }
         requires order { IsBounded (Repeat low high) }

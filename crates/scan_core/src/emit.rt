@@ -11,15 +11,15 @@ ghost use Rattle.scan_core.specs.{
 use crate::node::Node;
 use bre_core::BreFault;
 
-/// A duplication whose item is written out: the item's nodes stand from a place on, after a node's room for the step back
-/// where there is no bound.
+/// A duplication whose item is written out: the item's nodes stand from a place on, after a node's room for the step back if there is no
+/// bound.
 #[derive(Clone, Copy)]
 pub struct Duplication {
     /// How many nodes stand before those of the item.
     pub start: usize,
     /// How often the item stands at least.
     pub low: u8,
-    /// How often at most, where there is a bound.
+    /// How often at most, if there is a bound.
     pub high: Option<u8>,
 }
 

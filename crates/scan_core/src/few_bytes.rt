@@ -68,7 +68,7 @@ impl FewBytes {
         few
     }
 
-    /// How common the most common of them is; `COMMON` of more than three.
+    /// How common the most common of these bytes is; `COMMON` of more than three.
     pub fn rank(self) -> u16 {
         match self {
             FewBytes::Zero => 0,
@@ -81,7 +81,7 @@ impl FewBytes {
         }
     }
 
-    /// Where the first of them stands in a text, or else the text's end.
+    /// Where the first of these bytes stands in a text, or else the text's end.
     pub fn find(self, text: &[u8]) -> usize
         ensures within { result ≤ length text.now }
         ensures none { Nowhere (Passes (is_among self) text.now) 0 result }

@@ -1,5 +1,5 @@
-//! Hops: what leads out of a word and of what is in each set. Many numbers of a word may lead to the same one, which is
-//! then entered once for all of them.
+//! Hops: what leads out of a word and of what is in each set. Many numbers of a word may lead to the same number, which is then entered
+//! once for all of them.
 
 ghost use Rattle.std.specs.{
   Prelude.{◌≡◌, ◌↔◌, ◌<◌, ◌≤◌, ◌+◌, ◌*◌, ◌/◌, ℕ, false, IsTrue, OnOk, IfOk, IfErr, List, ◌++◌, length},
@@ -17,7 +17,7 @@ use crate::words::has;
 use bre_core::BreFault;
 use std::alloc::Global;
 
-/// All numbers of a word that lead to the same one beyond it, at any place of a line.
+/// All numbers of a word that lead to the same number outside of it, at any place of a line.
 #[derive(Clone, Copy)]
 pub struct Hop {
     /// The word.
@@ -32,9 +32,9 @@ pub struct Hop {
 /// The hops of a code.
 #[derive(Drop)]
 pub struct Hops {
-    /// Those to numbers that lead out of what is in each set.
+    /// The hops to numbers that lead out of what is in each set.
     pub onward: Vec<Hop>,
-    /// Those to numbers that don't: nothing more follows once these are entered.
+    /// The other hops: nothing more follows once their ends are entered.
     pub landings: Vec<Hop>,
 }
 

@@ -4,7 +4,7 @@ ghost use Rattle.std.specs.Prelude.{◌≡◌, ◌↔◌, ◌+◌, ◌≤◌, �
 ghost use Rattle.bre_core.specs.{Match.Contains, Pattern.{Pattern, positions_of}};
 ghost use Rattle.scan_core.specs.Code.{code_of, IsOrdered, Entered, weight};
 
-/// A line contains a match exactly where the code's end is entered at some place of it.
+/// A line contains a match exactly if the code's end is entered at some place of it.
 pub fn end_is_entered()
     ensures { (pattern : Pattern) (line : List ℕ) → IsOrdered pattern
         → (Contains pattern line

@@ -1,9 +1,9 @@
 //! Matching lines against basic regular expressions by sets of positions.
 //!
-//! `Bre::read` reads a pattern and compiles it to its code; `Scan::matches` says whether a line contains a match, in one
-//! pass over the line and without memory, and `Scan::steps` how many positions it entered. Contracts see a `Bre` as its tree,
-//! as those of `bre_core` do: `contains` is what matching returns. The code of a tree is `code_of` in `specs/Code`; that its
-//! end is entered exactly where the line contains a match, and that its positions are the pattern's, are laws.
+//! `Bre::read` reads a pattern and compiles it to its code; `Scan::matches` says whether a line contains a match, in one pass over the line
+//! and without memory, and `Scan::steps` how many positions it entered. Contracts see a `Bre` as its tree, as those of `bre_core` do:
+//! `contains` is what matching returns. The code of a tree is `code_of` in `specs/Code`. Its end is entered exactly if the line contains a
+//! match, and its positions are the pattern's: these are laws.
 #![tactic(auto)]
 
 mod branch;

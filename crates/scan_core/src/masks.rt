@@ -14,18 +14,18 @@ use std::alloc::Global;
 /// What is asked of a number of a code.
 #[derive(Clone, Copy)]
 pub enum Kind {
-    /// Its node takes this byte.
+    /// The number's node takes this byte.
     Takes(u8),
-    /// It is a position.
+    /// The number is a position.
     Counts,
 }
 
-/// A code's numbers of each kind, a bit for each number: that of number n is bit n % 64 of word n / 64.
+/// A code's numbers of each kind, a bit for each number: bit n % 64 of word n / 64 for number n.
 #[derive(Drop)]
 pub struct Masks {
     /// For each byte, one after another, the numbers whose nodes take it.
     pub takes: Vec<u64>,
-    /// Those that are positions.
+    /// The numbers that are positions.
     pub counts: Vec<u64>,
 }
 

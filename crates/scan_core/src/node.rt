@@ -13,7 +13,7 @@ pub enum Node {
     First,
     /// The line's end leads to the next node.
     Last,
-    /// The next node, or the one this many further on.
+    /// The next node, or the node this many further on.
     Choose(usize),
     /// The node this many before.
     Back(usize),

@@ -16,16 +16,16 @@ use bre_core::BreFault;
 use memchr::memmem::Finder;
 use std::alloc::Global;
 
-/// The rarest nodes of those that were looked at, among the nodes by which each walk to the end comes.
+/// The rarest of the nodes that were looked at and that each walk to the end passes.
 #[derive(Clone, Copy)]
 struct Rarest {
     /// No choice that was looked at leads beyond this number.
     far: usize,
     /// The last nodes that were looked at each take one byte alone, from this number on.
     run: usize,
-    /// The first of the rarest.
+    /// The first of the rarest nodes.
     from: usize,
-    /// How common they are; `COMMON` where there are none.
+    /// How common the rarest nodes are; `COMMON` if there are none.
     rank: u16,
 }
 
@@ -68,7 +68,7 @@ impl Rarest {
         }
     }
 
-    /// The number beyond which no choice leads of those that were looked at and the node at a number.
+    /// The number beyond which no choice leads, of the choices that were looked at and the node at a number.
     fn far_after(self, nodes: &[Node], at: usize) -> usize
         requires { IsCode nodes.now }
         ensures low { self.far ≤ result }
@@ -112,7 +112,7 @@ fn only_byte(node: &Node) -> Option<u8>
     }
 }
 
-/// The bytes that nodes take one after another from one on, as long as each takes one byte alone.
+/// The bytes that nodes from a number on take one after another, as long as each takes one byte alone.
 fn literal(alloc: Global, nodes: &[Node], from: usize) -> Result<Vec<u8>, BreFault>
     ensures ok { IfOk result (λ text. IsLiteral nodes.now from text.items) }
     ensures err { IfErr result (λ fault. fault ≡ Memory) }
@@ -127,7 +127,7 @@ fn literal(alloc: Global, nodes: &[Node], from: usize) -> Result<Vec<u8>, BreFau
     Ok(text)
 }
 
-/// What each line with a match has, if it is one of the bytes that this node takes, by which each walk to the end comes.
+/// What each line with a match has, if it is one of the bytes that this node takes, which each walk to the end passes.
 fn byte_needle(nodes: &[Node], number: usize) -> Option<Needle>
     requires { IsPassed nodes.now number }
     ensures { IfSome result (IsNeedle nodes.now) }
@@ -141,7 +141,7 @@ fn byte_needle(nodes: &[Node], number: usize) -> Option<Needle>
     }
 }
 
-/// What each line with a match has, which is what nodes take from one on by which each walk to the end comes.
+/// What each line with a match has: what nodes take from a number on that each walk to the end passes.
 fn needle_from(alloc: Global, nodes: &[Node], from: usize) -> Result<Option<Needle>, BreFault>
     requires { IsPassed nodes.now from }
     ensures ok { IfOk result (λ made. IfSome made (IsNeedle nodes.now)) }
@@ -155,7 +155,7 @@ fn needle_from(alloc: Global, nodes: &[Node], from: usize) -> Result<Option<Need
     Ok(byte_needle(nodes, from))
 }
 
-/// What each line with a match has, where that is known, and rare enough.
+/// What each line with a match has, if that is known and rare enough.
 pub fn needle_of(alloc: Global, nodes: &[Node]) -> Result<Option<Needle>, BreFault>
     requires { IsCode nodes.now }
     ensures ok { IfOk result (λ made. IfSome made (IsNeedle nodes.now)) }

@@ -50,7 +50,7 @@ impl Scan {
     ///
     /// # Errors
     ///
-    /// `Memory` where there is no room.
+    /// `Memory` if there is no room.
     pub fn new(alloc: Global, bre: &Bre) -> Result<Scan, BreFault>
         ensures positions { IfOk result (λ scan. scan.positions ≡ positions_of bre.now) }
         ensures steps { IfOk result (λ scan. scan.steps ≡ 0) }
@@ -70,10 +70,10 @@ impl Scan {
     /// Whether some stretch of the line, taken without its newline, matches the pattern (XBD 9.1). The pattern has as many
     /// positions as the one that the room was made for. It takes no memory.
     ///
-    /// Afterwards `steps` returns how many steps it took: a position that is entered at one place of the line is one step.
-    /// The search begins at every place, and enters a position at most once at a place. Where there is no match, the steps
-    /// are all positions that can be entered at each place; where there is one, they are at least those of all places before
-    /// the one at which the pattern's end is entered first.
+    /// Afterwards `steps` returns how many steps it took: a position that is entered at one place of the line is one step. The search
+    /// begins at every place, and enters a position at most once at a place. If there is no match, the steps are all positions that can be
+    /// entered at each place. If there is a match, they are at least those of all places before the place at which the pattern's end is
+    /// entered first.
     pub fn matches(&mut self, bre: &Bre, line: &[u8]) -> bool
         requires { self.old.positions ≡ positions_of bre.now }
         ensures exact { result ≡ contains bre.now line.now }

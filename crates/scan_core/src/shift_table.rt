@@ -75,7 +75,7 @@ fn word_of(rows: &[u16], count: usize, byte: usize) -> u64
     word
 }
 
-/// The positions of the state that the low six bits are, if they are one.
+/// The positions of the state that the low six bits are, if they are a state.
 fn weight_of(states: &[State], low: usize) -> u64
     requires { AreLight states.now }
     ensures { IsWeight states.now (low % 64) result }
@@ -87,7 +87,7 @@ fn weight_of(states: &[State], low: usize) -> u64
     }
 }
 
-/// The table as words, if there is a table: none where it has too many states, or no room for one.
+/// The table as words, if there is a table: none if it has too many states, or no room for one.
 pub fn shifts_of(
     alloc: Global,
     nodes: &[Node],

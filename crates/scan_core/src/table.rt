@@ -11,9 +11,9 @@ pub const UNKNOWN: u16 = 65_534;
 pub struct State {
     /// How many positions it has.
     pub positions: usize,
-    /// How many there are where the line ends.
+    /// How many positions it has at the line's end.
     pub last_positions: usize,
-    /// Whether the pattern's end is entered where the line ends.
+    /// Whether the pattern's end is entered at the line's end.
     pub ends: bool,
     /// Whether every byte leads back to this set.
     pub is_fixed: bool,

@@ -41,7 +41,7 @@ fn positions_of_places(positions: usize, places: usize) -> u128
     positions as u128 * places as u128
 }
 
-/// The end of the stretch from a place on in which the state stays: at once the line's end where no byte can change it.
+/// The end of the stretch from a place on in which the state stays: at once the line's end if no byte can change it.
 #[tactic(auto, using(crate::proofs::Shiftings::fixed_stays))]
 #[inline(always)]
 fn stretch_end(table: &Table, nodes: &[Node], line: &[u8], from: usize, state: usize) -> usize
@@ -60,8 +60,8 @@ fn stretch_end(table: &Table, nodes: &[Node], line: &[u8], from: usize, state: u
     }
 }
 
-/// Whether the line has a match, and the steps; `None` where the table has no room for a set that the line comes to. The
-/// table is that of these nodes, and the line isn't empty.
+/// Whether the line has a match, and the steps; `None` if the table has no room for a set that the line comes to. The table is that of
+/// these nodes, and the line isn't empty.
 pub fn walk(table: &Table, nodes: &[Node], line: &[u8]) -> Option<Outcome>
     requires table { IsTable nodes.now table.now }
     requires some { 0 < length line.now }

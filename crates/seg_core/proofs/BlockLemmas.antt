@@ -155,7 +155,7 @@ pub counted_drop : {delim most : ℕ} (n : ℕ) {blocks new : List BlockState} {
     → IsCounted delim most new (len - n) (count - gone)
 counted_drop {delim} n {blocks} so_far within left is each = grind (arith, common_steps, line_count-drop, length-drop, delimiters-take-drop)
 
--- and once a piece is appended
+-- what a window knows of its blocks, once a piece is appended
 pub counted_put : {delim most : ℕ} {blocks new : List BlockState} (piece : List ℕ) {len count : ℕ} (more : ℕ)
     → IsCounted delim most blocks len count → len + length piece < 2 ^ 63
     → but_last_lines delim most (text_of blocks ++ piece) ≡ [] → text_of new ≡ text_of blocks ++ piece

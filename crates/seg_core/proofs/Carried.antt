@@ -13,7 +13,7 @@ use Rattle.seg_core.{
 pub line_count-last : (delim n : ℕ) (x : List ℕ) → line_count delim (last_lines delim n x) ≡ min n (line_count delim x)
 line_count-last delim n x = grind (arith, common_steps, lines_of-after_lines, length-drop)
 
--- they are the end of the text
+-- the last n lines are the end of the text
 pub last_lines-is_drop : (delim n : ℕ) (x : List ℕ) → drop (length (but_last_lines delim n x)) x ≡ last_lines delim n x
 last_lines-is_drop delim n x = sym (after_lines-is_drop delim (line_count delim x - n) x)
 
@@ -27,13 +27,13 @@ pub left_after : (delim n : ℕ) (held piece : List ℕ) (over : ℕ) → over �
 left_after delim n held piece over is within =
     sym (drop-append-le over held piece within) ∙ ap (λ k. drop k (held ++ piece)) is ∙ last_lines-is_drop delim n (held ++ piece)
 
--- or the end of the piece alone
+-- a window may keep only the end of the piece
 pub left_alone : (delim n : ℕ) (held piece : List ℕ) (over more : ℕ)
     → over ≡ length (but_last_lines delim n (held ++ piece)) → over ≡ length held + more
     → drop more piece ≡ last_lines delim n (held ++ piece)
 left_alone delim n held piece over more is beyond = grind (arith, common_steps, drop-append-add, last_lines-is_drop)
 
--- so it has room for the piece, or for the end of the piece, once what is over has left at the front
+-- a window has room for the piece, or for its end, once what is over has left at the front
 pub fits_after : (delim n : ℕ) (held piece : List ℕ) (over : ℕ) → over ≡ length (but_last_lines delim n (held ++ piece))
     → over ≤ length held → but_last_lines delim n (drop over held ++ piece) ≡ []
 fits_after delim n held piece over is within = ap (but_last_lines delim n) (left_after delim n held piece over is within) ∙ but_last_lines-last delim n (held ++ piece)

@@ -109,7 +109,7 @@ delimiters-first_lines delim (suc n) (byte ∷ x) h =
     ap (delimiters delim) (first_lines-cons delim byte n x)
     ∙ full_step delim (eqb byte delim) x h (delimiters-first_lines delim n x) (delimiters-first_lines delim (suc n) x)
 
--- where a byte brings the count to n, the n lines end after it
+-- if a byte brings the count to n, the n lines end after it
 pub EndsAt_counted : {delim n : ℕ} {x : List ℕ} (i : ℕ) → i < length x → delimiters delim (take i x) < n
     → delimiters delim (take (i + 1) x) ≡ n → EndsAt delim n x (i + 1)
 EndsAt_counted {delim} {n} {x} i h few counted =
@@ -149,12 +149,12 @@ pub lines_of-after_lines : (delim k : ℕ) (x : List ℕ)
     → lines_of delim (after_lines delim k x) ≡ drop k (lines_of delim x)
 lines_of-after_lines delim k x = grind (arith, common_steps, lines_of-joined, AreLines-drop, AreLines-lines_of)
 
--- the same, by their bytes
+-- the lines of what stands after the first lines, by the bytes of these
 pub lines_of-after : (delim n : ℕ) (x : List ℕ) → n ≤ delimiters delim x
     → lines_of delim (drop (length (first_lines delim n x)) x) ≡ drop n (lines_of delim x)
 lines_of-after delim n x h = ap (lines_of delim) (sym (after_lines-is_drop delim n x)) ∙ lines_of-after_lines delim n x
 
--- the same, with the place where they end
+-- the lines of what stands after the first lines, by the place at which these end
 pub EndsAt-rest : (delim n : ℕ) (x : List ℕ) (end : ℕ) → EndsAt delim n x end
     → lines_of delim (drop end x) ≡ drop n (lines_of delim x)
 EndsAt-rest delim n x end ends =

@@ -33,7 +33,7 @@ few_step delim n (suc k) x is none =
     let nothing : length (first_lines delim (suc k) x) ≡ 0 = ap length none in
     absurd (omega arith)
 
--- where nothing stands before the last n lines, there are no more
+-- if nothing stands before the last n lines, there are no more lines
 pub few_from_nothing : (delim n : ℕ) (x : List ℕ) → but_last_lines delim n x ≡ [] → line_count delim x ≤ n
 few_from_nothing delim n x none = few_step delim n (line_count delim x - n) x refl none
 

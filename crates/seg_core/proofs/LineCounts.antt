@@ -96,7 +96,7 @@ pub line_count_near : (delim : ℕ) (x : List ℕ)
 line_count_near delim [] = (omega arith, omega arith)
 line_count_near delim (byte ∷ x) = let near = line_count_near delim x in near_step (eqb byte delim) byte (delimiters delim x) (lines_of delim x) near.0 near.1
 
--- a text has as many lines as delimiters, and one more where its end is open
+-- a text has as many lines as delimiters, and one more if its end is open
 pub line_count-by_end : (delim : ℕ) (x : List ℕ) (closed : Bool) → 0 < length x → closed ≡ ends_with delim x
     → line_count delim x ≡ delimiters delim x + bool_byte (not closed)
 line_count-by_end delim x true some is = line_count-closed delim x (sym is) ∙ omega arith

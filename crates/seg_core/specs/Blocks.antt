@@ -12,15 +12,15 @@ abbrev pub text_of : List BlockState → List ℕ
 text_of [] = []
 text_of (block ∷ blocks) = block.bytes ++ text_of blocks
 
--- the count is right
+-- the block's count is right
 abbrev pub HasCount : ℕ → BlockState → Type 0
 HasCount delim block = block.count ≡ delimiters delim block.bytes
 
 abbrev pub HaveCounts : ℕ → List BlockState → Type 0
 HaveCounts delim blocks = All (HasCount delim) blocks
 
--- what a window over lines knows of the blocks that it holds: no more than `most` lines, fewer than 2^63 bytes, and
--- their counts
+-- what a window over lines knows of its blocks: at most `most` lines, fewer than 2^63 bytes, `len` bytes, and counts
+-- that are right
 pub record IsCounted (delim most : ℕ) (blocks : List BlockState) (len count : ℕ) : Type 0 where
   pub few : line_count delim (text_of blocks) ≤ most
   pub fits : length (text_of blocks) < 2 ^ 63

@@ -11,15 +11,16 @@ use Rattle.seg_core.specs.declared.count.{
   CountFault.{CountFault, TheVariants.{NoDigits, Suffix, TooLarge}},
 }
 
--- the number that digits write in base ten, the highest first; 48 is the digit 0
+-- the number that digits write in base ten, the highest digit first; 48 is the digit 0
 abbrev pub value_of : List ℕ → ℕ
 value_of [] = 0
 value_of (digit ∷ digits) = (digit - 48) * 10 ^ length digits + value_of digits
 
--- the longest run of digits that a text begins with, and what follows it
+-- the longest run of digits that a text begins with
 abbrev pub leading_digits : List ℕ → List ℕ
 leading_digits text = take_while is_ascii_digit text
 
+-- what follows the leading digits
 abbrev pub after_digits : List ℕ → List ℕ
 after_digits text = drop (prefix_len is_ascii_digit text) text
 
@@ -50,7 +51,7 @@ factor_of suffix = beside suffixes suffix
 abbrev pub greatest : ℕ
 greatest = 2 ^ 63 - 1
 
--- 43 is a plus, 45 a minus
+-- the sign of a text; 43 is a plus, 45 a minus
 abbrev pub sign_of : List ℕ → Sign
 sign_of [] = Plain
 sign_of (byte ∷ text) = if byte == 43 then Plus else (if byte == 45 then Minus else Plain)
@@ -59,16 +60,16 @@ abbrev pub after_sign : List ℕ → List ℕ
 after_sign [] = []
 after_sign (byte ∷ text) = if byte == 43 then text else (if byte == 45 then text else byte ∷ text)
 
--- a sign and an amount, unless that is too large
+-- a sign and an amount, or a fault if the amount is too large
 abbrev pub sized : Sign → ℕ → Result Count CountFault
 sized sign amount = if nat_le amount greatest then Ok (record { sign = sign; amount = amount }) else Err TooLarge
 
--- the count of digits and a suffix, whose factor is missing where the table hasn't the suffix
+-- the count of digits and a suffix's factor, or a fault if the table doesn't have the suffix
 abbrev pub scaled : Sign → List ℕ → Option ℕ → Result Count CountFault
 scaled sign digits None = Err Suffix
 scaled sign digits (Some factor) = sized sign (value_of digits * factor)
 
--- the count of a text that follows its sign
+-- the count of a sign and the text after it
 abbrev pub unsigned : Sign → List ℕ → Result Count CountFault
 unsigned sign text = if length (leading_digits text) == 0 then Err NoDigits
     else scaled sign (leading_digits text) (factor_of (after_digits text))
@@ -77,11 +78,11 @@ unsigned sign text = if length (leading_digits text) == 0 then Err NoDigits
 unfoldable pub count_of : List ℕ → Result Count CountFault
 count_of text = unsigned (sign_of text) (after_sign text)
 
--- one or more digits, and nothing else
+-- whether a text is one or more digits, and nothing else
 abbrev pub is_number : List ℕ → Bool
 is_number text = nat_lt 0 (length text) && list_all is_ascii_digit text
 
--- the number that a text of digits alone writes
+-- the number that a text of digits alone writes, if it isn't too large
 unfoldable pub digits_of : List ℕ → Result ℕ CountFault
 digits_of text = if is_number text then (if nat_le (value_of text) greatest then Ok (value_of text) else Err TooLarge)
     else Err NoDigits

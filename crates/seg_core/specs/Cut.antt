@@ -18,7 +18,7 @@ abbrev pub IsPositive : Cut → Type 0
 IsPositive (Parts limit) = 0 < most limit
 IsPositive (Round n delim) = 0 < n
 
--- its number is at least 1, and the chunk or the file that is asked for is one of these
+-- The number of a cut or of chunks is at least 1. A chunk or file that is asked for alone exists.
 abbrev pub IsWay : Way → Type 0
 IsWay (way.Cut cut) = IsPositive cut
 IsWay (way.Chunks chunks) = 0 < chunks.count

@@ -1,6 +1,5 @@
 -- The lines of a text. A text is a list of bytes. A line ends with a delimiter: a byte that is chosen once for the
--- text, and that the definitions have as their first argument. POSIX's lines are those that end with the newline, byte
--- 10.
+-- text, and that the definitions have as their first argument. The lines of POSIX end with the newline, byte 10.
 use Rattle.std.specs.{
   Prelude.{◌≡◌, ◌≢◌, ℕ, ◌+◌, ◌-◌, ◌<◌, ◌≤◌, ◌==◌, Bool, true, false, List, [], ◌∷◌, ◌++◌, ◌⊎◌},
   Prelude.{if◌then◌else◌, length},
@@ -10,12 +9,12 @@ use Rattle.std.specs.{
 use Rattle.seg_core.specs.declared.line_reach.{Reach.{Reach, TheVariants.{Ends, Short}}, ReachBack.ReachBack}
 use Rattle.seg_core.specs.declared.line_reach.ReachBack.TheVariants as back
 
--- the lines one after another
+-- lines, one after another
 abbrev pub joined : List (List ℕ) → List ℕ
 joined [] = []
 joined (line ∷ lines) = line ++ joined lines
 
--- the delimiter doesn't stand among the bytes
+-- the bytes have no delimiter
 abbrev pub HasNone : ℕ → List ℕ → Type 0
 HasNone delim [] = Unit {0}
 HasNone delim (byte ∷ bytes) = (byte ≢ delim) × HasNone delim bytes
@@ -28,19 +27,19 @@ IsComplete delim line = (text : List ℕ) × (line ≡ text ++ delim ∷ []) × 
 abbrev pub IsOpen : ℕ → List ℕ → Type 0
 IsOpen delim line = (0 < length line) × HasNone delim line
 
--- each line but the last is complete, and the last is complete or open
+-- each line except the last is complete, and the last is complete or open
 abbrev pub AreLines : ℕ → List (List ℕ) → Type 0
 AreLines delim [] = Unit {0}
 AreLines delim (line ∷ []) = IsComplete delim line ⊎ IsOpen delim line
 AreLines delim (line ∷ next ∷ lines) = IsComplete delim line × AreLines delim (next ∷ lines)
 
--- x cut into its lines: joined they are x, none is empty, a delimiter stands only last in a line, and only the last
--- line may lack it
+-- the lines of x: joined they are x, no line is empty, a delimiter is always the last byte of its line, and only the
+-- last line may lack its delimiter
 pub record IsLines (delim : ℕ) (x : List ℕ) (lines : List (List ℕ)) : Type 0 where
   pub whole : joined lines ≡ x
   pub each : AreLines delim lines
 
--- the one list that `IsLines` holds of
+-- the only list for which `IsLines` is true
 abbrev pub lines_of : ℕ → List ℕ → List (List ℕ)
 lines_of delim [] = []
 lines_of delim (byte ∷ bytes) = if byte == delim then (byte ∷ []) ∷ lines_of delim bytes
@@ -56,7 +55,7 @@ ends_with delim [] = false
 ends_with delim (byte ∷ []) = byte == delim
 ends_with delim (byte ∷ next ∷ bytes) = ends_with delim (next ∷ bytes)
 
--- the first n lines of a text, or all of it where it has no more
+-- the first n lines of a text, or all of it if it has fewer
 abbrev pub first_lines : ℕ → ℕ → List ℕ → List ℕ
 first_lines delim n x = joined (take n (lines_of delim x))
 
@@ -78,12 +77,12 @@ pub record EndsAt (delim n : ℕ) (x : List ℕ) (end : ℕ) : Type 0 where
   pub lines : take end x ≡ first_lines delim n x
   pub complete : delimiters delim (take end x) ≡ n
 
--- the text has fewer complete lines than n: it has `count`
+-- the text has `count` complete lines, fewer than n
 pub record FallsShort (delim n : ℕ) (x : List ℕ) (count : ℕ) : Type 0 where
   pub counted : count ≡ delimiters delim x
   pub fewer : count < n
 
--- where n lines end in a text
+-- where the first n lines of a text end, if they are complete
 abbrev pub Reaches : ℕ → ℕ → List ℕ → Reach → Type 0
 Reaches delim n x (Ends end) = EndsAt delim n x end
 Reaches delim n x (Short count) = FallsShort delim n x count
@@ -94,13 +93,13 @@ pub record BeginsAt (delim n : ℕ) (x : List ℕ) (at : ℕ) : Type 0 where
   pub after : ends_with delim (take at x) ≡ true
   pub counted : delimiters delim (drop at x) + 1 ≡ n
 
--- where the part of a text begins that follows its n-th delimiter from the end
+-- where the text after the n-th delimiter from the end begins, if there is one
 abbrev pub ReachesBack : ℕ → ℕ → List ℕ → ReachBack → Type 0
 ReachesBack delim n x (back.Begins at) = BeginsAt delim n x at
 ReachesBack delim n x (back.Short count) = FallsShort delim n x count
 
--- the last delimiter of the text ends at `end`: its complete lines stand before that place, and an open last line or
--- nothing after it
+-- the last delimiter of the text ends at `end`: all complete lines stand before this place, and an open last line or
+-- nothing stands after it
 pub record LastEndsAt (delim : ℕ) (x : List ℕ) (end : ℕ) : Type 0 where
   pub some : 0 < end
   pub within : end ≤ length x
@@ -109,7 +108,7 @@ pub record LastEndsAt (delim : ℕ) (x : List ℕ) (end : ℕ) : Type 0 where
   pub after : drop end x ≡ after_lines delim (delimiters delim x) x
   pub none_after : delimiters delim (drop end x) ≡ 0
 
--- the lines that an iterator has still to give: those of a text
+-- an iterator that has the lines of a text still to give
 pub record LinesLeft : Type 0 where
   pub delim : ℕ
   pub text : List ℕ

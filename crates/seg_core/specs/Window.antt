@@ -5,18 +5,18 @@ use Rattle.std.specs.Prelude.{ℕ, Bool, ◌==◌, ◌||◌, List, ◌++◌, len
 pub record Window : Type 0 where
   -- how many lines it is to keep
   pub most : ℕ
-  -- the byte with which they end
+  -- the byte with which lines end
   pub delim : ℕ
-  -- the bytes that it holds: what was put, less what left at the front
+  -- the bytes that it holds: all that was put, without what left at the front
   pub held : List ℕ
 
 -- a window over bytes
 pub record ByteWindowState : Type 0 where
   -- how many bytes it is to keep
   pub most : ℕ
-  -- the bytes that it holds: what was put, less what left at the front
+  -- the bytes that it holds: all that was put, without what left at the front
   pub held : List ℕ
-  -- it once held `most` bytes
+  -- whether it once held `most` bytes
   pub grown : Bool
 
 -- the window after a put
@@ -31,6 +31,6 @@ with_put window piece = record {
 abbrev pub without_front : ByteWindowState → ℕ → ByteWindowState
 without_front window n = record { most = window.most; held = drop n window.held; grown = window.grown }
 
--- the same for a window over lines
+-- a window over lines after n bytes have left at the front
 abbrev pub without_first : Window → ℕ → Window
 without_first window n = record { most = window.most; delim = window.delim; held = drop n window.held }

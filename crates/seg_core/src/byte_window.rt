@@ -12,15 +12,14 @@ use std::marker::Model;
 // How many bytes of room a window asks for at first, if it is to keep that many.
 const FIRST_ROOM: usize = 65_536;
 
-/// A window over bytes: it keeps the last `most` of what came in. It has room for 64 KiB at first, and
-/// then for twice as many bytes as before or more, but for `most` at most; once it has held `most`
-/// bytes it asks for no memory again.
+/// A window over bytes: it keeps the last `most` of what came in. It has room for 64 KiB at first, and then for at least twice as many
+/// bytes as before, but at most `most`. Once it has held `most` bytes it asks for no memory again.
 #[derive(Drop)]
 pub struct ByteWindow {
     alloc: Global,
     most: u64,
     ring: HeapCircularBuffer<u8>,
-    /// It once held `most` bytes.
+    /// Whether it once held `most` bytes.
     grown: bool,
 }
 
@@ -39,7 +38,7 @@ impl ByteWindow {
     ///
     /// # Errors
     ///
-    /// `Memory` where there is no room for it.
+    /// `Memory` if there is no room for it.
     pub fn new(alloc: Global, most: u64) -> Result<Self, Fault>
         ensures ok { IfOk result (λ window. window ≡ record { most = most; held = []; grown = (0 == most) }) }
         ensures err { IfErr result (λ fault. fault ≡ Fault.Memory) }
@@ -86,8 +85,7 @@ impl ByteWindow {
         len.saturating_sub(self.most - self.len())
     }
 
-    /// The longest run of bytes at the front that lie in one slice. It is empty only where the
-    /// window holds nothing.
+    /// The longest run of bytes at the front that lie in one slice. It is empty only if the window holds nothing.
     pub fn front(&self) -> &[u8]
         ensures front { (rest : List ℕ) × (self.now.held ≡ result.now ++ rest) }
         ensures some { 0 < length self.now.held → 0 < length result.now }
@@ -119,7 +117,7 @@ impl ByteWindow {
     ///
     /// # Errors
     ///
-    /// `Memory` where there is no room for it, and the window stays as it was.
+    /// `Memory` if there is no room for the piece. The window then stays as it was.
     pub fn put(&mut self, piece: &[u8]) -> Result<(), Fault>
         requires fits { length self.old.held + length piece.now ≤ self.old.most }
         ensures ok { OnOk result (self.new ≡ with_put self.old piece.now) }
@@ -144,8 +142,7 @@ impl ByteWindow {
     }
 }
 
-// How many bytes of room to ask for where `needed` are needed: twice the room so far, or more, but
-// no more than `most`.
+// How many bytes of room to ask for if `needed` are needed: twice the room so far, or more, but no more than `most`.
 fn room_for(room: usize, needed: usize, most: u64) -> usize
     requires fits { needed ≤ most }
     ensures enough { needed ≤ result }

@@ -9,7 +9,7 @@ use thiserror::Error;
 /// The sign before a count's digits.
 #[derive(Clone, Copy, Debug, PartialEq, Eq)]
 pub enum Sign {
-    /// None.
+    /// No sign.
     Plain,
     /// `-`
     Minus,
@@ -26,7 +26,7 @@ pub struct Count {
     pub amount: u64,
 }
 
-/// Why a text isn't a count: the first of these that holds.
+/// Why a text isn't a count: the first of these that is true.
 #[derive(Clone, Copy, Debug, PartialEq, Eq, Error)]
 pub enum CountFault {
     /// No digit stands first, or first after the sign.
@@ -66,9 +66,8 @@ const SUFFIXES: [(&[u8], u64); 17] = [
 ///
 /// # Errors
 ///
-/// The first of these that holds: `NoDigits` where no digit stands first, or first after the sign;
-/// `Suffix` where what follows the digits is no suffix; `TooLarge` where the amount is above
-/// 2^63 - 1.
+/// The first of these that is true: `NoDigits` if no digit stands first, or first after the sign; `Suffix` if what follows the digits is no
+/// suffix; `TooLarge` if the amount is above 2^63 - 1.
 pub fn read_count(text: &[u8]) -> Result<Count, CountFault>
     ensures { result ≡ count_of text.now }
 {

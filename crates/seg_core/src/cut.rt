@@ -3,15 +3,15 @@ ghost use Rattle.seg_core.specs.Cut.{most};
 
 use crate::unit::Unit;
 
-/// What ends a part, where one part follows another (POSIX.1-2017, XCU split; `LineBytes` is GNU's). Each number is at
-/// least 1. Where lines matter, the byte is the one that they end with.
+/// What ends a part, if one part follows another (POSIX.1-2017, XCU split; `LineBytes` is GNU's). Each number is at least 1. The byte is
+/// the one that lines end with.
 #[derive(Clone, Copy, Debug, PartialEq, Eq)]
 pub enum Limit {
     /// This many lines.
     Lines(u64, u8),
     /// This many bytes.
     Bytes(u64),
-    /// The last line that ends within this many bytes, or these bytes where none does.
+    /// The last line that ends within this many bytes, or these bytes if none does.
     LineBytes(u64, u8),
 }
 
@@ -51,7 +51,7 @@ pub struct Chunks {
 /// What becomes of an input (POSIX.1-2017, XCU split; chunks and lines in turn are GNU's `-n`). Places are counted from 0.
 #[derive(Clone, Copy, Debug, PartialEq, Eq)]
 pub enum Way {
-    /// It is cut into files, and its length doesn't matter.
+    /// The input is cut into files, and its length doesn't matter.
     Cut(Cut),
     /// What goes with each of its chunks goes to a file.
     Chunks(Chunks),

@@ -12,8 +12,8 @@ pub const GREATEST: u64 = 0x7fff_ffff_ffff_ffff;
 ///
 /// # Errors
 ///
-/// `NoDigits` where the text is empty or has any other byte, `TooLarge` where the number is above
-/// 2^63 - 1. It takes no suffix, so `Suffix` never comes.
+/// `NoDigits` if the text is empty or has any other byte, `TooLarge` if the number is above 2^63 - 1. It takes no suffix, so `Suffix` never
+/// comes.
 pub fn read_digits(text: &[u8]) -> Result<u64, CountFault>
     ensures { result ≡ digits_of text.now }
 {
@@ -28,8 +28,8 @@ pub fn read_digits(text: &[u8]) -> Result<u64, CountFault>
     }
 }
 
-/// The value of the digits that a text begins with, or the greatest `u64` where it is above that, and the number of these
-/// digits. It takes no memory, and time linear in these.
+/// The value of the digits that a text begins with, or the greatest `u64` if the value is above that, and the number of these digits. It
+/// takes no memory, and time linear in these.
 pub fn leading_number(text: &[u8]) -> (u64, usize)
     ensures value { result.0 ≡ min (value_of (take result.1 text.now)) (2 ^ 64 - 1) }
     ensures digits { result.1 ≡ prefix_len is_ascii_digit text.now }

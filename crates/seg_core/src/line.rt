@@ -21,7 +21,7 @@ pub(crate) const STEP: usize = 64;
 // How many bytes are counted at a time: 64 steps, and a lane can count 255.
 pub(crate) const RUN: usize = 4096;
 
-/// The lines of `bytes`, each ended by `delim` and a slice of it. It takes no memory.
+/// The lines of `bytes`, each ended by `delim`, as slices. It takes no memory.
 pub fn lines(bytes: &[u8], delim: u8) -> Lines<'_>
     ensures left { result ≡ record { delim = delim; text = bytes.now } }
     ensures are { IsLines delim bytes.now (lines_of delim bytes.now) }
@@ -30,8 +30,7 @@ pub fn lines(bytes: &[u8], delim: u8) -> Lines<'_>
     Lines::new(bytes, delim)
 }
 
-/// The first line of `bytes`, which is empty where `bytes` is, and the rest. Lines end with `delim`.
-/// It takes no memory.
+/// The first line of `bytes`, empty if `bytes` is, and the rest. Lines end with `delim`. It takes no memory.
 pub fn next_line(bytes: &[u8], delim: u8) -> (&[u8], &[u8])
     ensures joined { bytes.now ≡ result.0.now ++ result.1.now }
     ensures first { 0 < length bytes.now → lines_of delim bytes.now ≡ result.0.now ∷ lines_of delim result.1.now }
@@ -160,7 +159,7 @@ fn reach_from(bytes: &[u8], at: usize, count: usize, lines: u64, delim: u8) -> R
 {
     let mut seen = count;
     for i in at..bytes.len() {
-        // Added and not branched on: where lines are short, a branch would often be guessed wrong.
+        // Added and not branched on: if lines are short, a branch would often be guessed wrong.
         seen += usize::from(bytes[i] == delim);
         if seen as u64 == lines {
             return Reach::Ends(i + 1);

@@ -6,8 +6,8 @@ use crate::line::{RUN, STEP, count_delimiters};
 use crate::line_reach::ReachBack;
 use memchr::memrchr;
 
-/// The text without its last byte, if that is `delim`. Each delimiter that is left then ends a
-/// line after which another one follows. It takes no memory.
+/// The text without its last byte, if that is `delim`. Each delimiter that is left then ends a line after which another line follows. It
+/// takes no memory.
 pub fn last_delimiter_off(text: &[u8], delim: u8) -> &[u8]
     requires { 0 < length text.now }
     ensures front { result.now ≡ take (length result.now) text.now }
@@ -25,8 +25,8 @@ pub fn last_delimiter_off(text: &[u8], delim: u8) -> &[u8]
     }
 }
 
-/// Where the last `delim` of `bytes` ends, if there is one. The complete lines stand before that
-/// place, and an open last line or nothing after it. It takes no memory.
+/// Where the last `delim` of `bytes` ends, if there is one. The complete lines stand before that place, and an open last line or nothing
+/// stands after it. It takes no memory.
 pub fn last_delimiter_end(bytes: &[u8], delim: u8) -> Option<usize>
     ensures some { IfSome result (λ end. LastEndsAt delim bytes.now end) }
     ensures none { IfNone result (delimiters delim bytes.now ≡ 0) }
@@ -34,8 +34,8 @@ pub fn last_delimiter_end(bytes: &[u8], delim: u8) -> Option<usize>
     Some(memrchr(delim, bytes)? + 1)
 }
 
-/// Where the part of `bytes` begins that follows its delimiter number `delimiters`, counted from the
-/// end. It looks at fewer than 4096 bytes before that place, and takes no memory.
+/// Where the text after delimiter number `delimiters` of `bytes` begins, counted from the end. It looks at fewer than 4096 bytes before
+/// that place, and takes no memory.
 pub fn reach_back(bytes: &[u8], delimiters: u64, delim: u8) -> ReachBack
     requires { 0 < delimiters }
     ensures { ReachesBack delim delimiters bytes.now result }
@@ -77,7 +77,7 @@ fn skip_back(
     (end, count)
 }
 
-// The same before `end`, after which there are `count` delimiters. It goes byte by byte.
+// As `reach_back`, before `end`, after which there are `count` delimiters. It goes byte by byte.
 fn reach_back_from(bytes: &[u8], end: usize, count: usize, wanted: u64, delim: u8) -> ReachBack
     requires within { end ≤ length bytes.now }
     requires counted { count ≡ delimiters delim (drop end bytes.now) }

@@ -57,7 +57,7 @@ impl Block {
         self.bytes.len() - self.start
     }
 
-    /// How many of them are delimiters.
+    /// How many of its bytes are delimiters.
     pub(crate) fn delimiters(&self) -> usize
         ensures { result ≡ self.now.count }
     {
@@ -69,8 +69,7 @@ impl Block {
         BLOCK.saturating_sub(self.bytes.len())
     }
 
-    /// Appends bytes, of which `count` are delimiters. Where there is no memory, the block stays as
-    /// it was.
+    /// Appends bytes, of which `count` are delimiters. If there is no memory, the block stays as it was.
     pub(crate) fn append(&mut self, part: &[u8], count: usize) -> Result<(), AllocError>
         requires { count ≤ length part.now }
         ensures ok { OnOk result (self.new
@@ -97,8 +96,7 @@ impl Block {
     }
 }
 
-/// How many delimiters the first part of a text has, where both parts together have `count`. Only
-/// the shorter part is looked at.
+/// How many delimiters the first part of a text has, if both parts together have `count`. Only the shorter part is looked at.
 pub(crate) fn count_first(first: &[u8], others: &[u8], count: usize, delim: u8) -> usize
     requires { count ≡ delimiters delim first.now + delimiters delim others.now }
     ensures { result ≡ delimiters delim first.now }

@@ -106,7 +106,7 @@ fn fill(queue: &mut VecDeque<Block>, part: &[u8], count: usize) -> Result<(), Al
     }
 }
 
-/// The bytes of the first block that has any; none where no block has.
+/// The bytes of the first block that has any, or none.
 pub(crate) fn front_of(queue: &VecDeque<Block>) -> &[u8]
     ensures front { (rest : List ℕ) × (text_of queue.now.items ≡ result.now ++ rest) }
     ensures some { 0 < length (text_of queue.now.items) → 0 < length result.now }

@@ -10,12 +10,10 @@ pub enum Reach {
     Short(usize),
 }
 
-/// Where the part of a text begins that follows a delimiter, which is asked for by its number from
-/// the end.
+/// Where the text after a delimiter begins, if the delimiter is counted from the end.
 #[derive(Clone, Copy, Debug, PartialEq, Eq)]
 pub enum ReachBack {
-    /// The text has at least as many delimiters. The part begins at this place, just after the one
-    /// that was asked for.
+    /// The text has at least as many delimiters. The part begins at this place, just after the delimiter that was asked for.
     Begins(usize),
     /// The text has fewer delimiters. It has this many.
     Short(usize),

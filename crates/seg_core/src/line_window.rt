@@ -56,7 +56,7 @@ impl LineWindow {
     ///
     /// # Errors
     ///
-    /// `Memory` where there is no room for it.
+    /// `Memory` if there is no room for it.
     pub fn new(alloc: Global, most: u64, delim: u8) -> Result<Self, Fault>
         ensures ok { IfOk result (λ window. window ≡ record { most = most; delim = delim; held = [] }) }
         ensures err { IfErr result (λ fault. fault ≡ Fault.Memory) }
@@ -94,8 +94,8 @@ impl LineWindow {
         self.count_over(piece).bytes
     }
 
-    /// What `over` returns, and how many delimiters the piece has if they were counted meanwhile, so
-    /// that `put_counted` needn't count them again.
+    /// What `over` returns, and how many delimiters the piece has if they were counted meanwhile. `put_counted` then needn't count them
+    /// again.
     pub fn count_over(&self, piece: &[u8]) -> Over
         ensures bytes { result.bytes
             ≡ length (but_last_lines self.now.delim self.now.most (self.now.held ++ piece.now)) }
@@ -134,8 +134,7 @@ impl LineWindow {
         reach_in(&self.blocks, lines, self.delim)
     }
 
-    /// The longest run of bytes at the front that lie in one slice. It is empty only where the
-    /// window holds nothing.
+    /// The longest run of bytes at the front that lie in one slice. It is empty only if the window holds nothing.
     pub fn front(&self) -> &[u8]
         ensures front { (rest : List ℕ) × (self.now.held ≡ result.now ++ rest) }
         ensures some { 0 < length self.now.held → 0 < length result.now }
@@ -172,8 +171,7 @@ impl LineWindow {
     ///
     /// # Errors
     ///
-    /// `Memory` where there is no room for it, or where both together have more than 2^63-1 bytes.
-    /// The window then stays as it was.
+    /// `Memory` if there is no room for it, or if both together have more than 2^63-1 bytes. The window then stays as it was.
     pub fn put(&mut self, piece: &[u8]) -> Result<(), Fault>
         requires { but_last_lines self.old.delim self.old.most (self.old.held ++ piece.now) ≡ [] }
         ensures ok { OnOk result (self.new
@@ -188,8 +186,7 @@ impl LineWindow {
     ///
     /// # Errors
     ///
-    /// `Memory` where there is no room for it, or where both together have more than 2^63-1 bytes.
-    /// The window then stays as it was.
+    /// `Memory` if there is no room for it, or if both together have more than 2^63-1 bytes. The window then stays as it was.
     pub fn put_counted(&mut self, piece: &[u8], count: usize) -> Result<(), Fault>
         requires within { but_last_lines self.old.delim self.old.most (self.old.held ++ piece.now) ≡ [] }
         requires counted { count ≡ delimiters self.old.delim piece.now }

@@ -62,7 +62,7 @@ named_each : (names : Naming) (place : ℕ) (one : List ℕ) (those : List (List
 named_each names place one [] is = grind arith
 named_each names place one (two ∷ those) is = grind (arith, named_each names (place + 1) two those)
 
--- where all have names, none is left out
+-- if all have names, none is left out
 pub each_named : (names : Naming) (those : List (List ℕ)) → are_named names (length those) ≡ true
     → named_bytes names 0 those ≡ those
 each_named names [] are = refl
@@ -81,7 +81,7 @@ settled_files limit filing x = rw (bytes_named, settled_bytes)
 pub list_count : (limit : Limit) (x : List ℕ) → length (settled_list limit x) ≡ length (parts limit x)
 list_count limit x = rw (← settled_bytes limit x, length-map, settled_count)
 
--- where all files have names, what is written and what waits are all that came in
+-- if all files have names, what is written and what waits are all that came in
 
 abbrev pub settled_in : Limit → Filing → List ℕ → List ℕ
 settled_in limit filing x = bytes_in ((parts_work limit filing).settled x)
@@ -109,7 +109,7 @@ pub record Decides (limit : Limit) (x : List ℕ) : Type 0 where
   pub more : List (List ℕ)
   pub are : parts limit (x ++ y) ≡ settled_list limit x ++ more
 
--- the end is one, where nothing waits
+-- no further byte decides, if nothing waits
 decides_now : {limit : Limit} {x : List ℕ} → settled_rest limit (cut_up limit x).rest ≡ (cut_up limit x).rest
     → Decides limit x
 decides_now {limit} {x} same = record {
@@ -127,7 +127,7 @@ parts_first : (limit : Limit) (x : List ℕ) → is_full limit x ≡ true
     → parts limit x ≡ first_part limit x ∷ parts limit (after_first limit x)
 parts_first limit x full = rw (cut_first limit x full) refl
 
--- else bytes that end its part before what waits
+-- bytes that end a part before what waits are a continuation that decides
 pub decides_later : {limit : Limit} {x : List ℕ} → PartEnds limit (cut_up limit x).rest
     → 0 < length (settled_rest limit (cut_up limit x).rest) → Decides limit x
 decides_later {limit} {x} ends has = let cut = cut_up limit x in let next = parts limit (after_first limit (cut.rest ++ ends.more)) in record {

@@ -25,7 +25,7 @@ use Rattle.ports_core.specs.declared.fault.Fault.TheVariants as fault_is
 pub same_alike : (work : Work) (x : List ℕ) → AreAlike work x x
 same_alike work x = search rules
 
--- what follows them is no matter: it may be nothing, or more
+-- What follows doesn't matter: nothing, or more
 
 module _ {work : Work} {x z : List ℕ} (alike : AreAlike work x z) where
   pub settled_as : work.settled x ≡ work.settled z
@@ -50,7 +50,7 @@ pub alike_more : {work : Work} {x z : List ℕ} → AreAlike work x z → (piece
     → AreAlike work (x ++ piece) (z ++ piece)
 alike_more {work} {x} {z} alike piece = search (rules, append_assoc, length-append)
 
--- What isn't used of inputs that are alike, where neither beginning completes the output
+-- What isn't used of inputs that are alike, if neither beginning completes the output
 
 -- two beginnings of one text, the longer one split
 split_at : (x y u rest : List ℕ) → x ++ y ≡ u ++ rest → length x ≤ length u
@@ -121,7 +121,7 @@ module _ {S : Type 0} (terms : Terms S) where
   cuts_off same cuts start x at = rw (settled_as at.holds.alike, same x at.holds.other at.holds.alike)
       (cuts start at.holds.other (stands_so at))
 
-  -- its faults have the same causes
+  -- faults have the same causes
   met_so : (means : Means) (needs : Needs) (Lacks : Type 0) {Ends Or : Verdict → Type 0} (old new : List Slot)
       (why : Fault) → ((verdict : Verdict) → Ends verdict → Or verdict) → IsMet means needs Lacks Ends old new why
       → IsMet means needs Lacks Or old new why

@@ -89,7 +89,7 @@ front_of Bytes delim byte y {place = suc place} some = (take place y, refl)
 front_of Lines delim byte y some = (_, begun_first _ _ _ y some)
 front_of unit delim byte y {place = zero} some = absurd (omega arith)
 
--- where the size was said, the chunk that is begun gets that byte
+-- if the input showed its size, the chunk that was begun gets the next byte
 pub said_grows : (chunks : Chunks) {size : ℕ} (x : List ℕ) → 0 < chunks.count → length x < size
     → Grows chunks (Some size) x (chunks_of chunks size x).rest
 said_grows chunks {size} x some short byte small =
@@ -120,7 +120,7 @@ said_grows chunks {size} x some short byte small =
       alone = subst (All (λ one. one ≡ byte)) (sym rest) (All-replicate (λ one. one ≡ byte) (suc k) byte refl);
     }
 
--- where it wasn't, the first chunk gets it, if enough comes
+-- if it showed none, the first chunk gets the next byte, if enough bytes come
 pub none_grows : (chunks : Chunks) (x : List ℕ) → 0 < chunks.count → Grows chunks None x x
 none_grows chunks x some byte small =
     let size = length x + suc (length x) * chunks.count in
@@ -138,7 +138,7 @@ none_grows chunks x some byte small =
       alone = on.alone;
     }
 
--- all these bytes are this one
+-- all bytes of these pieces are this byte
 record IsAlone (byte : ℕ) (pieces : List (List ℕ)) : Type 0 where
   all : All (λ one. one ≡ byte) (joined pieces)
 
@@ -162,7 +162,7 @@ module _ (elide : Bool) {chunks : Chunks} {said : Option ℕ} {x r : List ℕ} {
 
 -- What two continuations have in common
 
--- where all bytes are the same, each file begins with that one
+-- if all bytes are the same, each file begins with this byte
 first_alone : {c : ℕ} (byte : ℕ) (bytes : List ℕ) {pieces : List (List ℕ)} (place : ℕ) → IsAlone c pieces
     → IsBeginning (byte ∷ bytes) (get_or pieces place []) → byte ≡ c
 first_alone byte bytes {pieces = []} place run begins = absurd (omega (arith, beginning_short (byte ∷ bytes) [] begins))
@@ -175,7 +175,7 @@ first_alone {c} byte bytes {pieces = piece ∷ pieces} (suc place) run begins =
 pub first_made : (r : List ℕ) → get_or (unless_empty r) 0 [] ≡ r
 first_made r = grind arith
 
--- they have no more than what is there
+-- two continuations have no more in common than what is there
 apart : {more other : List ℕ} {later others : List (List ℕ)} (front : List (List ℕ)) (r : List ℕ) (place : ℕ)
     (bytes : List ℕ) → IsAlone 0 ((0 ∷ more) ∷ later) → IsAlone 1 ((1 ∷ other) ∷ others)
     → IsBeginning bytes (get_or (front ++ (r ++ 0 ∷ more) ∷ later) place [])
@@ -305,7 +305,7 @@ module _ (plan : ChunksPlan) (said : Option ℕ) (x : List ℕ) (some : 0 < plan
     longest (suc place) = let whole = λ (w : List ℕ). whole_files plan said w some named in
         simp (whole, settled_files plan said x some named) (files_longest plan.elide plan.chunks said x place some fits)
 
-  -- where nothing is told, that is all of it
+  -- if standard output gets no lines, the files are all that is agreed on
   pub chunks_agreed : plan.filing.verbose ≡ false
       → AgreeAt (CanFollow said x) (chunks_work plan said) x ((chunks_work plan said).settled x)
   chunks_agreed quiet = rw quiet (rw quiet at files_agreed)

@@ -37,7 +37,7 @@ module _ (place : ℕ) (chunks : Chunks) (size : ℕ) (can : place < chunks.coun
       ≡ x ++ begun_before chunks.unit chunks.delim (max (start at - length x) 1) y
   begun_so x y at before past = grind (arith, begun_on, open_within)
 
-  -- as long as it hasn't begun, more can come
+  -- as long as the chunk hasn't begun, more can come
   pub goes_on : (x : List ℕ) → length x < start (place + 1) → has_ended chunks size x place ≡ false
   goes_on x before = grind (arith, open_within)
 

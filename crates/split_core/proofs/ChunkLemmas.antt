@@ -117,7 +117,7 @@ module _ (chunks : Chunks) (x : List ℕ) where
   pub join_chunks : 0 < chunks.count → joined (chunks_in chunks x) ≡ x
   join_chunks some = grind (arith, common_steps, chunks_in_are, joined_chunks, begun_long)
 
-  -- those of bytes
+  -- chunks of bytes
   pub bytes_in_chunk : (place : ℕ) → place < chunks.count → chunks.unit ≡ Bytes
       → get_or (chunks_in chunks x) place [] ≡ take (start (place + 1) - start place) (drop (start place) x)
   bytes_in_chunk place within is = grind (arith, common_steps, chunks_in_are, get_or-map-range_with_len, drop_take)
@@ -129,7 +129,7 @@ module _ (chunks : Chunks) (x : List ℕ) where
   pub even_chunks : chunks.unit ≡ Bytes → AreEven chunks.count x (chunks_in chunks x)
   even_chunks is place within = grind (arith, nat_tests, chunk_length)
 
-  -- of those of lines no line is cut
+  -- chunks of lines cut no line
   pub lines_in_chunks : 0 < chunks.count → chunks.unit ≡ Lines → KeepLines chunks.delim x (chunks_in chunks x)
   lines_in_chunks some is = grind (
     arith,
@@ -149,7 +149,7 @@ pub few_files : (chunks : Chunks) (size : ℕ) (x : List ℕ) → 0 < chunks.cou
     → length (files_by false (chunks_of chunks size x)) ≤ chunks.count
 few_files chunks size x some = grind (arith, common_steps, ended_is, length-map-range_with_len)
 
--- where all have names, the files have these bytes
+-- if all files have names, they have these bytes
 pub bytes_filed : (filing : Filing) (count : ℕ) (those : List (List ℕ)) → are_named filing.names count ≡ true
     → length those ≤ count → file_bytes (part_of (manner_of filing) (map (share Closed) those)) ≡ those
 bytes_filed filing count those named few = shared_bytes filing Closed those

@@ -54,7 +54,7 @@ two_differ elide {r = r} given pick on at = let one = on 0 (omega arith) in let 
 
 -- What all continuations have
 
--- more comes, or they have what is decided
+-- more can come, or every end has what is decided
 grows_or_ends : (chunks : Chunks) (said : Option ℕ) (x : List ℕ) → 0 < chunks.count
     → ((r : List ℕ) × Grows chunks said x r) ⊎ ((y : List ℕ) → CanFollow said x y
     → in_the_end chunks said (x ++ y) ≡ record { full = (decided chunks 1 said x).full; rest = [] })
@@ -84,7 +84,7 @@ files_then filing count place [] rest named few = grind arith
 files_then filing count place (one ∷ front) rest named few =
     grind (arith, files_then filing count (place + 1) front rest named)
 
--- the one that is open has a byte
+-- the file that is open has a byte
 begun_by : (filing : Filing) (place : ℕ) (rest : List ℕ)
     → let next = files_from (manner_of filing) place (map (share Open) (unless_empty rest)) in
     (next ≡ []) ⊎ ((file : File) × (next ≡ file ∷ []) × (file.state ≡ Open) × (0 < length file.bytes))
@@ -131,7 +131,7 @@ module _ (plan : ChunksPlan) (said : Option ℕ) (x : List ℕ) (some : 0 < plan
     are_closed = closed_files (manner_of plan.filing) 0 front;
     stay = λ y comes. let (tail, is) = ended_first plan.elide plan.chunks said x y some in
         rw (whole_so y tail is) (take-append_seam closed _);
-    -- each continuation makes these alone, or two differ in the next one
+    -- each continuation makes these files alone, or two differ in the next file
     most = elim (grows_or_ends plan.chunks said x some) [
       | inl (r, on) ↦ inr (two_differ plan.elide (λ w. take (suc (length closed)) (chunks_whole plan said w).files)
           (λ files. get_or (map bytes_of files) (length front) []) on (λ y.
@@ -199,7 +199,7 @@ module _ (chunks : Chunks) (filing : Filing) (said : Option ℕ) (x : List ℕ) 
     whole_files (plan_by false) said x some named,
   )
 
--- An input that has another length than it said
+-- An input that has another length than it showed
 
 pub changed_told : (plan : ChunksPlan) (size : ℕ) (x : List ℕ) → (length x ≡ size → ⊥)
     → (chunks_work plan (Some size)).verdict x ≡ Some Changed

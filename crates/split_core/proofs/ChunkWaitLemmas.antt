@@ -34,7 +34,7 @@ decided_all elide chunks (Some size) x some fits =
     append-nil _ ∙ joined_files elide (chunks_of chunks size x) ∙ all_joined chunks size x some
     ∙ take_all size x (ltb-false _ _ fits)
 
--- Where the others go
+-- Where the bytes go that wait
 
 files_differ : (plan : ChunksPlan) (said : Option ℕ) (x : List ℕ) → 0 < plan.chunks.count
     → are_named plan.filing.names plan.chunks.count ≡ true → is_longer said x ≡ false → (i : ℕ)

@@ -45,7 +45,7 @@ use Rattle.split_core.proofs.{
 
 -- What is made
 
--- of a text within its size
+-- what is settled of a text within its size
 settled_within : (on : Course) (chunks : Chunks) (size : ℕ) (x : List ℕ) → length x ≤ size
     → part_on on (chunks_within chunks size x) ≡ (work_on on chunks (Some size)).settled x
 settled_within on chunks size x fits = grind (arith, common_steps)
@@ -54,9 +54,9 @@ pub whole_within : (on : Course) (chunks : Chunks) (size : ℕ) (x : List ℕ) �
     → whole_on on (chunks_within chunks size x) ≡ (work_on on chunks (Some size)).whole x
 whole_within on chunks size x fits = grind (arith, common_steps)
 
--- Where the size was said
+-- If the input showed its size
 
--- the output is complete just where the one chunk that is written has ended
+-- the output is complete exactly if the one chunk that is written has ended
 past_at : (chunks : Chunks) (size place : ℕ) (on : Course) (x : List ℕ) → can_cut on chunks.count ≡ true
     → length x ≤ size → ended chunks size x ≡ place
     → is_past_at on place ≡ (work_on on chunks (Some size)).is_complete x
@@ -67,7 +67,7 @@ pub past_is : {cutter : CutterState} {size : ℕ} {x : List ℕ} → IsCut cutte
     → is_past_on cutter.sink ≡ (said_work cutter size).is_complete x
 past_is {cutter} {size} {x} is = past_at _ _ _ _ x is.cut.can is.fits (placed_at is)
 
--- and where a text has its size
+-- one chunk is complete once a text has its size
 full_at : (on : Course) (chunks : Chunks) (size : ℕ) (x : List ℕ) → can_cut on chunks.count ≡ true
     → is_each_on on ≡ false → size ≤ length x → (work_on on chunks (Some size)).is_complete x ≡ true
 full_at (in_files filing elide) chunks size x can one full = absurd (false≢true (sym one))
@@ -121,7 +121,7 @@ module _ {chunker : ChunkerState} {next : CutterState} {size : ℕ} {piece : Lis
   fits_done : length (has.spare.used ++ done) ≤ size
   fits_done = omega (arith, done_fits takes (within_size has), has.cut.at, length-append has.spare.used done)
 
-  -- once it is complete, none of the piece is used
+  -- once the output is complete, none of the piece is used
   none_done : (said_work chunker.cutter size).is_complete has.spare.used ≡ true → length piece - past ≡ 0
   none_done complete = omega (arith, takes.still (past_is (cut_is has) ∙ complete))
 
@@ -264,7 +264,7 @@ module _ {chunker : ChunkerState} {next : CutterState} {size : ℕ} (piece : Lis
             (cut_brings cuts fits has));
       }) (λ x holds. tt)
 
--- the input has more than it said
+-- the input has more than it showed
 each_course : (on : Course) (chunks : Chunks) (size : ℕ) → is_each_on on ≡ true → (x : List ℕ)
     → (work_on on chunks (Some size)).is_complete x ≡ nat_lt size (length x)
 each_course (in_files filing elide) chunks size each x = refl
@@ -347,18 +347,18 @@ module _ (chunker : ChunkerState) {next : CutterState} {size : ℕ} (piece : Lis
         each_judges (course chunker.cutter) chunker.cutter.chunks size this (x ++ piece) (longer_differs size (x ++ piece) longer),
       ))
 
--- The end of an input that said its length
+-- The end of an input that showed its length
 
 shorter_differs : (size n : ℕ) → n < size → eqb n size ≡ false
 shorter_differs size n less = grind (arith, common_steps)
 
--- where the output is complete, it was one chunk's
+-- if the output is complete, only one chunk is written
 complete_whole : (on : Course) (chunks : Chunks) (size : ℕ) (x : List ℕ) → length x ≤ size
     → (work_on on chunks (Some size)).is_complete x ≡ true → (cut : CutUp) → part_on on cut ≡ whole_on on cut
 complete_whole (in_files filing elide) chunks size x fits complete = grind (arith, common_steps)
 complete_whole (in_output chunk) chunks size x fits complete = λ cut. refl
 
--- and it is the whole, whatever else comes
+-- a complete output is the whole, whatever else comes
 pub complete_all : (on : Course) (chunks : Chunks) (size : ℕ) (used rest : List ℕ) → can_cut on chunks.count ≡ true
     → length used ≤ size → (work_on on chunks (Some size)).is_complete used ≡ true
     → whole_on on (chunks_within chunks size used) ≡ (work_on on chunks (Some size)).whole (used ++ rest)

@@ -34,7 +34,7 @@ use Rattle.split_core.specs.declared.splitter.Splitter.TheVariants as way
 
 -- What is made
 
--- the same was asked for
+-- the work is the same if the same was asked for
 same_work : (state next : ChunkerState) → IsLike state next → course next.cutter ≡ course state.cutter
     → work next ≡ work state
 same_work state next like stays = cc
@@ -71,7 +71,7 @@ module _ (chunks : Chunks) (Why : Judgement → Type 0) (old new : List Slot) (f
       met_files (is_none said) _ _ Why (manner_of filing) filing.verbose old new fault (refl, refl) refl refl breaks ends
   met_feeding (in_output chunk) said breaks of = met_output (is_none said) _ _ Why old new chunk fault breaks of
 
-  -- where an output broke, no need matters
+  -- if an output broke, no need matters
   met_broken : (means : Means) (needs other : Needs) (Lacks Or : Type 0) → IsWrite fault
       → IsMet means needs Lacks Why old new fault → IsMet means other Or Why old new fault
   met_broken means needs other Lacks Or (slot, is) met =
@@ -163,7 +163,7 @@ pub lacks_room : {told : Bool} (old : ChunkerState) {piece : List ℕ} {slots : 
 lacks_room old unsaid = passes_lacking (way.Chunks old) _ _ refl (omega arith) (λ first owns. owns)
     (feeds_memory (course old.cutter) old.cutter.chunks unsaid)
 
--- And the end
+-- The call at the end
 
 aimed_writable : (aim : AimState) (chunks : Chunks) (said : Option ℕ) (slots : List Slot) → IsAimed aim slots
     → writes (work_on (course_of aim) chunks said).means.output ≡ true → IsTrue (is_writable slots 0)
@@ -225,7 +225,7 @@ chunks_wait state x holds = search rules
 pub no_suffixes : (state : ChunkerState) (x : List ℕ) → Judges (work state) x Suffixes → ⊥
 no_suffixes state x = grind (arith, common_steps)
 
--- where all go to files, more can come until there is more than was said
+-- if all chunks go to files, more can come until there is more than was shown
 
 -- what doesn't write bytes of its own to standard output isn't complete
 pub open_beside : (state : ChunkerState) (z : List ℕ) (those : Work) → work state ≡ those

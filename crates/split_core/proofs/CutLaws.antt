@@ -52,7 +52,7 @@ dealt_same n file one other [] same = refl
 dealt_same n file one other (line ∷ lines) same =
     cc (dealt_same n file (one + 1) (other + 1) lines (cc (mod-add-mod one n 1, mod-add-mod other n 1)))
 
--- of n files those past the last get none
+-- if there are n files, files past the last get nothing
 pub dealt_past : (n file place : ℕ) (lines : List (List ℕ)) → 0 < n → n ≤ file → dealt n file place lines ≡ []
 dealt_past n file place [] some past = refl
 dealt_past n file place (line ∷ lines) some past =

@@ -112,7 +112,7 @@ one_within : (delim byte : ℕ) (ends : Bool) → eqb byte delim ≡ ends → is
 one_within delim byte true is = rw is refl
 one_within delim byte false is = rw is refl
 
--- a text ends within a line where its last byte ends none
+-- a text ends within a line exactly if its last byte is no delimiter
 pub within_by : (delim : ℕ) (x : List ℕ) → 0 < length x
     → is_within Lines delim x ≡ not (eqb (get_or x (length x - 1) 0) delim)
 within_by delim x some = let n = length x - 1 in
@@ -123,7 +123,7 @@ within_by delim x some = let n = length x - 1 in
 
 -- The chunks that have ended
 
--- where a line is open before the end of its chunk, no more
+-- if a line is open before the end of its chunk, no further chunk has ended
 pub still_ended : (chunks : Chunks) (size place : ℕ) (x : List ℕ) → length x < size
     → before_chunk chunks size (place + 1) x ≡ x → is_within chunks.unit chunks.delim x ≡ true
     → place ≤ ended chunks size x → ended chunks size x ≡ place
@@ -133,7 +133,7 @@ still_ended chunks size place x short all within from = let is = ended_is chunks
   next = λ less. omega (arith, passed_open chunks size x short, open_early chunks.unit chunks.delim _ x all within);
 })
 
--- else just those before the text's end
+-- if no line is open before the text has its size, all of the text is passed
 passed_all : (chunks : Chunks) (size : ℕ) (x : List ℕ) → length x ≤ size
     → (is_within chunks.unit chunks.delim x ≡ true → size ≤ length x) → passed chunks size x ≡ length x
 passed_all chunks size x fits whole = grind (arith, common_steps, cases_lt, passed_open, passed_full, no_line)
@@ -155,7 +155,7 @@ ends_open {told} {cutter} {size} {slots} ready within short = record {
 
 -- Chunks end one after another
 
--- each of them changes what is there to what it is once it ended
+-- each chunk that ends changes what is there to what is there after it
 pub record Ending (told : Bool) (cutter : CutterState) (size : ℕ) (old slots : List Slot) (now : CutterState)
     : Type 0 where
   pub chunks : now.chunks ≡ cutter.chunks
@@ -353,7 +353,7 @@ so_grows on chunks size x y some within =
     rw (← cut_of chunks size x (omega (arith, length-append x y)), ← cut_of chunks size (x ++ y) within)
     (begin_so _ _ _ (chunks_go_on _ _ x y some))
 
--- what is known of a text of which so much was cut off, where more comes than its size is long
+-- what is known of a text of which so much was cut off, if more comes than its size is long
 pub record Place (cutter : CutterState) (size : ℕ) (x : List ℕ) : Type 0 where
   pub short : length x < size
   pub some : 0 < cutter.chunks.count
@@ -404,13 +404,13 @@ end_here : {cutter : CutterState} {size : ℕ} {x : List ℕ} → Place cutter s
     → end_so cutter size ≡ chunk_start cutter.chunks.count size (cutter.sink.place + 1)
 end_here {cutter} at = grind (arith, common_steps)
 
--- all of it stands before that
+-- what is cut off next stands before the end of the chunk that was begun
 all_within : {cutter : CutterState} {size : ℕ} {x : List ℕ} (text : List ℕ) → IsCut cutter size x → Place cutter size x
     → before_chunk cutter.chunks size (ended cutter.chunks size x + 1) (x ++ cut_to cutter (end_so cutter size) text)
     ≡ x ++ cut_to cutter (end_so cutter size) text
 all_within {cutter} {size} {x} text is at = grind (arith, common_steps, ended_is, end_here, piece_all)
 
--- and the chunks end that have all then
+-- bytes were cut off, and the chunks that have all then end
 pub record Cutting (cutter mid : CutterState) (y : List ℕ) : Type 0 where
   pub some : 0 < length y
   pub chunks : mid.chunks ≡ cutter.chunks
@@ -459,7 +459,7 @@ cuts_on {told} {cutter} {mid} {next} {size} text {y} {old} {new = new} fault is 
         from = rw (step.chunks, step.place, ← place.is) (ended_grows _ _ x y);
       })))
 
--- a fault came as it was written
+-- a fault came as a stretch was written
 fulls_follow : (on : Course) (low : CutUp) {high : CutUp} (n : ℕ) → with_fulls n low ≡ high
     → Begins (part_on on low) (part_on on high)
 fulls_follow on low n is = let e : 0 + n ≡ n = omega arith in rw (e, is) at (fulls_begin on low 0 n)
@@ -527,7 +527,7 @@ needed_in {cutter} {size} {x} text n going some few is has within = let chunks =
     (omega (arith, length-append x (take (n - 1) text), length-take (n - 1) text, length-append x text))
     (rw place.is at (begins_early _ _ _ z _ all (omega arith))) going
 
--- where a stretch was written
+-- if a stretch was written
 pub cutting : {told : Bool} {cutter mid : CutterState} {end n : ℕ} (text : List ℕ) {old new : List Slot}
     → WritesTo told cutter end text old new mid (Ok n) → Cutting cutter mid (take n text)
 cutting {n = n} text writes = grind (arith, common_steps)

@@ -73,7 +73,7 @@ mask_after delim zero (byte ∷ x) = ap (λ n. n / 2) (div-one _) ∙ half _
 mask_after delim (suc at) (byte ∷ x) = let power : 2 ^ suc at ≡ 2 * 2 ^ at = omega arith in
     cc (power, div-div-eq-div-mul (cond (eqb byte delim) 1 0 + 2 * delimiter_mask delim x) 2 (2 ^ at), half (eqb byte delim), mask_after delim at x)
 
--- the first line, where the first delimiter is known
+-- the first line, if the first delimiter is known
 pub first_line : {delim : ℕ} {x : List ℕ} {at : ℕ} → IsFirstAt delim x at
     → IsFirstLine delim x (take (at + 1) x) (drop (at + 1) x)
 first_line {delim} {x} {at} first =
@@ -96,7 +96,7 @@ pub sees_further : {delim : ℕ} {x : List ℕ} {ahead : Ahead} (passed : ℕ) {
     → Sees delim x (record { passed = passed; width = width; mask = mask })
 sees_further passed sees none is wide marked = grind (arith, common_steps, all_passed, take_min, length-drop)
 
--- where all of the text is known and no bit is set, it has no delimiter
+-- if all of the text is known and no bit is set, it has no delimiter
 pub none_seen : {delim : ℕ} {x : List ℕ} {ahead : Ahead} → Sees delim x ahead → ahead.mask ≡ 0
     → ahead.passed + ahead.width ≡ length x → delimiters delim x ≡ 0
 none_seen sees none all = grind (arith, common_steps, delimiters-none, take_all, all_passed)
@@ -122,7 +122,7 @@ seen_at {delim} {x} {ahead} sees some =
     rw lowest (first_marked _ (rw (← sees.marked) (omega arith))) in
     (first_of_text _ _ sees.within sees.none first, (omega (arith, first.within, length-window)))
 
--- where the line ends there, the rest of the mask is that of what follows
+-- if the line ends there, the rest of the mask is that of what follows
 pub sees_rest : {delim : ℕ} {x : List ℕ} {ahead : Ahead} (at : ℕ) {mask : ℕ} → Sees delim x ahead → at < ahead.width
     → mask ≡ ahead.mask / 2 ^ at / 2
     → Sees delim (drop (ahead.passed + at + 1) x) (record { passed = 0; width = ahead.width - (at + 1); mask = mask })
@@ -149,7 +149,7 @@ mask_of_padded delim other x {lanes} short complement small is =
     rw (take_all 64 lanes (omega (arith, ap length is, length-append {A = ℕ}, length-replicate {A = ℕ})), is, take_all 64 x (omega arith))
     (mask_padded _ _ x _ (ne_eqb other delim (λ same. omega arith)))
 
--- of a piece what is left is still to be gathered
+-- what is left of a piece is still to be gathered
 pub record Dealing (delim n start : ℕ) (piece : List ℕ) (gathered : List (List ℕ)) (next reached : ℕ) (left : List ℕ)
     : Type 0 where
   pub count : length gathered ≡ n
@@ -240,7 +240,7 @@ pub appended : (gathered : List (List ℕ)) (place : ℕ) {had : List ℕ} (now 
 appended gathered place {had} now line result within at is =
     on_ok_weaker result (λ (same : now ≡ had ++ line). cc (same, set-changed gathered place (λ those. those ++ line) had within at)) is
 
--- of a chunk that was copied the first bytes count
+-- the first bytes of a chunk that was copied count
 pub chunk_taken : (room : List ℕ) {new : List ℕ} (text : List ℕ) (at n chunk : ℕ)
     → new ≡ take at room ++ (take chunk text ++ drop (at + chunk) room) → at ≤ length room → n ≤ chunk
     → chunk ≤ length text → take (at + n) new ≡ take at room ++ take n text

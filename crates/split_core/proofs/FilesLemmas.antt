@@ -77,7 +77,7 @@ drop_by f k start n is = search rules
 
 -- From some files to others
 
--- of one more file standard output is told what it is told before that is opened
+-- what standard output gets about one more file, it gets before the file is opened
 told_more : (verbose : Bool) (file : ℕ → File) (n : ℕ)
     → told_of_files (output_by verbose) (map file (range_with_len 0 (n + 1)))
     ≡ told_of_files (output_by verbose) (map file (range_with_len 0 n)) ++ told_before (output_by verbose) (file n).name
@@ -88,7 +88,7 @@ told_more true file n = cc (
   append-nil (opening_line (file n).name),
 )
 
--- what files have is no matter of what it is told of them
+-- what standard output gets about files doesn't depend on what they have
 told_same : (verbose : Bool) (low high : ℕ → File) → ((i : ℕ) → (low i).name ≡ (high i).name) → (start n : ℕ)
     → told_of_files (output_by verbose) (map low (range_with_len start n))
     ≡ told_of_files (output_by verbose) (map high (range_with_len start n))
@@ -133,9 +133,9 @@ grow_by {had = had} more less most outside are = record {
   same = λ i out. cc (are i, outside i out, append-nil (had i));
 }
 
--- A fault that stopped them
+-- A fault that stopped the files
 
--- the next one of many is that after some files
+-- the next of many files is the one after some files
 next_due : (filing : Filing) {out : List ℕ} (part high : ℕ → Share) {some many most : ℕ} {name : List ℕ} → many ≤ most
     → (name ≡ name_at filing.names some) × (some < many)
     → IsNext (record { out = out; files = files_by filing part some }) (part_by filing high most) name
@@ -150,7 +150,7 @@ next_due filing part high {some} {many} {most} more (is, less) = let file : ℕ 
   name_is = sym is;
 }
 
--- the lines that standard output got since it was told of some
+-- the lines that standard output got after those for some files
 lines_in : (verbose : Bool) (low : List File) (part high : Part) (place : ℕ) (bytes : List ℕ) (why : Fault)
     → FilesBegin low part.files → part.out ≡ told_of_files (output_by verbose) part.files ++ bytes
     → IsDueLine (IsNext part high) (told_before (output_by verbose)) bytes why
@@ -162,7 +162,7 @@ lines_in true low part high place bytes why begins is due = record {
   due = due;
 }
 
--- It came at a place, where some of many had got what they have, and standard output a beginning of the line for the file that is due.
+-- A fault came at a place: some of many files had all, and standard output a beginning of the line for the file that is due.
 halts_at : {told : Bool} {before : List Slot} {filing : Filing} {part : ℕ → Share} {some many place : ℕ}
     {why : Fault} {reached now : List Slot} (Due : List ℕ → Type 0) (bytes : List ℕ) → place ≤ some → some ≤ many
     → ((name : List ℕ) → Due name → (name ≡ name_at filing.names some) × (some < many))
@@ -209,7 +209,7 @@ halts_at {filing = filing} {part} {some} {place = place} {why} {reached} {now} D
   own = λ other is. grind (arith, rw is at came, outputs.standard);
 }
 
--- nothing was told of a file that isn't open
+-- standard output got nothing about a file that isn't open
 halts : {told : Bool} {before : List Slot} {filing : Filing} {part : ℕ → Share} {some place : ℕ} {why : Fault}
     {reached now : List Slot} → IsNoOpen why → place ≤ some → OutputsAt told before (part_by filing part some) reached
     → Marks (λ name. ⊥) why reached now → IsAt why (length before) place some
@@ -318,8 +318,8 @@ ready_opened {files} {old} {new} name ready is =
     let can : CanTell files.tells new = can_tell _ _ _ (writable_before _ _ 0 _ (let two = ready.streams in omega arith) is) ready.output in
     grind (arith, elements, get_or_append_left, writable_within, opened_writable)
 
--- The file could not be opened: then a name was drawn for it, or no output was added; and standard output can break only where it is
--- told of files.
+-- The file could not be opened: then a name was drawn for it, or no output was added; and standard output can break only if it gets lines
+-- about files.
 fails_caused : {told : Bool} {files : FilesState} {next : Names} {old new : List Slot} {why : Fault}
     → AreReady files old → IsTrue (has_next files.names) → OpensNone told files.tells files.names next old new why
     → Breaks (manner_by files.names.naming (output_of files.tells)) old new why
@@ -340,12 +340,12 @@ pub cannot_later : (verbose other : Bool) (old mid new : List Slot) {why : Fault
     → KeepsBroken old mid → CannotOpen other mid new why → CannotOpen verbose old new why
 cannot_later verbose other old mid new same stay fails = grind (arith, common_steps, rose_later)
 
--- what it is told of the next file
+-- what standard output gets about the next file
 line_is : {files : FilesState} {slots : List Slot} → AreReady files slots → line_next files.tells files.names
     ≡ told_before (output_by (is_verbose files.tells)) (name_at files.names.naming (length files.outputs))
 line_is ready = cc (ready.tells, ready.drawn)
 
--- the next file was opened, after standard output was told of it
+-- the next file was opened, after the line about it
 pub reached : (told : Bool) (files : FilesState) {old new : List Slot} (place : ℕ) → AreReady files old
     → place ≡ length files.outputs
     → new ≡ told_next told files.tells files.names old ++ opened (next_name files.names) Fresh ∷ []
@@ -375,7 +375,7 @@ reached told files {old} place ready here is =
       caused = tt;
     }
 
--- or it couldn't be
+-- the next file couldn't be opened
 pub reached_not : (told : Bool) (files : FilesState) {names : Names} {old new : List Slot} (place : ℕ) {why : Fault}
     → AreReady files old → place ≡ length files.outputs → has_name files.names.naming place ≡ true
     → names.naming ≡ files.names.naming → OpensNone told files.tells files.names names old new why
@@ -405,7 +405,7 @@ reached_not told files {old = old} place ready here named same fails =
 
 -- Writing
 
--- of files the one at a place changed
+-- only the file at a place changed
 changed_files : (filing : Filing) (makes : File → File) (low high : ℕ → Share) {n place : ℕ} → place < n
     → ((i : ℕ) → (i ≡ place → ⊥) → low i ≡ high i)
     → makes (file_at filing place (low place)) ≡ file_at filing place (high place)

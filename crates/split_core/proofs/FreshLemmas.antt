@@ -45,7 +45,7 @@ module _ (chunks : Chunks) (sink : SinkState) (can : can_cut (course_of sink.aim
     waits = none;
   }
 
--- and nothing is settled
+-- nothing is settled
 
 none_decided : (chunks : Chunks) (first : ℕ) (said : Option ℕ) → 0 < chunks.count → IfSome said (λ size. 0 < size)
     → decided chunks first said [] ≡ uncut []

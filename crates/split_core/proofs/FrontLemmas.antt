@@ -37,7 +37,7 @@ pub record AsksFor (chunker : ChunkerState) (size chunk : ℕ) : Type 0 where
   pub aim : chunker.cutter.sink.aim ≡ to_output chunk
   pub fresh : Holds chunker []
 
--- A text that it may have been fed: no more bytes than stand before the chunk. With them the chunk at a place was begun.
+-- A text that the engine may have been fed: no more bytes than stand before the chunk. With them the chunk at a place was begun.
 record Begins (chunks : Chunks) (size chunk place : ℕ) (within : Bool) (z : List ℕ) : Type 0 where
   before : length z ≤ chunk_start chunks.count size chunk
   some : length z < chunk_start chunks.count size (chunk + 1)
@@ -79,7 +79,7 @@ module _ {chunker : ChunkerState} {size chunk : ℕ} (asks : AsksFor chunker siz
   fits : {place : ℕ} {within : Bool} {z : List ℕ} → Begins chunks size chunk place within z → length z < size
   fits begins = omega (arith, begins.some, ends_in)
 
-  -- nothing is written of it
+  -- nothing is written of this text
   writes_none : {place : ℕ} {within : Bool} {z : List ℕ} → Begins chunks size chunk place within z
       → (chunk_work chunk chunks (Some size)).settled z ≡ nothing
   writes_none {z = z} begins =
@@ -138,7 +138,7 @@ module _ {chunker : ChunkerState} {size chunk : ℕ} (asks : AsksFor chunker siz
     going = inr (ap (λ (those : Work). those.is_complete z) it ∙ goes_on chunk chunks size less z begins.some);
   }
 
-  -- so it does where it was fed another one that is alike
+  -- nothing is written if the stage was fed another text that is alike
   took_other : {place : ℕ} {within : Bool} {z : List ℕ} → Begins chunks size chunk place within z
       → (front : ℕ) (x : List ℕ) → front ≡ length x → AreAlike (chunk_work chunk chunks (Some size)) x z
       → TookIn (as_if ways.terms) (way.Chunks chunker) (way.Chunks (passed_to chunker front place within)) x
@@ -147,7 +147,7 @@ module _ {chunker : ChunkerState} {size chunk : ℕ} (asks : AsksFor chunker siz
       (sym (long ∙ alike.long))
       (took_as ways.terms (subst (λ work. AreAlike work x z) (sym it) alike) (took_in begins))
 
-  -- where bytes are counted, all that stands before a chunk that has a byte
+  -- of bytes, all that stands before a chunk that has a byte is passed over
   pub takes_bytes : chunks.unit ≡ Bytes → start chunk < start (chunk + 1)
       → TakesFront chunker (start chunk, chunk, false)
   takes_bytes unit some x long = took_other {z = x} (record {
@@ -164,7 +164,7 @@ module _ {chunker : ChunkerState} {size chunk : ℕ} (asks : AsksFor chunker siz
     has_passed = passed_open chunks size x (omega (arith, long, some, ends_in))
         ∙ ap (λ unit. open_from unit chunks.delim x) unit
 
-  -- where lines are, all but the byte before it: as if it had been a text without a delimiter
+  -- of lines, all except the last byte before the chunk is passed over, as if it had no delimiter
   abbrev without : ℕ → List ℕ
   without n = replicate n (chunks.delim + 1)
 

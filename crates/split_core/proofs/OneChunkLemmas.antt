@@ -1,4 +1,4 @@
--- What waits where one chunk alone is written.
+-- What waits if only one chunk is written.
 use Rattle.std.proofs.{
   lemmas.{Grind.common_steps, Bool.{cases_lt, cond_both, le-ltb, lt-ltb, Decides.nat_tests}, List.append-nil},
   Common.{◌≡◌, ◌≢◌, ℕ, ◌+◌, ◌-◌, ◌*◌, ◌/◌, ◌%◌, ◌<◌, ◌≤◌, max, zero, suc, nat_lt, true, cond, List, []},
@@ -58,7 +58,7 @@ module _ (place : ℕ) (chunks : Chunks) (within : place < chunks.count) where
   front_more : (size : ℕ) (x y : List ℕ) (at : ℕ) → front size x at ≤ front size (x ++ y) at
   front_more size x y at = grind (arith, begun_grows, beginning_short)
 
-  -- that stays, once a byte stands after them
+  -- what stands before a chunk stays, once a byte stands after it
   front_stays : (size : ℕ) (x y : List ℕ) (at i : ℕ) → i < length x → front size x at ≤ i
       → front size (x ++ y) at ≡ front size x at
   front_stays size x y at i less past = grind (arith, begun_all, begun_stays)
@@ -70,7 +70,7 @@ module _ (place : ℕ) (chunks : Chunks) (within : place < chunks.count) where
       → one_chunk_spots place chunks said w i ≡ spots_at (size_by said w) w i
   spots_are said w i is = grind (arith, common_steps, piece_is, join_first, said_size)
 
-  -- what follows x changes nothing, where the size is known
+  -- what follows x changes nothing, if the size is known
   spots_then : (said : Option ℕ) (x y : List ℕ) {size i : ℕ} → i < length x → is_as_said said (x ++ y) ≡ true
       → size_by said (x ++ y) ≡ size → one_chunk_spots place chunks said (x ++ y) i ≡ spots_at size x i
   spots_then said x y less is long = grind (arith, spots_are, front_more, front_stays)
@@ -83,7 +83,7 @@ module _ (place : ℕ) (chunks : Chunks) (within : place < chunks.count) where
         grows : (first : ℕ) → first ≤ chunks.count → front (length x) x first ≤ front (length (x ++ y)) (x ++ y) first
         grows first few = beginning_short _ _ (decided_grows chunks first x y (omega arith) few)
 
-  -- Where no size was said, a byte that waits goes to the chunk in one continuation, and not in another
+  -- If the input showed no size, a byte that waits goes to the chunk in one continuation, and not in another
 
   abbrev more : List ℕ → ℕ
   more x = suc (length x) * chunks.count

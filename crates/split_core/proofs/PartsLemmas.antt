@@ -64,7 +64,7 @@ unjudged manner old new (Open slot) breaks named = refl
 unjudged manner old new (fault_is.Verdict Suffixes) breaks named = absurd (named refl)
 unjudged manner old new fault breaks named = absurd breaks
 
--- where all places have names, they don't run out
+-- if all places have names, they don't run out
 pub none_lacks : (verbose : Bool) (old new : List Slot) {fault : Fault} → Breaks (always_named verbose) old new fault
     → fault ≡ fault_is.Verdict Suffixes → ⊥
 none_lacks verbose old new breaks is = search rules
@@ -93,7 +93,7 @@ always_counts {tells = Nothing} size bytes is = tt
 always_counts {tells = Sizes} size bytes is = absurd (cc)
 always_counts {tells = Openings} size bytes is = tt
 
--- where standard output is told anything, it can be written
+-- if standard output gets anything about files, it can be written
 pub told_writable : (tells : Tells) (slots : List Slot) → CanTell tells slots
     → writes (output_by (is_verbose tells)) ≡ true → IsTrue (is_writable slots 0)
 told_writable Nothing slots can is_told = absurd (cc)
@@ -162,7 +162,7 @@ none_full : (state : PartsState) (x taken : List ℕ) → is_full state.limit (r
     → cut_up state.limit (x ++ taken) ≡ cut_so (full_of state x) (rest_of state x ++ taken)
 none_full state x taken short = rw (cut_on state.limit x taken, cut_none state.limit _ short, append-nil)
 
--- so far that is a beginning of what the whole piece leads to
+-- what was taken so far is a beginning of what the whole piece leads to
 below : {state : PartsState} {x : List ℕ} (piece : List ℕ) (bytes : ℕ) {after : Draft} {are : ℕ × Bool × List ℕ}
     → Comes state x (take bytes piece) after are
     → SharesBegin (shares_of after) (settled_parts state.limit (x ++ piece))
@@ -198,7 +198,7 @@ turned_so {state} {x} {taken} {first} {past} led =
     let cut = cut_two state.limit past led.full led.first_is led.both led.begun.short in
     let on = cut_on state.limit x taken in grind arith
 
--- what a step takes of a piece; where a fault comes, the piece is what was to be taken
+-- what a step takes of a piece; if a fault comes, the piece is what was to be taken
 abbrev pub taken : ℕ → List ℕ → Option Fault → List ℕ
 taken bytes piece None = take bytes piece
 taken bytes piece (Some f) = piece
@@ -328,7 +328,7 @@ still_ready ready takes = grind arith
 
 -- The end of the input
 
--- where no part was begun, nothing is left
+-- if no part was begun, nothing is left
 no_rest : (state : PartsState) (x : List ℕ) → begun_of state x ≡ [] → rest_of state x ≡ []
 no_rest state x none = by _ (settled_some _ _) where
   by : (rest : List ℕ) → (0 < length rest → 0 < length (begun_of state x)) → rest ≡ []

@@ -57,7 +57,7 @@ use Rattle.split_core.specs.PartsState as parts_state
 
 -- Names
 
--- where this many files have names, each of them has one
+-- if this many files have names, each of them has one
 pub named_at : (names : Naming) (count place : ℕ) → are_named names count ≡ true → place < count
     → has_name names place ≡ true
 named_at names zero place are within = absurd (omega arith)
@@ -90,7 +90,7 @@ module _ (delim : ℕ) (filing : Filing) (elide : Bool) (n : ℕ) (x : List ℕ)
   all_have : are_named filing.names (length (dealt_files delim elide n x)) ≡ true
   all_have = grind (arith, common_steps, named_fewer, dealt_files_are, length-map-range_with_len)
 
-  -- where all files have names, no text needs more
+  -- if all files have names, no text needs more
   pub not_short : false ≡ is_short (round_plan delim n elide filing) x
   not_short = cc (length-map (dealt_files delim elide n x) (share Closed), all_have)
 
@@ -244,7 +244,7 @@ module _ {told : Bool} (names : Naming) (tells : Tells) (delim : ℕ) (elide : B
       rw (nothing_part (output_by (is_verbose tells)), made) at
       (((rw is at opens).adds.leaves before _ (λ i. []) (starts_at names tells at) (λ i. refl)).stops _ _ _ _ 0 grow_same grow_same)
 
--- where all files have names, the work is what was asked for
+-- if all files have names, the work is what was asked for
 pub does_all : (delim : ℕ) (filing others : Filing) (elide : Bool) (n : ℕ) → are_named filing.names n ≡ true
     → others ≡ filing → round_work (round_plan delim n elide others) ≡ split_work (round_plan delim n elide filing)
 does_all delim filing others elide n are same = rw same (ap (λ (short : List ℕ → Bool). record (split_work (round_plan delim n elide filing)) {
@@ -283,7 +283,7 @@ pub all_named : (splitter : Splitter) (x : List ℕ) → (as_if ways.terms).Hold
     → Judges (ways.work splitter) x Suffixes → ⊥
 all_named splitter x is judged = named_of _ _ is.holds (sym (verdict_as is.alike) ∙ judged)
 
--- and unless it writes what one file would have, or only one chunk, more can come
+-- unless the engine writes what one file would have, or only one chunk, more can come
 open_of : (splitter : Splitter) (x : List ℕ) → ways.Holds splitter x
     → ((ways.work splitter).means.output ≡ gets_bytes → ⊥) ⊎ ((state : ChunkerState) → splitter ≡ way.Chunks state → ⊥)
     → (ways.work splitter).is_complete x ≡ false
@@ -301,7 +301,7 @@ pub never_done : (splitter : Splitter) → ((state : ChunkerState) → splitter 
     → (as_if ways.terms).Holds splitter x → (ways.work splitter).is_complete x ≡ false
 never_done splitter other x is = complete_as is.alike ∙ open_of _ _ is.holds (inr other)
 
--- a split into parts isn't complete where any engine of it goes on
+-- a split into parts isn't complete if any engine of it goes on
 told_beside : (verbose : Bool) → output_by verbose ≡ gets_bytes → ⊥
 told_beside true is = cc
 told_beside false is = cc

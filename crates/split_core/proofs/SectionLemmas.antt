@@ -153,7 +153,7 @@ are_cut {delim} {n} some (one (byte ∷ x) has short) = rw (cut_none (LineBytes 
 are_cut {delim} {n} some (more x _ enough past) =
     rw (cut_first (LineBytes n delim) x (full_from (LineBytes n delim) x some enough), are_cut some past)
 
--- no other parts are those
+-- no other list of parts is right
 pub line_bytes_once : {delim n : ℕ} {x : List ℕ} {these those : List (List ℕ)} → 0 < n
     → AreLineByteParts delim n x these → AreLineByteParts delim n x those → these ≡ those
 line_bytes_once some these those = sym (are_cut some these) ∙ are_cut some those
@@ -198,7 +198,7 @@ pub settled_all : (limit : Limit) (x : List ℕ)
     ≡ x
 settled_all limit x = grind (arith, settled_bytes, list_all)
 
--- the lines that one of n files gets, where the first of all lines stands at this place
+-- the lines that one of n files gets, if the first of these lines is number `place` of all
 abbrev pub lines_dealt : ℕ → ℕ → ℕ → List (List ℕ) → List (List ℕ)
 lines_dealt n file place [] = []
 lines_dealt n file place (line ∷ lines) = if place % n == file then line ∷ lines_dealt n file (place + 1) lines

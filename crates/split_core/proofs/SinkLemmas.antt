@@ -1,4 +1,4 @@
--- What goes to the files of chunks, or to standard output where one of them goes there.
+-- What goes to the files of chunks, or to standard output if only one chunk is written.
 use Rattle.std.proofs.Common.{rules}
 use Rattle.std.proofs.lemmas.Grind.{common_steps}
 use Rattle.std.proofs.{
@@ -92,7 +92,7 @@ files_wider high begins stopped = record {
   writes = tt;
 }
 
--- where no file is open, what is begun has none
+-- if no file is open, what is begun has none
 pub none_made : (tells : Tells) (opening : Opening) (bytes : List ℕ) (current : Current) → is_file current ≡ false
     → IsCurrent tells opening bytes current → made_of opening bytes ≡ []
 none_made tells opening bytes Skipped none now = rw now refl
@@ -261,7 +261,7 @@ files_end {writer = writer} {elide = elide} result ready broke goes =
 
 -- To standard output
 
--- it gets more bytes if its chunk was begun
+-- standard output gets more bytes if its chunk was begun
 piece_more : (chunk place : ℕ) (bytes : List ℕ) (cut : CutUp) → length cut.full ≡ place
     → get_or (pieces_in cut) chunk [] ++ cond (eqb chunk place) bytes []
     ≡ get_or (pieces_in (with_rest bytes cut)) chunk []
@@ -271,7 +271,7 @@ none_files : (files : List PartFile) → FilesBegin files [] → files ≡ []
 none_files [] begins = refl
 none_files (file ∷ files) begins = absurd begins
 
--- it broke among these bytes
+-- standard output broke among these bytes
 out_stops : (told : Bool) (before : List Slot) (had more : List ℕ) {high : List ℕ} (n : ℕ) {old new : List Slot}
     → had ++ more ≡ high → OutputsAt told before (only_out had) old → BrokeAfter told old new 0 more n
     → StoppedInTurn gets_bytes told before (only_out had) (only_out high) (Write 0) new
@@ -388,7 +388,7 @@ module _ {on : Course} {old mid new : List Slot} {fault : Option Fault} where
       → Gives told on one three low high old new fault
   gives_then first second = record { brings = brings_then first.brings second.brings; carries = second.carries }
 
--- it was stopped on its way to more
+-- a call that was stopped was stopped on its way to more
 pub brings_wider : {told : Bool} {on : Course} {aim next : AimState} {low middle high : Part} {old new : List Slot}
     {why : Fault} → Begins middle high → Brings told on aim next low middle old new (Some why)
     → Brings told on aim next low high old new (Some why)

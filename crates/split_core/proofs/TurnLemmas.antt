@@ -43,7 +43,7 @@ picked turn piece within is = grind (arith, get_or-map-range_with_len)
 
 -- What a piece leaves
 
--- what is written once it came in
+-- what is written once a piece came in
 went_out : {turn : TurnState} {x : List ℕ} (piece : List ℕ) → Holds turn x
     → record ((work turn).settled x) { out = ((work turn).settled x).out ++ due turn piece }
     ≡ (work turn).settled (x ++ piece)

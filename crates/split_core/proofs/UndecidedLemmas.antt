@@ -215,7 +215,7 @@ module _ (delim n : ℕ) where
   had_less : (x : List ℕ) (i : ℕ) → i < length x → had (to x i) x i < length (got x (to x i))
   had_less x i less = let (rest, is) = follows x i less in grind (arith, common_steps)
 
-  -- of two bytes of a file the later one stands later in it
+  -- the later of two bytes of a file stands later in the file
   had_grows : (x : List ℕ) (i j : ℕ) → i < j → j < length x → to x i ≡ to x j → had (to x i) x i < had (to x j) x j
   had_grows x i j less within same = grind (arith, had_less (take j x) i, take-take, length-take-le)
 
@@ -280,7 +280,7 @@ placed_at (cut.Round n delim) elide filing some = record {
   apart = λ x i j at goes also. grind (arith, had_grows);
 }
 
--- where nothing is told, that is all of it
+-- if standard output gets no lines, all bytes are placed
 pub placed_quiet : (cut : Cut) (elide : Bool) (filing : Filing) → IsPositive cut → filing.verbose ≡ false
     → ArePlaced (split_work (plan_by cut elide filing)) (split_spots (plan_by cut elide filing))
 placed_quiet cut elide filing some is = rw is (rw is at (placed_at cut elide filing some))

@@ -1,4 +1,4 @@
--- Chunks of an input that doesn't say its length.
+-- Chunks of an input that doesn't show its length.
 use Rattle.std.proofs.Common.{rules}
 use Rattle.std.proofs.lemmas.Grind.{common_steps}
 use Rattle.std.specs.{Option.is_none, List.range_with_len}
@@ -63,7 +63,7 @@ writes_on : (cutter : CutterState) (end : ℕ) (w front : List ℕ) → BeginsBe
 writes_on cutter end w front so short =
     rw so.0.at (begun_on _ _ _ w _ (goes_on_so _ _ w so short))
 
--- nothing waits, or it goes with what comes later
+-- nothing waits, or what waits goes with what comes later
 still_all : (cutter : CutterState) (waiting : List ℕ) (end : ℕ) (z : List ℕ) → BeginsBefore cutter end z
     → (length waiting ≡ 0) ⊎ (false ≡ (nat_lt cutter.at end || cutter.is_within)) → all_before cutter waiting end z ≡ z
 still_all cutter waiting end z (has, all) (inl none) = grind (arith, common_steps)
@@ -220,7 +220,7 @@ module _ {told : Bool} {chunker next : ChunkerState} {piece : List ℕ} {end : �
 
 -- The end
 
--- what is settled ends within a line only where nothing waits
+-- what is settled ends within a line only if nothing waits
 none_waits : (unit : Counted) (delim place : ℕ) (z waiting : List ℕ) → begun_before unit delim place (z ++ waiting) ≡ z
     → is_within unit delim z ≡ true → length waiting ≡ 0
 none_waits unit delim place z waiting is within = elim (cases_lt 0 (length waiting)) [
@@ -279,7 +279,7 @@ first_cut chunks size z count fits all = by (cases_lt 0 size) where
   by (inr empty) = let none : z ≡ [] = nil_from_length z (omega arith) in let e : size ≡ 0 = omega arith in
       rw (none, e) (ap (λ n. with_fulls n (uncut [])) (ended_all chunks {size = 0} [] count (omega arith)) ∙ all_empty chunks count)
 
--- what is written of it is the same, also where one chunk alone goes out
+-- what is written of a text that is cut up is the same, also if only one chunk is written
 
 fulls_past : (chunk : ℕ) (n : ℕ) (cut : CutUp)
     → get_or (pieces_in (with_fulls n cut)) chunk [] ≡ get_or (pieces_in cut) chunk []
@@ -310,7 +310,7 @@ carries_same chunks size z place (to_files writer elide) count fits all carries 
     rw (first_cut _ _ z count fits all) at carries
 carries_same chunks size z place (to_output chunk) count fits all carries = grind (arith, common_steps, length-map-range_with_len, fulls_long)
 
--- all of it
+-- what is written so far begins the whole
 
 whole_begins : (on : Course) (cut : CutUp) → Begins (part_on on cut) (whole_on on cut)
 whole_begins (in_files filing elide) cut =

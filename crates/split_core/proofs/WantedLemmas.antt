@@ -25,7 +25,7 @@ use Rattle.split_core.proofs.{
 use Rattle.split_core.specs.Ways as ways
 use Rattle.split_core.specs.declared.splitter.Splitter.TheVariants as way
 
--- what came in completes the output where what is used does
+-- what came in completes the output if what is used does
 complete_by : (said : Option ℕ) (state : ChunkerState) (x : List ℕ) → is_some said ≡ true → HoldsBy said state x
     → is_past_on state.cutter.sink ≡ (work_on (course state.cutter) state.cutter.chunks said).is_complete x
 complete_by None state x some holds = cc
@@ -41,7 +41,7 @@ pub complete_is : (state : ChunkerState) (x : List ℕ) → is_some state.said �
     → is_past_on state.cutter.sink ≡ (work state).is_complete x
 complete_is state x some holds = complete_by state.said state x some holds
 
--- where the input doesn't say its length, the output is never complete
+-- if the input doesn't show its length, the output is never complete
 
 -- How much is wanted
 
@@ -85,7 +85,7 @@ few_past chunk chunks size x piece n can few going spare = elim spare.enough [
   long : length (x ++ piece) ≡ length (spare.used ++ spare.rest)
   long = ap length spare.joined
 
--- while it goes on, all that came in was cut off
+-- while the engine goes on, all that came in was cut off
 all_cut : (state : ChunkerState) (size : ℕ) (x : List ℕ) → state.said ≡ Some size → (work state).is_complete x ≡ false
     → Holds state x
     → state.cutter.at ≡ length x

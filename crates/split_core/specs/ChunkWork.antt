@@ -33,35 +33,35 @@ use Rattle.seg_core.specs.declared.cut.Way.TheVariants as way
 
 -- To files
 
--- what is asked for: with `elide` no file is made that stays empty
+-- what is asked for; with `elide` no file is made for an empty chunk
 pub record ChunksPlan : Type 0 where
   pub chunks : Chunks
   pub elide : Bool
   pub filing : Filing
 
--- of these pieces those that have a file
+-- the pieces that have a file
 abbrev pub kept : Bool → List (List ℕ) → List (List ℕ)
 kept elide pieces = if elide then filter has_bytes pieces else pieces
 
--- each piece that is kept has its file, and what is left has one with its first byte
+-- the files so far: each kept piece has a file, and the rest has one once it has a byte
 abbrev pub draft_by : Bool → CutUp → Draft
 draft_by elide cut = record { ended = kept elide cut.full; opening = Late; bytes = cut.rest }
 
--- what the files have
+-- what each file has
 abbrev pub files_by : Bool → CutUp → List (List ℕ)
 files_by elide cut = kept elide cut.full ++ unless_empty cut.rest
 
--- once x came in
+-- what is written once x came in
 abbrev pub chunks_settled : ChunksPlan → Option ℕ → List ℕ → Part
 chunks_settled plan said x = draft_part (manner_of plan.filing) (draft_by plan.elide (decided plan.chunks 1 said x))
 
--- and in the end, where all are closed
+-- what is written if the input ends after x; all files are closed
 abbrev pub chunks_whole : ChunksPlan → Option ℕ → List ℕ → Part
 chunks_whole plan said x =
     part_of (manner_of plan.filing) (map (share Closed) (files_by plan.elide (in_the_end plan.chunks said x)))
 
--- An input that has another length than it said has changed; what was written stays. Where it said none, files are
--- opened at the end too.
+-- The work of chunks in files. If the input showed another length than it has, it changed, and what was written stays.
+-- If it showed none, files are opened at the end, too.
 abbrev pub chunks_work : ChunksPlan → Option ℕ → Work
 chunks_work plan said = record {
   settled = chunks_settled plan said;
@@ -79,19 +79,19 @@ chunks_work plan said = record {
 abbrev pub piece_at : ℕ → CutUp → Part
 piece_at place cut = only_out (get_or (pieces_in cut) place [])
 
--- The chunk and those before it have all that goes with them; only where the size was said that is known. Then the run
--- ends, and it isn't seen whether the input changed.
+-- The chunk and those before it have all that goes with them. That is known only if the input showed its size. The
+-- output is complete then, so no change of the input is noticed.
 abbrev pub is_written : ℕ → Chunks → Option ℕ → List ℕ → Bool
 is_written place chunks None x = false
 is_written place chunks (Some size) x = has_ended chunks size x place
 
--- how many bytes more than it uses the chunk may be given: the end of a piece in which its last line ends
+-- how many bytes past the last that it uses a chunk may be given: its last line may end within a piece
 abbrev pub ahead_of : Counted → ℕ
 ahead_of Lines = 4096
 ahead_of Bytes = 0
 
--- What goes before the chunk is passed over, and the first one is written as far as it is decided. Where the size was
--- said, nothing waits, and so no memory is asked for.
+-- The work of one chunk, on standard output. What stands before it is dropped, and the first chunk is written as far as
+-- it is decided. If the input showed its size, nothing waits, so no memory is asked for.
 abbrev pub chunk_work : ℕ → Chunks → Option ℕ → Work
 chunk_work place chunks said = record {
   settled = λ x. piece_at place (decided chunks (max place 1) said x);
@@ -104,7 +104,7 @@ chunk_work place chunks said = record {
   ahead = ahead_of chunks.unit;
 }
 
--- lines are dealt in turn, and nothing waits
+-- the lines that are dealt to the file at a place, on standard output
 abbrev pub turn_of : ℕ → ℕ → ℕ → List ℕ → Part
 turn_of place count delim x = only_out (dealt count place 0 (lines_of delim x))
 
@@ -120,7 +120,7 @@ turn_work place count delim = record {
   ahead = 0;
 }
 
--- What becomes of an input that says this of its size
+-- The work of each way to split an input that showed this size, or none.
 abbrev pub way_work : Way → Bool → Filing → Option ℕ → Work
 way_work (way.Cut cut) elide filing said = split_work (record { cut = cut; elide = elide; filing = filing })
 way_work (way.Chunks chunks) elide filing said =
@@ -128,25 +128,25 @@ way_work (way.Chunks chunks) elide filing said =
 way_work (way.Chunk place chunks) elide filing said = chunk_work place chunks said
 way_work (way.Turn place count delim) elide filing said = turn_work place count delim
 
--- the same, where standard output is told this of its files
+-- the same work, if standard output gets these lines about files
 abbrev pub work_by : Way → Bool → Naming → Tells → Option ℕ → Work
 work_by way elide names tells said = way_work way elide (record { names = names; verbose = is_verbose tells }) said
 
--- all files that are known to be made have names
+-- each file that is known to be made has a name
 abbrev pub HasAllNames : Way → Naming → Type 0
 HasAllNames (way.Cut cut) names = HasNames cut names
 HasAllNames (way.Chunks chunks) names = are_named names chunks.count ≡ true
 HasAllNames (way.Chunk place chunks) names = Unit {0}
 HasAllNames (way.Turn place count delim) names = Unit {0}
 
--- standard output can be told of files, or gets what one of them would have
+-- standard output can take lines about files, or what one file would have
 abbrev pub CanGive : Way → Tells → List Slot → Type 0
 CanGive (way.Cut cut) tells slots = CanTell tells slots
 CanGive (way.Chunks chunks) tells slots = CanTell tells slots
 CanGive (way.Chunk place chunks) tells slots = IsTrue (is_writable slots 0)
 CanGive (way.Turn place count delim) tells slots = IsTrue (is_writable slots 0)
 
--- it can't be begun: there is no memory, or where lines are dealt to files, one of these can't be opened
+-- a way can't be begun: there is no memory; or, of a cut, a file can't be opened
 abbrev pub CannotBegin : Way → Bool → List Slot → List Slot → Fault → Type 0
 CannotBegin (way.Cut cut) verbose old new fault = CannotOpen verbose old new fault
 CannotBegin (way.Chunks chunks) verbose old new fault = fault ≡ Memory

@@ -4,23 +4,23 @@ use Rattle.seg_core.specs.{Line.{lines_of, delimiters}, declared.cut.Cut.{Cut, T
 use Rattle.ports_core.specs.{Name.{Naming, has_name}, Work.Work, Agreed.{Spot, spot, spots_from, file_bytes}}
 use Rattle.split_core.specs.{Parts.dealt, Split.{Plan, whole_by}}
 
--- where lines are dealt: the file that byte i goes to, counted from 0, by the line in which it stands
+-- the file to which the line of byte i is dealt; bytes and files are counted from 0
 abbrev pub dealt_to : ℕ → ℕ → List ℕ → ℕ → ℕ
 dealt_to delim n x i = delimiters delim (take i x) % n
 
--- it goes there after what that file has of the bytes before it, if the file has a name
+-- byte i goes to its file, after what the file has of the bytes before, if the file has a name
 abbrev pub dealt_spots : ℕ → ℕ → Naming → List ℕ → ℕ → List Spot
 dealt_spots delim n names x i =
     if nat_lt i (length x) && has_name names (dealt_to delim n x i)
     then spot (dealt_to delim n x i + 1) (length
     (dealt n (dealt_to delim n x i) 0 (lines_of delim (take i x)))) ∷ [] else []
 
--- parts that follow one another are together the text, as far as there are names
+-- where byte i goes; parts that follow one another are the text, as far as there are names
 abbrev pub spots_by : Cut → Plan → List ℕ → ℕ → List Spot
 spots_by (Parts limit) plan x i = spots_from 1 (file_bytes (whole_by plan x)) i
 spots_by (Round n delim) plan x i = dealt_spots delim n plan.filing.names x i
 
--- the work whose whole has nothing on standard output
+-- a work whose whole has nothing on standard output
 abbrev pub beside_output : Work → Work
 beside_output work = record work { whole = λ x. record (work.whole x) { out = [] } }
 

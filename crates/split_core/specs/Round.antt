@@ -17,14 +17,14 @@ round_plan delim count elide filing = record { cut = Round count delim; elide = 
 abbrev pub plan_of : RoundState → Plan
 plan_of round = round_plan round.delim round.count round.elide (filing_in round.files)
 
--- what `split` makes of an input whose lines it deals, where all files have names
+-- the work of dealt lines, if all files have names
 abbrev pub round_work : Plan → Work
 round_work plan = record (split_work plan) { is_complete = λ x. false; verdict = always_well }
 
 abbrev pub work : RoundState → Work
 work round = round_work (plan_of round)
 
--- how many files are open once x came in: all of them, or those that have a line
+-- how many files are open once x came in: all files, or those that have a line
 abbrev pub opened_by : (delim : ℕ) → Bool → (n : ℕ) → List ℕ → ℕ
 opened_by delim elide n x = if elide then min n (line_count delim x) else n
 
@@ -35,12 +35,12 @@ pub record Holds (round : RoundState) (x : List ℕ) : Type 0 where
   pub next : round.next ≡ delimiters round.delim x % round.count
   pub opened : length round.files.outputs ≡ opened_by round.delim round.elide round.count x
 
--- the output of the file at a place
+-- the slot of the file at a place
 abbrev pub output_at : FilesState → ℕ → ℕ
 output_at files place = slice_index_or files.outputs place 0
 
--- the streams are there, standard output can be told what it is to be told, each file that is open has an output of its
--- own that can be written and closed, and the next name is that of the next file
+-- The streams are there, and standard output can take its lines about files. Each open file has a slot of its own that
+-- can be written and closed. The next name is that of the next file.
 pub record AreReady (files : FilesState) (slots : List Slot) : Type 0 where
   pub streams : 2 ≤ length slots
   pub output : CanTell files.tells slots
@@ -53,8 +53,8 @@ pub record AreReady (files : FilesState) (slots : List Slot) : Type 0 where
 abbrev pub Ready : RoundState → List Slot → Type 0
 Ready round slots = AreReady round.files slots
 
--- the files that are open stand in order from this place on; and as long as each name that was drawn is the name of one
--- of them, they are the last outputs
+-- The open files stand in order from this place on. If each name that was drawn is the name of an open file, these are
+-- the last outputs.
 pub record OwnsFiles (files : FilesState) (first : ℕ) (slots : List Slot) : Type 0 where
   pub stand : (place : ℕ) → place < length files.outputs → output_at files place ≡ first + place
   pub last : files.names.drawn ≡ length files.outputs → first + length files.outputs ≡ length slots

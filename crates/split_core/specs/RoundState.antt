@@ -7,9 +7,9 @@ pub record RoundState : Type 0 where
   pub delim : ℕ
   -- how many files there are to be
   pub count : ℕ
-  -- files are opened at their first byte, and not all at the start
+  -- whether files are opened at their first byte, and not all at the start
   pub elide : Bool
-  -- those that are open
+  -- the files that are open
   pub files : FilesState
   -- the place of the file that the next byte goes to
   pub next : ℕ

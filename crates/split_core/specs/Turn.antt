@@ -4,12 +4,13 @@ use Rattle.seg_core.specs.Line.{delimiters}
 use Rattle.ports_core.specs.{Slot.{Slot, is_writable}, Work.Work}
 use Rattle.split_core.specs.ChunkWork.{turn_work}
 
--- what contracts see of it
+-- what contracts see of such a stage
 pub record TurnState : Type 0 where
   -- the byte that lines end with
   pub delim : ℕ
-  -- among how many files lines are dealt, and the place of the one that is written
+  -- among how many files lines are dealt
   pub count : ℕ
+  -- the place of the file that is written
   pub place : ℕ
   -- the place of the file that the next byte goes to
   pub next : ℕ

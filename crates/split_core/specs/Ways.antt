@@ -34,12 +34,12 @@ Owns (Round state) first slots = round.Owns state first slots
 Owns (Chunks state) first slots = chunker.Owns state first slots
 Owns (Turn state) first slots = Unit {0}
 
--- how many bytes came in, where that is counted
+-- how many bytes came in, or 0 if the stage doesn't count them
 abbrev pub size : Splitter → ℕ
 size (Chunks state) = chunker.total state
 size splitter = 0
 
--- it removes no files
+-- what the stage owes; it removes no files
 abbrev pub terms : Terms Splitter
 terms = record {
   Holds = Holds;

@@ -6,8 +6,7 @@ use seg_core::cut::Chunks;
 use seg_core::line::next_line;
 use seg_core::unit::Unit;
 
-/// Where the chunk at a place begins, if there are `count` and the text has this size; at place `count`, where the last one
-/// ends.
+/// Where the chunk at a place begins, of `count` chunks of a text of this size; at place `count`, where the last chunk ends.
 pub(crate) fn chunk_start(count: u64, size: u64, place: u64) -> u64
     requires some { 0 < count }
     requires within { place ≤ count }
@@ -16,8 +15,8 @@ pub(crate) fn chunk_start(count: u64, size: u64, place: u64) -> u64
     place * (size / count) + place.min(size % count)
 }
 
-/// How many bytes of a text go with the chunk that was begun: those before the byte at `skip`, and under lines all up to
-/// the end of the line that they stop in. One byte goes with it at least.
+/// How many bytes of a text go with the chunk that was begun: those before the byte at `skip`, and under lines all up to the end of the
+/// line in which they stop. At least one byte goes with it.
 pub(crate) fn next_cut(chunks: Chunks, skip: u64, text: &[u8]) -> usize
     ensures within { result ≤ length text.now }
     ensures cut { take result text.now ≡ begun_before chunks.unit chunks.delim (max skip 1) text.now }
@@ -42,7 +41,7 @@ fn before(place: u64, text: &[u8]) -> usize
     place.min(text.len() as u64) as usize
 }
 
-/// Whether a text ends within a line, where lines matter.
+/// Whether chunks have whole lines and a text ends within a line.
 pub(crate) fn ends_within(chunks: Chunks, text: &[u8]) -> bool
     requires { 0 < length text.now }
     ensures { result ≡ is_within chunks.unit chunks.delim text.now }

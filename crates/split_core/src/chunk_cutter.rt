@@ -19,14 +19,14 @@ pub(crate) struct ChunkCutter {
     pub(crate) chunks: Chunks,
     /// How many bytes were cut off, from the input's front.
     pub(crate) at: u64,
-    /// Whether these end within a line, where lines matter.
+    /// Whether chunks have whole lines and these bytes end within a line.
     pub(crate) is_within: bool,
     pub(crate) sink: ChunkSink,
 }
 
 impl ChunkCutter {
-    /// Writes what of a text that isn't empty goes with the chunk that was begun, where that ends at this place of the
-    /// input, and returns how many bytes that is.
+    /// Writes what of a text that isn't empty goes with the chunk that was begun, if the chunk ends at this place of the input, and returns
+    /// how many bytes that is.
     ///
     /// # Errors
     ///
@@ -84,7 +84,7 @@ impl ChunkCutter {
         self.end_all(size, outs)
     }
 
-    /// The same, where no line is open before the end.
+    /// Ends the same chunks, if no line is open before the end.
     fn end_all<O: Outs>(&mut self, size: u64, outs: &mut O) -> Result<(), Fault>
         requires ready { IsAimed (seen_cutter self.old).sink.aim (O.slots outs.old) }
         requires some { 0 < self.old.chunks.count }
@@ -100,7 +100,7 @@ impl ChunkCutter {
         Ok(())
     }
 
-    /// Cuts off a beginning of a text that isn't empty, and returns how many bytes that is.
+    /// Cuts off a beginning of a text that isn't empty, and returns its length.
     pub(crate) fn step<O: Outs>(
         &mut self,
         size: u64,
@@ -122,8 +122,7 @@ impl ChunkCutter {
         Ok(n)
     }
 
-    /// Cuts what of a text stands within an input of this size, as long as the output isn't complete, and returns how many
-    /// bytes are left then.
+    /// Cuts what of a text stands within an input of this size, as long as the output isn't complete, and returns how many bytes are left.
     ///
     /// # Errors
     ///
@@ -180,8 +179,8 @@ impl ChunkCutter {
         Ok(())
     }
 
-    /// Cuts all that waits into the chunks of an input that has no more, and ends them. Nothing waits then, unless one
-    /// could not be ended.
+    /// Cuts all that waits into the chunks of an input that has no more, and ends the chunks. Nothing waits then, unless a chunk could not
+    /// be ended.
     ///
     /// # Errors
     ///

@@ -22,11 +22,10 @@ ghost use Rattle.split_core.specs.{
 };
 ghost use Rattle.seg_core.specs.declared.cut.Way.TheVariants as way;
 
-/// What goes with each chunk of a whole text: there are as many of these pieces as were asked for, and together they
-/// are the text. Chunks of bytes have the bytes from where they begin to where the next one does; all have the same
-/// length, but for the first ones, which have one byte more where the length of the text asks for it. Under lines no
-/// line is cut, and each goes with the chunk in which its first byte is (GNU coreutils manual, split, `-n N` and
-/// `-n l/N`).
+/// What goes with each chunk of a whole text: there are as many of these pieces as were asked for, and together they are the text. A chunk
+/// of bytes has the bytes from where it begins to where the next chunk does. All have the same length, except that the first ones have one
+/// more byte if the length of the text asks for it. Under lines no line is cut, and each goes with the chunk in which its first byte is
+/// (GNU coreutils manual, split, `-n N` and `-n l/N`).
 pub fn chunks_are_even()
     ensures count { (chunks : Chunks) (x : List ℕ) → 0 < chunks.count
         → length (chunks_in chunks x) ≡ chunks.count }
@@ -43,8 +42,8 @@ pub fn chunks_are_even()
         → BeginInChunks chunks.delim chunks.count x (chunks_in chunks x) }
 {}
 
-/// What one chunk alone, or the lines of one file alone, write to standard output is what the file at that place would
-/// have, where all files have names and none is left out. So all chunks, one after another, are the text.
+/// What one chunk alone, or the lines of one file alone, write to standard output is what the file at that place would have, if all files
+/// have names and none is left out. So all chunks, one after another, are the text.
 pub fn one_chunk_is_its_file()
     ensures chunk { (chunks : Chunks) (filing : Filing) (said : Option ℕ) (place : ℕ) (x : List ℕ)
         → 0 < chunks.count → are_named filing.names chunks.count ≡ true
@@ -59,11 +58,11 @@ pub fn one_chunk_is_its_file()
         → flat_map (λ place. ((chunk_work place chunks said).whole x).out) (range_with_len 0 chunks.count) ≡ x }
 {}
 
-/// What is settled is what all continuations agree on, and the bytes that wait are those that two continuations put to
-/// different places, or one of them nowhere. So nothing is written that could still go into another file, and nothing
-/// is kept back that can't. Where the size was said, continuations are those with which the input has it, and no byte
-/// waits. Where a byte goes is said by spots, which are right. Files are closed as soon as all continuations have them
-/// and those before them alike in the end, empty ones too, and one more is open once it has a byte.
+/// What is settled is what all continuations agree on, and the bytes that wait are those that two continuations put to different places, or
+/// that only one of the two writes. So nothing is written that could still go into another file, and nothing is kept back that can't. If
+/// the input showed its size, continuations are those with which the input has it, and no byte waits. Spots say where a byte goes, and are
+/// right. Files are closed as soon as all continuations end with these files, empty ones too, and with all files before them. One more is
+/// open once it has a byte.
 pub fn chunks_agree()
     ensures outputs { (plan : ChunksPlan) (said : Option ℕ) (x : List ℕ)
         → 0 < plan.chunks.count → plan.filing.verbose ≡ false
@@ -94,8 +93,8 @@ pub fn chunks_agree()
         → IsAgreed (turn_work place count delim) x ((turn_work place count delim).settled x) }
 {}
 
-/// The output of one chunk is complete where what that chunk and those before it have stays, whatever comes, and no sooner:
-/// so an empty one is complete with those before it. That is only so where the size was said.
+/// The output of one chunk is complete as soon as what that chunk and those before it have stays, whatever comes: an empty chunk is
+/// complete with those before it. That is only so if the input showed its size.
 pub fn one_chunk_is_complete()
     ensures complete { (place : ℕ) (chunks : Chunks) (said : Option ℕ) (x : List ℕ) → place < chunks.count
         → (chunk_work place chunks said).is_complete x ≡ true → (at : ℕ) → at ≤ place → (y z : List ℕ)
@@ -105,8 +104,8 @@ pub fn one_chunk_is_complete()
         → (at : ℕ) × (at ≤ place) × TwoDiffer (CanFollow said x) (λ y. (chunk_work at chunks said).whole (x ++ y)) }
 {}
 
-/// Where empty files are left out, the files have what those have that aren't empty where none is: once some bytes came in,
-/// and in the end.
+/// If empty files are left out, the files have what those have that aren't empty if none is left out: once some bytes came in, and at the
+/// end.
 pub fn empty_chunks_are_left_out()
     ensures settled { (chunks : Chunks) (filing : Filing) (said : Option ℕ) (x : List ℕ)
         → 0 < chunks.count → are_named filing.names chunks.count ≡ true
@@ -120,9 +119,9 @@ pub fn empty_chunks_are_left_out()
         (file_bytes (chunks_whole (record { chunks = chunks; elide = false; filing = filing }) said x)) }
 {}
 
-/// An input that has another length than it said has changed; where one chunk is written, that is seen as long as the output
-/// isn't complete. With more bytes than were said there are all chunks as they were said, and with fewer what came: the
-/// files have it where they had it before the end.
+/// An input that has another length than it showed has changed. If only one chunk is written, that is seen as long as the output isn't
+/// complete. With more bytes than were shown there are all chunks as they were shown, and with fewer what came: the files have it where
+/// they had it before the end.
 pub fn other_lengths_are_changes()
     ensures files { (plan : ChunksPlan) (size : ℕ) (x : List ℕ) → (length x ≡ size → ⊥)
         → (chunks_work plan (Some size)).verdict x ≡ Some Changed }
@@ -140,8 +139,8 @@ pub fn other_lengths_are_changes()
         ≡ file_bytes ((chunks_work plan (Some size)).settled x) }
 {}
 
-/// Where standard output is told of the files of chunks, it has a line for each that was opened, in their order, and
-/// nothing else: once some bytes came in, and in the end. Else it has nothing.
+/// If standard output gets lines about the files of chunks, it has a line for each file that was opened, in order, and nothing else: once
+/// some bytes came in, and at the end. Else it has nothing.
 pub fn lines_are_of_chunk_files()
     ensures settled { (plan : ChunksPlan) (said : Option ℕ) → plan.filing.verbose ≡ true → (x : List ℕ)
         → (chunks_settled plan said x).out ≡ openings_for opening_line (chunks_settled plan said x).files }

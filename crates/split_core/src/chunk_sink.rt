@@ -21,16 +21,16 @@ use std::alloc::Global;
 /// Where chunks go.
 #[derive(Drop)]
 pub(crate) enum Aim {
-    /// Each to a file; with `elide` those that stay empty are left out.
+    /// Each to a file; with `elide` no file is made for an empty chunk.
     Files { writer: FileWriter, elide: bool },
-    /// The one at this place to standard output, the others nowhere.
+    /// Only the chunk at this place, to standard output.
     Output { chunk: u64 },
 }
 
 /// Writes one chunk after another.
 #[derive(Drop)]
 pub(crate) struct ChunkSink {
-    /// The place of the chunk that was begun: all before it have ended.
+    /// The place of the chunk that was begun: all chunks before it have ended.
     pub(crate) place: u64,
     pub(crate) aim: Aim,
 }
@@ -74,8 +74,7 @@ impl ChunkSink {
         matches!(self.aim, Aim::Files { .. })
     }
 
-    /// The place up to which chunks are alike to it, and at least 1: before the input's size is known, all that stands
-    /// before the chunk at that place stays so.
+    /// What stands before the chunk at this place is settled while the input's size isn't known. The place is at least 1.
     pub(crate) fn first(&self) -> u64
         ensures { result ≡ first_on (course_of (seen_sink self.now).aim) }
     {
@@ -89,7 +88,7 @@ impl ChunkSink {
     ///
     /// # Errors
     ///
-    /// Those of `FileWriter::put`; `Write(0)` where standard output broke.
+    /// Those of `FileWriter::put`; `Write(0)` if standard output broke.
     pub(crate) fn put<O: Outs>(&mut self, bytes: &[u8], outs: &mut O) -> Result<(), Fault>
         requires { IsAimed (seen_sink self.old).aim (O.slots outs.old) }
         ensures changes { Changes O.told (seen_sink self.old) (with_rest bytes.now) (O.slots outs.old)
@@ -126,7 +125,7 @@ impl ChunkSink {
     ///
     /// # Errors
     ///
-    /// `Write` where its file broke.
+    /// `Write` if its file broke.
     pub(crate) fn end<O: Outs>(&mut self, outs: &mut O) -> Result<(), Fault>
         requires { IsAimed (seen_sink self.old).aim (O.slots outs.old) }
         ensures brings { EndsAll O.told (seen_sink self.old) (O.slots outs.old) (O.slots outs.new)
@@ -152,7 +151,7 @@ fn write_where<O: Outs>(goes: bool, bytes: &[u8], outs: &mut O) -> Result<(), Fa
     write_bytes(0, bytes, outs)
 }
 
-/// Ends a file, and begins the next with its first byte. With `elide` what has no byte has no file.
+/// Ends a file, and begins the next with its first byte. With `elide` an empty chunk has no file.
 fn end_file<O: Outs>(writer: &mut FileWriter, elide: bool, outs: &mut O) -> Result<(), Fault>
     requires { IsReady (seen_writer writer.old) (O.slots outs.old) }
     ensures { Files O.told (seen_writer writer.old) (ends_by elide) (O.slots outs.old) (O.slots outs.new)
@@ -162,7 +161,7 @@ fn end_file<O: Outs>(writer: &mut FileWriter, elide: bool, outs: &mut O) -> Resu
     writer.next(Opening::Late, outs)
 }
 
-/// Makes the file of what has no byte, unless it is left out.
+/// Makes the file of an empty chunk, unless it is left out.
 fn make_empty<O: Outs>(writer: &mut FileWriter, elide: bool, outs: &mut O) -> Result<(), Fault>
     requires { IsReady (seen_writer writer.old) (O.slots outs.old) }
     ensures { Files O.told (seen_writer writer.old) (empties_by elide) (O.slots outs.old) (O.slots outs.new)

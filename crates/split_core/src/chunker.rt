@@ -23,12 +23,11 @@ use std::marker::Model;
 /// The most bytes of a piece in which the last line of one chunk may end.
 const AHEAD: u64 = 4_096;
 
-/// Cuts its input into chunks. Where the input says its length before, nothing waits. Else the place where a chunk begins
-/// can only move on as more comes: what stands before that of the second one is settled, or before that of the one that is
-/// written, and the rest waits.
+/// Cuts its input into chunks. If the input showed its length, nothing waits. If not, the place where a chunk begins can only move on as
+/// more comes. What stands before the second chunk is settled, or before the chunk that is written alone, and the rest waits.
 #[derive(Drop)]
 pub struct Chunker {
-    /// How long the input is, where it said that before.
+    /// How long the input is, if it showed that.
     said: Option<u64>,
     cutter: ChunkCutter,
     /// The bytes that wait.
@@ -55,7 +54,7 @@ impl Model for Chunker {
 }
 
 impl Chunker {
-    /// Chunks of an input of which no byte came in yet, which is this long if it said that.
+    /// Chunks of an input of which no byte came in yet, with its length if it showed that.
     pub(crate) fn open(alloc: Global, chunks: Chunks, said: Option<u64>, sink: ChunkSink) -> Chunker
         requires can { can_cut (course_of (seen_sink sink).aim) chunks.count ≡ true }
         requires all { HasAll (course_of (seen_sink sink).aim) chunks.count }
@@ -84,8 +83,8 @@ impl Chunker {
     ///
     /// # Errors
     ///
-    /// `Write` where an output broke, `Open` where a file can't be opened, `Memory` where there is no room for what waits,
-    /// for a name or its line; `Verdict` with `Changed` where the input has more bytes than it said.
+    /// `Write` if an output broke, `Open` if a file can't be opened, `Memory` if there is no room for what waits, for a name or its line;
+    /// `Verdict` with `Changed` if the input has more bytes than it showed.
     pub(crate) fn pass<O: Outs>(&mut self, piece: &[u8], outs: &mut O) -> Result<(), Fault>
         requires ready { Ready self.old (O.slots outs.old) }
         requires fits { total self.old + length piece.now < 2 ^ 63 }
@@ -97,8 +96,8 @@ impl Chunker {
         }
     }
 
-    /// Passes over what stands before the chunk that is written, where the input said its length, and returns how many bytes
-    /// these are. 0 where they can't be passed over, or the chunk is of bytes and empty.
+    /// Passes over what stands before the chunk that is written, if the input showed its length, and returns how many bytes these are. 0 if
+    /// they can't be passed over, or the chunk is of bytes and empty.
     pub(crate) fn load<I: Inputs>(&mut self, slot: usize, most: usize, inputs: &mut I) -> u64
         requires fresh { Holds self.old [] }
         requires none { total self.old ≡ 0 }
@@ -119,9 +118,9 @@ impl Chunker {
         front
     }
 
-    /// How many bytes are passed over before the one chunk that is written, the place of the chunk that was begun with them,
-    /// and whether they end within a line. Of lines these are all but the one before the chunk, which may end a line; what
-    /// stands before that is no matter, and counts as the beginning of a line of the first chunk.
+    /// How many bytes are passed over before the one chunk that is written, the place of the chunk that was begun with them, and whether
+    /// they end within a line. Of lines these are all bytes except the last before the chunk, which may end a line. What stands before that
+    /// doesn't matter, and counts as the beginning of a line of the first chunk.
     fn front(&self) -> Option<(u64, u64, bool)>
         requires { Holds self.now [] }
         ensures { IfSome result (TakesFront self.now) }
@@ -144,8 +143,8 @@ impl Chunker {
     ///
     /// # Errors
     ///
-    /// `Changed` where the input has fewer bytes than it said, and `Write` where an output broke. Where it didn't say its
-    /// length, those of `pass`.
+    /// `Changed` if the input has fewer bytes than it showed, and `Write` if an output broke. If it didn't show its length, those of
+    /// `pass`.
     pub(crate) fn finish<O: Outs>(&mut self, outs: &mut O) -> Result<(), Fault>
         requires ready { Ready self.old (O.slots outs.old) }
         ensures { EndsAs O.told self.old (O.slots outs.old) (O.slots outs.new) self.new result }
@@ -177,8 +176,8 @@ impl Chunker {
         self.said.is_some() && self.cutter.sink.is_past()
     }
 
-    /// How many bytes the next piece may have: where one chunk is written, as many as are missing to its end; of lines 4,096
-    /// where that is more, since the last one may go on past the end; one at least.
+    /// How many bytes the next piece may have: if one chunk is written, as many as are missing to its end; of lines at least 4,096, since
+    /// the last line may go on past the end; at least one.
     pub(crate) fn most_wanted(&self) -> u64
         ensures some { 0 < result }
         ensures few { MayGet (as_if ways.terms) (way.Chunks self.now) result }
@@ -208,7 +207,7 @@ impl Chunker {
         Ok(())
     }
 
-    /// Takes in a piece of an input that doesn't say its length.
+    /// Takes in a piece of an input that didn't show its length.
     fn pass_unsaid<O: Outs>(&mut self, piece: &[u8], outs: &mut O) -> Result<(), Fault>
         requires said { self.old.said ≡ None }
         requires ready { Ready self.old (O.slots outs.old) }
@@ -236,7 +235,7 @@ impl Chunker {
     }
 }
 
-/// How many bytes a piece may have where this many are missing to the end of the chunk that is written.
+/// How many bytes a piece may have if this many are missing to the end of the chunk that is written.
 fn piece_size(unit: Unit, missing: u64) -> u64
     ensures { result ≡ piece_for unit missing }
 {

@@ -55,7 +55,7 @@ impl<'a> CompleteLines<'a> {
         }
     }
 
-    /// The next line; none where no complete one is left.
+    /// The next line; none if no complete line is left.
     #[inline(always)]
     pub(crate) fn next(&mut self) -> Option<&'a [u8]>
         ensures some { IfSome result (λ line. IsFirstLine self.old.delim self.old.text line.now self.new.text) }

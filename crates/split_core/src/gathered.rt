@@ -26,7 +26,7 @@ impl Model for Gathered {
 }
 
 impl Gathered {
-    /// An empty one, which takes no memory yet.
+    /// An empty list, which takes no memory yet.
     pub(crate) fn new(alloc: Global) -> Gathered
         ensures { result ≡ [] }
     {
@@ -77,7 +77,7 @@ impl Gathered {
     }
 }
 
-/// Finds room for `count` bytes, or for twice as many where it has to grow.
+/// Finds room for `count` bytes, or for twice as many if it has to grow.
 fn make_room(room: &mut Vec<u8>, count: usize) -> Result<(), AllocError>
     ensures more { OnOk result (count ≤ length room.new.items) }
     ensures kept { (n : ℕ) → n ≤ length room.old.items → take n room.new.items ≡ take n room.old.items }

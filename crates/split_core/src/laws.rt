@@ -54,9 +54,9 @@ pub fn line_byte_parts()
         → All (λ part. (0 < length part) × (length part ≤ n)) (parts (LineBytes n delim) x) }
 {}
 
-/// What a text and what follows it are cut into: the parts that the text has in full, and then those of what is left
-/// of it and what follows. So a part that is full never changes. Nothing is lost: the parts are together the text,
-/// and what is settled and what waits are together what came in. What waits is shorter than a part.
+/// What a text and what follows it are cut into: the parts that the text has in full, and then those of its rest and what follows. So a
+/// part that is full never changes. Nothing is lost: the parts are together the text, and what is settled and what waits are together what
+/// came in. What waits is shorter than a part.
 pub fn parts_go_on(limit: Limit)
     ensures parts { (x y : List ℕ)
         → parts limit (x ++ y) ≡ (cut_up limit x).full ++ parts limit ((cut_up limit x).rest ++ y) }
@@ -73,10 +73,10 @@ pub fn parts_go_on(limit: Limit)
     let _ = limit;
 }
 
-/// Lines that are dealt in turn to n files: line k of the file at a place is the line of the text at that place plus
-/// k times n, and no byte is lost. What a file has of a text that goes on is what it has of the text, and then its
-/// lines of what follows, in the turn that comes after the text's last delimiter. Where files that get no line are left
-/// out, the first ones are left: as many as there are lines (GNU coreutils manual, split, `-n r/N` and `-e`).
+/// Lines that are dealt in turn to n files: line k of the file at a place is the line of the text at that place plus k times n, and no byte
+/// is lost. A file has of a longer text what it has of the text, and then its lines of what follows, in the turn after the text's last
+/// delimiter. If files that get no line are left out, the first files are left: as many as there are lines (GNU coreutils manual, split,
+/// `-n r/N` and `-e`).
 pub fn lines_are_dealt()
     ensures at { (delim n file k : ℕ) (x : List ℕ) → file < n
         → get_or (lines_of delim (get_or (round_robin delim n x) file [])) k []
@@ -90,12 +90,11 @@ pub fn lines_are_dealt()
         → dealt_files delim true n x ≡ take (line_count delim x) (round_robin delim n x) }
 {}
 
-/// What is settled is what all continuations agree on, and the bytes that wait are those that two continuations put to
-/// different places, or one of them nowhere. So nothing is written that could still go into another file, and nothing
-/// is kept back that can't. This holds of all four ways to cut, of any byte that lines end with, and of both values of
-/// eliding; what it says of waiting, where the input so far needs no more files than there are names. Where a byte goes
-/// is said by spots, and each file has at each spot just the one byte that goes there; no spot is on standard
-/// output.
+/// What is settled is what all continuations agree on, and the bytes that wait are those that two continuations put to different places, or
+/// that only one of the two writes. So nothing is written that could still go into another file, and nothing is kept back that can't. This
+/// is true of all four ways to cut, of any byte that lines end with, and of both values of `elide`; of waiting, if the input so far needs
+/// no more files than there are names. Spots say where a byte goes, and each file has at each spot just the one byte that goes there; no
+/// spot is on standard output.
 pub fn agreed_is_settled()
     ensures outputs { (plan : Plan) → IsPositive plan.cut → (x : List ℕ)
         → IsAgreed (split_work plan) x ((split_work plan).settled x) }
@@ -107,8 +106,8 @@ pub fn agreed_is_settled()
         → ArePlaced (beside_output (split_work plan)) (split_spots plan) }
 {}
 
-/// Where standard output is told of files, it has a line for each that was opened, in their order, and nothing else: once
-/// some bytes came in, and in the end. Else it has nothing.
+/// If standard output gets lines about files, it has a line for each file that was opened, in order, and nothing else: once some bytes came
+/// in, and at the end. Else it has nothing.
 pub fn lines_are_of_opened_files()
     ensures settled { (plan : Plan) → plan.filing.verbose ≡ true → (x : List ℕ)
         → (settled_by plan x).out ≡ openings_for opening_line (settled_by plan x).files }
@@ -118,8 +117,8 @@ pub fn lines_are_of_opened_files()
         → (settled_by plan x).out ++ (whole_by plan x).out ≡ [] }
 {}
 
-/// An engine that has returned no fault has named all files that its input needs: names that ran out are always told. And
-/// unless it writes what one file would have, more that comes can still change its output.
+/// An engine that has returned no fault has named all files that its input needs: names that ran out are always reported. And unless it
+/// writes what one file would have, more that comes can still change its output.
 pub fn all_files_have_names()
     ensures named { (engine : GuardState Splitter) (x : List ℕ) → HoldsIn (as_if terms).Holds engine x
         → Judges (work engine.stage) x Suffixes → ⊥ }

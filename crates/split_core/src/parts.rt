@@ -1,6 +1,5 @@
-//! Parts of an input that follow one another, each in a file of its own (POSIX.1-2017, XCU split; `-C` is GNU's). They
-//! take memory for names, and for twice the most bytes that waited: fewer than a part has, and only under a limit of bytes for
-//! whole lines.
+//! Parts of an input that follow one another, each in a file of its own (POSIX.1-2017, XCU split; `-C` is GNU's). They take memory for
+//! names, and under `-C` for twice the most bytes that waited, which are fewer than a part has.
 ghost use Rattle.std.specs.Prelude.{◌≡◌, ◌+◌, ◌-◌, ◌++◌, ◌<◌, [], length, IfOk, IfErr, OnOk};
 ghost use Rattle.ports_core.specs.{FileWriter.new_writer, InTurn.fault_in, declared.file_writer.Keeps.TheVariants.Open};
 ghost use Rattle.seg_core.specs.Cut.{most};
@@ -23,7 +22,7 @@ pub struct Parts {
     limit: Limit,
     /// How many lines or bytes the part still takes.
     left: u64,
-    /// Under a limit of bytes for whole lines: whether the part has a complete line.
+    /// Under `-C`, whether the part has a complete line.
     has_line: bool,
     /// The bytes that wait: they go to this part or to the next.
     waiting: Vec<u8>,
@@ -142,9 +141,8 @@ impl Parts {
     ///
     /// # Errors
     ///
-    /// `Write` where a file broke, or standard output as it is told of one, `Open` where the next can't be opened,
-    /// `Memory` where there is no room for what waits, for a name or its line, `Suffixes` where no name is left for the
-    /// next file.
+    /// `Write` if a file broke, or standard output in the line about a file, `Open` if the next file can't be opened, `Memory` if there is
+    /// no room for what waits, for a name or its line, `Suffixes` if no name is left for the next file.
     pub(crate) fn pass<O: Outs>(&mut self, piece: &[u8], outs: &mut O) -> Result<(), Fault>
         requires { IsReady self.old (O.slots outs.old) }
         ensures { Takes O.told self.old piece.now (O.slots outs.old) (O.slots outs.new) self.new (fault_in result) }
@@ -161,7 +159,7 @@ impl Parts {
     ///
     /// # Errors
     ///
-    /// `Write` where its file broke.
+    /// `Write` if its file broke.
     pub(crate) fn finish<O: Outs>(&mut self, outs: &mut O) -> Result<(), Fault>
         requires { IsReady self.old (O.slots outs.old) }
         ensures { Finishes O.told self.old (O.slots outs.old) (O.slots outs.new) self.new (fault_in result) }

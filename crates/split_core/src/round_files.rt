@@ -15,7 +15,7 @@ use std::marker::Model;
 pub(crate) struct RoundFiles {
     names: Names,
     tells: Tells,
-    /// The outputs of those that are open.
+    /// The outputs of the files that are open.
     outputs: Vec<usize>,
 }
 
@@ -43,8 +43,8 @@ impl RoundFiles {
     ///
     /// # Errors
     ///
-    /// `Open` where one can't be opened, `Memory` where there is no room for a name, its line or one more output, `Write`
-    /// where standard output broke as it was told of one.
+    /// `Open` if a file can't be opened, `Memory` if there is no room for a name, its line or one more output, `Write` if standard output
+    /// broke in the line about a file.
     pub(crate) fn open_first<O: Outs>(&mut self, count: usize, outs: &mut O) -> Result<(), Fault>
         requires ready { AreReady self.old (O.slots outs.old) }
         requires none { self.old.outputs ≡ [] }
@@ -57,11 +57,11 @@ impl RoundFiles {
         Ok(())
     }
 
-    /// Writes to the first files what was gathered for each, in order. Those that aren't open are opened.
+    /// Writes to the first files what was gathered for each, in order. Files that aren't open are opened.
     ///
     /// # Errors
     ///
-    /// `Write` where an output broke, `Open` where a file can't be opened, `Memory` where there is no room for a name,
+    /// `Write` if an output broke, `Open` if a file can't be opened, `Memory` if there is no room for a name,
     /// its line or one more output.
     pub(crate) fn write<O: Outs>(
         &mut self,
@@ -83,7 +83,7 @@ impl RoundFiles {
     ///
     /// # Errors
     ///
-    /// `Write` where a close failed: those after it stay open.
+    /// `Write` if a close failed: later files stay open.
     pub(crate) fn close<O: Outs>(&self, outs: &mut O) -> Result<(), Fault>
         requires ready { AreReady self.now (O.slots outs.old) }
         ensures { ClosesAll O.told self.now (O.slots outs.old) (O.slots outs.new) result }
@@ -123,7 +123,7 @@ impl RoundFiles {
     }
 }
 
-/// Appends an output to those that are open, where there is room for it.
+/// Appends an output to those that are open, if there is room for it.
 fn put(outputs: &mut Vec<usize>, slot: usize)
     requires { vec_len outputs.old < vec_capacity outputs.old }
     ensures { outputs.new.items ≡ outputs.old.items ++ slot ∷ [] }

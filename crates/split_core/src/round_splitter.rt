@@ -43,13 +43,12 @@ impl Model for RoundSplitter {
 }
 
 impl RoundSplitter {
-    /// Deals lines, which end with `delim`, to `count` files. All of them are opened now; with `elide` each is opened
-    /// at its first byte, so that those that would get none aren't made. Standard output is told of openings, or nothing.
+    /// Deals lines, which end with `delim`, to `count` files. All of them are opened now; with `elide` each is opened at its first byte, so
+    /// that no empty file is made. Standard output gets a line for each opening, or nothing.
     ///
     /// # Errors
     ///
-    /// `Memory` where there is no room, `Open` where a file can't be opened, `Write` where standard output broke as it was
-    /// told of one.
+    /// `Memory` if there is no room, `Open` if a file can't be opened, `Write` if standard output broke in the line about a file.
     pub(crate) fn open<O: Outs>(
         alloc: Global,
         count: u64,
@@ -90,8 +89,8 @@ impl RoundSplitter {
     ///
     /// # Errors
     ///
-    /// `Memory` where there is no room for a name or its line, or for the piece, of which nothing is written then; `Write` where an
-    /// output broke, `Open` where a file can't be opened.
+    /// `Memory` if there is no room for a name or its line, or for the piece, of which nothing is written then; `Write` if an
+    /// output broke, `Open` if a file can't be opened.
     pub(crate) fn pass<O: Outs>(&mut self, piece: &[u8], outs: &mut O) -> Result<(), Fault>
         requires { Ready self.old (O.slots outs.old) }
         ensures { PassesAs O.told (way.Round self.old) piece.now (O.slots outs.old) (O.slots outs.new)
@@ -105,7 +104,7 @@ impl RoundSplitter {
     ///
     /// # Errors
     ///
-    /// `Write` where one broke.
+    /// `Write` if one broke.
     pub(crate) fn finish<O: Outs>(&self, outs: &mut O) -> Result<(), Fault>
         requires { Ready self.now (O.slots outs.old) }
         ensures { ClosesAll O.told self.now.files (O.slots outs.old) (O.slots outs.new) result }

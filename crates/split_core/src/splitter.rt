@@ -26,13 +26,13 @@ use crate::{Cut, Way};
 use ports_core::{Fault, Guarded, Inputs, Naming, Outs, Stage, Tells};
 use std::alloc::Global;
 
-/// Cuts its input into files, or writes what one of them would have (POSIX.1-2017, XCU split; `-C` and `-n` are GNU's). A
-/// file is opened with its first byte, or that of an empty chunk once the chunk has ended, and is closed before the next is
-/// opened; where lines are dealt, files are closed at the end alone.
+/// Cuts its input into files, or writes what one of them would have (POSIX.1-2017, XCU split; `-C` and `-n` are GNU's). A file is opened
+/// with its first byte, or an empty chunk's file once the chunk has ended, and is closed before the next is opened. If lines are dealt,
+/// files are closed only at the end.
 ///
-/// It takes memory for names; under `-C` for the open line after whole ones; where lines are dealt, for a list of the
-/// files and twice the largest share of a piece that each had; and for chunks of an input that didn't say its length, for
-/// all that comes after the first one, or after what stands before the one that is written.
+/// It takes memory for names; under `-C` for the open line after whole lines; if lines are dealt, for a list of the files and twice the
+/// largest share of a piece that each had; and for chunks of an input that didn't show its length, for all that comes after the first
+/// chunk, or after what stands before the chunk that is written.
 #[derive(Drop)]
 pub enum Splitter {
     /// Into parts that follow one another.
@@ -46,15 +46,14 @@ pub enum Splitter {
 }
 
 impl Splitter {
-    /// An engine of this way to split, for an input that is this long if it said that before, and then not empty. Files are
-    /// named so; where their number is known, there must be a name for each. Where lines are dealt to files, all are opened
-    /// now, or with `elide` each at its first byte. Standard output is told of each file before it is opened, or nothing; or
-    /// it gets what one file would have, and none is made.
+    /// An engine of this way to split, for an input of this length if it showed that, which is then not empty. Files are named so; if their
+    /// number is known, there must be a name for each. If lines are dealt to files, all are opened now, or with `elide` each at its first
+    /// byte. Standard output gets a line for each file before it is opened, or nothing; or it gets what one file would have, and no file is
+    /// made.
     ///
     /// # Errors
     ///
-    /// `Memory` where there is no room, `Open` where a file can't be opened, `Write` where standard output broke as it was
-    /// told of one.
+    /// `Memory` if there is no room, `Open` if a file can't be opened, `Write` if standard output broke in the line about a file.
     pub fn open<O: Outs>(
         alloc: Global,
         way: Way,
@@ -122,7 +121,7 @@ impl Stage for Splitter {
         }
     }
 
-    /// Where one chunk is written, what stands before it.
+    /// Passes over what stands before the chunk, if one chunk is written.
     fn load<I: Inputs>(&mut self, slot: usize, most: usize, inputs: &mut I) -> u64 {
         let Splitter::Chunks(chunker) = self else {
             return 0;
@@ -139,13 +138,13 @@ impl Stage for Splitter {
         }
     }
 
-    /// It removes nothing: all files stay.
+    /// Removes nothing: all files stay.
     fn clear<O: Outs>(&mut self, outs: &mut O) {
         let _ = outs;
     }
 
-    /// Where one chunk is written, once it and those before it have all that goes with them; else never: that the input needs
-    /// more files than there are names is a fault.
+    /// If one chunk is written, whether it and those before it have all that goes with them; else never: that the input needs more files
+    /// than there are names is a fault.
     fn is_done(&self) -> bool
         ensures { (x : List ℕ) → (as_if terms).Holds self.now x → result ≡ (work self.now).is_complete x }
     {
@@ -155,7 +154,7 @@ impl Stage for Splitter {
         chunker.is_complete()
     }
 
-    /// Where lines are dealt, none: each piece is written at once.
+    /// How many bytes wait; of dealt lines none do, since each piece is written at once.
     fn waits(&self) -> u64
         ensures { result ≡ held self.now }
     {
@@ -166,8 +165,7 @@ impl Stage for Splitter {
         }
     }
 
-    /// Where one chunk is written, as many as are missing to its end, of lines 4,096 where that is more, and one at least; else
-    /// any number.
+    /// If one chunk is written, as many as are missing to its end, of lines at least 4,096, and at least one; else any number.
     fn wanted(&self) -> u64
         ensures some { 0 < result }
         ensures few { MayGet (as_if terms) self.now result }

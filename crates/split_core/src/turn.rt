@@ -8,9 +8,8 @@ use ports_core::{Fault, Outs};
 use std::alloc::Global;
 use std::marker::Model;
 
-/// Writes to standard output what one file would have of lines that are dealt in turn (GNU coreutils manual, split,
-/// `-n r/K/N`). What it has of a piece is gathered first, as that of all files is, and is written at once: room is kept for
-/// twice the largest share that each had.
+/// Writes to standard output what one file would have of lines that are dealt in turn (GNU coreutils manual, split, `-n r/K/N`). What each
+/// file has of a piece is gathered first, and is written at once: room is kept for twice the largest share that each had.
 #[derive(Drop)]
 pub struct Turn {
     deal: Deal,
@@ -35,11 +34,11 @@ impl Model for Turn {
 }
 
 impl Turn {
-    /// Deals lines, which end with `delim`, among `count` files, and writes those of the file at this place.
+    /// Deals lines, which end with `delim`, among `count` files, and writes the lines of the file at this place.
     ///
     /// # Errors
     ///
-    /// `Memory` where there is no room for the list of files.
+    /// `Memory` if there is no room for the list of files.
     pub(crate) fn open(alloc: Global, place: u64, count: u64, delim: u8) -> Result<Turn, Fault>
         requires { place < count }
         ensures holds { IfOk result (λ turn. Holds turn []) }
@@ -56,7 +55,7 @@ impl Turn {
     ///
     /// # Errors
     ///
-    /// `Memory` where there is no room for the piece, of which nothing is written then; `Write(0)` where standard output
+    /// `Memory` if there is no room for the piece, of which nothing is written then; `Write(0)` if standard output
     /// broke.
     pub(crate) fn pass<O: Outs>(&mut self, piece: &[u8], outs: &mut O) -> Result<(), Fault>
         requires { Ready (O.slots outs.old) }

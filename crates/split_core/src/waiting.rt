@@ -6,8 +6,7 @@ use std::marker::Model;
 /// Before the room grows it is closed up, if at least one byte went for each whole group of this many that wait.
 const WORTH: usize = 4;
 
-/// Bytes that wait, in one slice. Where `Vec` doubles its room, that is at most two and a half times the most that
-/// waited.
+/// Bytes that wait, in one slice. If `Vec` doubles its room, that is at most two and a half times the most that waited.
 #[derive(Drop)]
 pub(crate) struct Waiting {
     room: Vec<u8>,
@@ -26,7 +25,7 @@ impl Model for Waiting {
 }
 
 impl Waiting {
-    /// None wait, and no memory is taken.
+    /// No byte waits, and no memory is taken.
     pub(crate) fn new(alloc: Global) -> Waiting
         ensures { result ≡ [] }
     {
@@ -56,7 +55,7 @@ impl Waiting {
         self.len() == 0
     }
 
-    /// Appends a piece. Where there is no room for it, all stays as it was.
+    /// Appends a piece. If there is no room for it, all stays as it was.
     pub(crate) fn put(&mut self, piece: &[u8]) -> Result<(), AllocError>
         ensures ok { OnOk result (self.new ≡ self.old ++ piece.now) }
         ensures err { OnErr result (self.new ≡ self.old) }
@@ -69,7 +68,7 @@ impl Waiting {
         self.room.extend_from_slice(piece)
     }
 
-    /// So many at the front don't wait any more.
+    /// So many bytes at the front don't wait any more.
     pub(crate) fn drop_front(&mut self, n: usize)
         requires { n ≤ length self.old }
         ensures { self.new ≡ drop n self.old }
@@ -77,7 +76,7 @@ impl Waiting {
         self.gone += n;
     }
 
-    /// None waits any more.
+    /// No byte waits any more.
     pub(crate) fn clear(&mut self)
         ensures { self.new ≡ [] }
     {

@@ -27,15 +27,15 @@ open_within (slot ∷ slots) (suc place) opened = omega (arith, open_within slot
 
 -- how many broke
 
--- what is broken stays so
+-- what is broken stays broken
 abbrev pub StayBroken : List Slot → List Slot → Type 0
 StayBroken old new = (place : ℕ) → (slot_at old place).is_broken ≡ true → (slot_at new place).is_broken ≡ true
 
--- one change alone leaves it so
+-- a change leaves broken what is broken
 abbrev pub KeepsBroken : (Slot → Slot → Type 0) → Type 0
 KeepsBroken Change = (before after : Slot) → Change before after → before.is_broken ≡ true → after.is_broken ≡ true
 
--- whether a place is one of these can be told
+-- it is decided whether a place is one of these
 abbrev pub IsDecided : (ℕ → Type 0) → Type 0
 IsDecided IsOne = (place : ℕ) → IsOne place ⊎ (IsOne place → ⊥)
 

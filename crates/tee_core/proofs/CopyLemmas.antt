@@ -1,4 +1,4 @@
--- Lemmas on copying: what the outputs have after a piece and at the end, and what is said of those that broke.
+-- Lemmas on copying: what the outputs have after a piece and at the end, and which breaks are reported.
 use Rattle.std.{
   proofs.lemmas.{
     Grind.common_steps,
@@ -35,7 +35,7 @@ use Rattle.ports_core.specs.declared.reason.Reason.TheVariants as reason
 
 -- how an output stands
 
--- of one that is known to be lost nothing is said
+-- an output that is known to be lost isn't reported
 tells_known : (on_broken : OnBroken) (why : Reason) (now : Standing) → tells on_broken (lost_for why) now ≡ false
 tells_known on_broken reason.Gone now = refl
 tells_known on_broken why now = refl
@@ -45,7 +45,7 @@ tells_same on_broken Sound = refl
 tells_same on_broken Broken = refl
 tells_same on_broken Gone = refl
 
--- what is said of one output
+-- what is reported of one output
 
 abbrev said_one : OnBroken → Fault → List ℕ → Standing → Standing → List Message
 said_one on_broken fault name was now = if tells on_broken was now then message_of fault name ∷ [] else []
@@ -193,8 +193,8 @@ pub count_names : (names : List (Bor (List ℕ)))
     → length (output_names (map (λ name. name.now) names)) ≡ length names + 1
 count_names names = grind (arith, common_steps)
 
--- What a call added to what broke when, where the output stands so now: it is said where that wasn't known, and what broke
--- in the calls before stays.
+-- What a call added to what broke when, if the output stands so now: it is reported if that wasn't known, and what broke in the calls
+-- before stays.
 pub record Marks (call : ℕ) (before after : Option Break) (now : Standing) : Type 0 where
   pub said : (on_broken : OnBroken) → tells_in on_broken call after ≡ tells on_broken (standing_of before) now
   pub older : (on_broken : OnBroken) (other : ℕ) → other < call
@@ -305,7 +305,7 @@ pub call_before : {pieces : List (List ℕ)} (before after : List (List ℕ)) (p
     → pieces ≡ before ++ piece ∷ after → suc (length before) < suc (length pieces)
 call_before before after piece is = grind (arith, common_steps)
 
--- an output is so after a call, with what that adds to what broke when
+-- an output after a call, with what the call adds to what broke when
 abbrev pub Marked : (Option Break → Slot → Type 0) → ℕ → Option Break → Slot → Type 0
 Marked Is call first new = (after : Option Break) × Is after new × Marks call first after (stands_as new)
 
@@ -441,7 +441,7 @@ module _ {told : Bool} {calling : Calling} {mode : Mode} {on_broken : OnBroken} 
     by (inl here) = rw here (output_usable copies.output_has)
     by (inr file) = grind (arith, common_steps, copies, file_place, files_usable, length-files)
 
-  -- the outputs after a call, before anything is said of it, where they stand so now
+  -- the outputs after a call, before anything is reported of it, if they stand so now
   pub record After (OutputIs : Option Break → Slot → Type 0) (FileIs : List ℕ → Option Break → Slot → Type 0)
       (call : ℕ) (mid : List Slot) (nows : List Standing) : Type 0 where
     pub output : Slot
@@ -481,7 +481,7 @@ module _ {told : Bool} {calling : Calling} {mode : Mode} {on_broken : OnBroken} 
         }
     by those short = absurd (cc)
 
-  -- what is on standard error once it was told
+  -- what is on standard error after a report
   pub said_after : {OutputIs : Option Break → Slot → Type 0} {FileIs : List ℕ → Option Break → Slot → Type 0}
       {mid new : List Slot} {nows : List Standing} (next : After OutputIs FileIs (suc (length pieces)) mid nows)
       → (says : SaysTo told calling
@@ -531,7 +531,7 @@ module _ {told : Bool} {calling : Calling} {mode : Mode} {on_broken : OnBroken} 
   pub copies_streams : HasStreams old (length names)
   copies_streams = streams_after copies.are (length-files copies.files_have)
 
-  -- so it is after a call that left standard error
+  -- both streams are there after a call that left standard error
   pub mid_streams : {mid : List Slot} → length mid ≡ length old → slot_at mid 1 ≡ slot_at old 1
       → HasStreams mid (length names)
   mid_streams {mid = output ∷ other ∷ files} count error =
@@ -543,7 +543,7 @@ module _ {told : Bool} {calling : Calling} {mode : Mode} {on_broken : OnBroken} 
   known_many = let count = ap length copies.known_are ∙ length-map (copies.first ∷ copies.broke) standing_of in
       omega (arith, length-broke copies.files_have)
 
--- the message for a piece was said
+-- the breaks in a piece were reported
 pub piece_said : {told : Bool} {calling : Calling} {mode : Mode} {on_broken : OnBroken} {names pieces : List (List ℕ)}
     (piece : List ℕ) {old mid new : List Slot} {known nows : List Standing} → is_done on_broken known ≡ false
     → (copies : Copies told calling mode on_broken names pieces [] old known)

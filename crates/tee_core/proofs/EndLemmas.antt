@@ -37,12 +37,12 @@ nothing_more : {x : List ℕ} (rest : List ℕ) → x ≡ x ++ rest → rest ≡
 nothing_more [] is = refl
 nothing_more {x} (byte ∷ rest) is = absurd (omega (arith, length-append x (byte ∷ rest), ap length is))
 
--- An input that was read up to here, and what is left of it; one that doesn't tell its bytes is one that goes no further.
+-- An input that was read up to here, and what is left of it; if bytes aren't visible, the input goes no further.
 abbrev SeenTo : Bool → Content → List ℕ → Source → Type 0
 SeenTo told there x source = (content : Content) × (rest : List ℕ) × (told ≡ true → content ≡ there) × (content.bytes ≡ x ++ rest) × LeavesOf told source rest
     × CameFrom told content source
 
--- one that was read to its end
+-- an input that was read to its end
 abbrev SeenWhole : Bool → Content → List ℕ → Bool → Source → Type 0
 SeenWhole told there x breaks source = (content : Content) × (told ≡ true → content ≡ there) × (content.bytes ≡ x) × (content.breaks_off ≡ breaks) × LeavesOf told source []
     × CameFrom told content source
@@ -71,7 +71,7 @@ pub seen_broken : (told : Bool) (there : Content) (x : List ℕ) (size : ℕ) (s
 seen_broken told there x size sources new read can broke failed =
     grind (arith, common_steps, whole, read_broken, nothing_more, read_failed, came_broken)
 
--- the read told the end
+-- the read reported the end
 pub seen_ended : (told : Bool) (there : Content) (x : List ℕ) (size : ℕ) (sources new : List Source)
     {buffer old_buffer : List ℕ} {n : ℕ} → (told ≡ true → HasRead there x 0 sources)
     → IsTrue (is_readable sources 0) → (told ≡ true → Gave (source_at sources 0).left old_buffer buffer n) → n ≡ 0
@@ -81,7 +81,7 @@ seen_ended told there x size sources new {n = n} read can gave few room is = who
     (λ t. let at_end = (gave t).ended few room in let all = read_to_end there x 0 sources (read t) at_end.0 at_end.1 in
     (all.1, all.0, nothing_more _ (sym all.1 ∙ read_none_more there x 0 sources new size n (read t) can few is))) (λ content. came_sound told new 0 (still_readable 0 sources new size n is can))
 
--- it was read up to here
+-- the input was read up to here
 pub seen_so_far : (told : Bool) (there : Content) (x : List ℕ) (sources : List Source)
     → (told ≡ true → HasRead there x 0 sources) → IsTrue (is_readable sources 0)
     → SeenTo told there x (source_at sources 0)
@@ -103,7 +103,7 @@ seen_so_far false there x sources read can = (
   came_sound false sources 0 can (λ off. refl),
 )
 
--- it gave a piece more
+-- the input gave one more piece
 pub seen_more : (told : Bool) (there : Content) (x : List ℕ) (size : ℕ) (sources new : List Source)
     {old_buffer buffer : List ℕ} {n : ℕ} → (told ≡ true → HasRead there x 0 sources)
     → IsTrue (is_readable sources 0) → (told ≡ true → Gave (source_at sources 0).left old_buffer buffer n)
@@ -161,7 +161,7 @@ pub reads_more : {x : List ℕ} (pieces : List (List ℕ)) (piece : List ℕ) {w
 reads_more pieces piece joined sized few so_far is =
     omega (arith, reads_once pieces joined sized few so_far is, length-append pieces (piece ∷ []))
 
--- the fault was told, and the run has this status
+-- the fault was reported, and the run has this status
 abbrev pub ToldSo : Bool → Calling → Fault → List Slot → List Slot → ℕ → Type 0
 ToldSo told calling fault mid new status = TellsOn told (tee_called calling) fault mid new
     × (status ≡ status_after fault calling (output_reason mid fault))
@@ -278,7 +278,7 @@ module _ {told : Bool} {pieces : List (List ℕ)} where
       let those = rw is at whole in rw (output_sound (those 0 (λ same. omega arith)) left)
       (files_sound (λ place. those (suc (suc place)) (λ same. omega arith)) rest)
 
--- where it is no fault that one is gone, and none failed, nothing broke
+-- if no output is gone and none failed, nothing broke
 pub sound_if : (broke : List (Option Break)) → any_is Broken (map standing_of broke) ≡ false
     → any_is Gone (map standing_of broke) ≡ false → are_sound broke ≡ true
 sound_if [] whole left = refl
@@ -313,7 +313,7 @@ read_whole : {content : Content} (Leaves : List ℕ → Type 0) {is_vain : Bool}
 read_whole Leaves left sound (to_end x is _ _) = is
 read_whole Leaves left sound read = absurd (cc)
 
--- where nothing broke the run goes on
+-- if nothing broke, the run goes on
 none_ends : (on_broken : OnBroken) (call : ℕ) (broke : List (Option Break)) → are_sound broke ≡ true
     → list_any (λ standing. ends_run standing on_broken) (standings_before call broke) ≡ false
 none_ends on_broken call [] sound = refl
@@ -324,7 +324,7 @@ pub sound_goes_on : (on_broken : OnBroken) (call : ℕ) (first : Option Break) (
     → are_sound (first ∷ broke) ≡ true → is_done on_broken (standings_before call (first ∷ broke)) ≡ false
 sound_goes_on on_broken call first broke sound = rw (none_ends on_broken call (first ∷ broke) sound, (sound_first first (are_sound broke) sound).0) refl
 
--- where none broke, the status tells whether the reading ended well
+-- if nothing broke, the status says whether the reading ended well
 none_lost : (one : Standing) → is_same Sound one ≡ false → (broke : List (Option Break)) → are_sound broke ≡ true
     → any_is one (map standing_of broke) ≡ false
 none_lost one differs [] sound = refl
@@ -342,7 +342,7 @@ none_faulty : (ended : Bool) → ◌≡◌ {A = ℕ} (if ended then 0 else 1) 0 
 none_faulty true is = refl
 none_faulty false is = absurd (omega arith)
 
--- a run with the status 0 met no fault, and nothing broke, where that is so of one that forgives
+-- a run with the status 0 met no fault, and nothing broke; if it forgives, that is so if its outputs are sound
 pub well_of : {told : Bool} {mode : Mode} (on_broken : OnBroken) {pieces names : List (List ℕ)} (fault : Option Fault)
     {first : Option Break} {broke : List (Option Break)} {output error : Slot} {files new : List Slot}
     → OutputLeft told pieces first output → FilesLeft told mode pieces names broke files → new ≡ output ∷ error ∷ files

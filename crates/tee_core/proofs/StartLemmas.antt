@@ -120,7 +120,7 @@ ready_to_go {names} {old} {new} tee some standard opens count first place is = b
       ∙ get_or-append-add old opens.since (place - length old) no_slot)
       (since_usable names opens.since (place - length old) opens.each (omega arith))
 
--- the same of names as the code has them
+-- If names are as the code has them
 
 pub none_left : {mode : Mode} (names : List (Bor (List ℕ))) {slots : List Slot} → length names < 1
     → Opens mode (map (λ name. name.now) names) slots slots

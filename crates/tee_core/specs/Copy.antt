@@ -1,4 +1,4 @@
--- What `tee` makes of an input where no output breaks, and where its bytes go: POSIX.1-2017, XCU tee.
+-- What `tee` makes of an input if no output breaks, and where its bytes go: POSIX.1-2017, XCU tee.
 use Rattle.std.specs.Prelude.{ℕ, ◌+◌, nat_lt, true, false, List, [], ◌∷◌, length, map, if◌then◌else◌}
 use Rattle.ports_core.specs.{
   declared.{reason.Reason.TheVariants.Other, slot.{Mode.Mode, State.{State, TheVariants.{Open, Closed}}}},
@@ -11,7 +11,7 @@ abbrev pub copy_in : Mode → State → List ℕ → List ℕ → File
 copy_in mode state x name =
     record { name = name; mode = mode; bytes = x; state = state; is_broken = false; reason = Other }
 
--- standard output and each file have all of it
+-- standard output and each file have all of x
 abbrev pub copies : Mode → List (List ℕ) → State → List ℕ → Part
 copies mode names state x = record { out = x; files = map (copy_in mode state x) names }
 
@@ -28,11 +28,11 @@ tee_work mode names = record {
   ahead = 0;
 }
 
--- the byte at i goes to that offset of the outputs from a place on, one for each name
+-- byte i goes to offset i of each output from a place on, one output for each name
 abbrev pub spots_each : ℕ → List (List ℕ) → ℕ → List Spot
 spots_each place [] i = []
 spots_each place (name ∷ names) i = spot place i ∷ spots_each (place + 1) names i
 
--- and so to standard output and to each file
+-- where byte i goes: to offset i of standard output and of each file
 abbrev pub tee_spots : List (List ℕ) → List ℕ → ℕ → List Spot
 tee_spots names x i = if nat_lt i (length x) then spot 0 i ∷ spots_each 1 names i else []

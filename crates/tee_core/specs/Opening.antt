@@ -2,7 +2,7 @@
 use Rattle.std.specs.Prelude.{◌≡◌, ℕ, List, [], ◌∷◌, ◌++◌, ◌⊎◌}
 use Rattle.ports_core.specs.{Slot.{Slot, opened, unopened}, declared.{reason.Reason.Reason, slot.Mode.Mode}}
 
--- a file was opened under its name; or it could not be, and its name is lost where there was no memory to keep it
+-- a file was opened under its name; or it couldn't be opened, and its name is lost if there was no memory for it
 pub data OpensAs (mode : Mode) (name : List ℕ) : Slot → Type 0 where
   is_opened : OpensAs mode name (opened name mode)
   is_unopened : (kept : List ℕ) (why : Reason) → (kept ≡ name) ⊎ (kept ≡ []) → OpensAs mode name (unopened why kept)
@@ -19,7 +19,7 @@ pub record Opens (mode : Mode) (names : List (List ℕ)) (old new : List Slot) :
   pub each : OpensEach mode names since
   pub slots : new ≡ old ++ since
 
--- the first of the files were opened so, and then no number was left
+-- the first files were opened, and then no number was left for another
 pub record OpensSome (mode : Mode) (names : List (List ℕ)) (old new : List Slot) : Type 0 where
   pub first : List (List ℕ)
   pub rest : List (List ℕ)

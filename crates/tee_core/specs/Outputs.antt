@@ -9,19 +9,19 @@ use Rattle.ports_core.specs.{
 }
 use Rattle.tee_core.specs.TeeState.{TeeState}
 
--- the output at this place is one of its files
+-- the slot at this place is one of the tee's files
 abbrev pub IsFile : TeeState → ℕ → Type 0
 IsFile tee place = (tee.first ≤ place) × (place < tee.first + tee.count)
 
--- the output at this place is one to which it copies: standard output, or a file
+-- the slot at this place is one to which the tee copies: standard output, or a file
 abbrev pub IsOutput : TeeState → ℕ → Type 0
 IsOutput tee place = (place ≡ 0) ⊎ IsFile tee place
 
--- a call can write to the output unless it is broken
+-- a call can write to the slot, unless the slot is broken
 abbrev pub IsUsable : Slot → Type 0
 IsUsable slot = slot.is_broken ≡ false → is_open slot.state ≡ true
 
--- the outputs with which a tee goes on
+-- a call can write to each output of a tee that isn't broken
 abbrev pub IsReady : TeeState → List Slot → Type 0
 IsReady tee slots = (place : ℕ) → IsOutput tee place → IsUsable (slot_at slots place)
 
@@ -32,19 +32,19 @@ pub data Gets (told : Bool) (bytes : List ℕ) (old : Slot) : Slot → Type 0 wh
       → Gets told bytes old (breaks why (adds (told_of told (take n bytes)) old))
   gets_none : old.is_broken ≡ true → Gets told bytes old old
 
--- The end came: a file was closed, or broke as it was; or it was broken before.
+-- The end came: a file was closed; or it broke as it was closed; or it was broken before.
 pub data Closes (old : Slot) : Slot → Type 0 where
   is_closed : old.is_broken ≡ false → Closes old (closes old)
   fails_to_close : old.is_broken ≡ false → (why : Reason) → Closes old (breaks why (closes old))
   was_broken : old.is_broken ≡ true → Closes old old
 
--- each of these outputs was changed so, whatever became of the others, and nothing else was changed
+-- each slot that `IsOne` names was changed so, whatever became of the others, and no other slot was changed
 pub record ChangesEach (Change : Slot → Slot → Type 0) (IsOne : ℕ → Type 0) (old new : List Slot) : Type 0 where
   pub count : length new ≡ length old
   pub each : (place : ℕ) → IsOne place → Change (slot_at old place) (slot_at new place)
   pub others : (place : ℕ) → (IsOne place → ⊥) → slot_at new place ≡ slot_at old place
 
--- how many outputs broke in between
+-- how many outputs are sound before and broken after
 abbrev pub newly_broken : List Slot → List Slot → ℕ
 newly_broken [] news = 0
 newly_broken (old ∷ olds) [] = 0

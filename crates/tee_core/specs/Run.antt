@@ -1,4 +1,4 @@
--- What a run of `tee` leaves, of its input and of what broke when.
+-- What a run of `tee` leaves, by its input and by what broke when.
 use Rattle.std.specs.{
   Prelude.{is_none, ◌≡◌, ℕ, ◌≤◌, ◌<◌, ◌^◌, zero, suc, ◌==◌, ◌&&◌, ◌||◌, ◌+◌, not, nat_lt, All, Bool, true},
   Prelude.{false, List, [], ◌∷◌, ◌++◌, length, map, take, Option, Some, None, ◌⊎◌, codes, if◌then◌else◌},
@@ -21,7 +21,7 @@ use Rattle.ports_core.specs.{
 use Rattle.tee_core.specs.declared.standing.Standing.{Standing, TheVariants.{Sound, Broken, Gone}}
 use Rattle.ports_core.specs.declared.reason.Reason.TheVariants as reason
 
--- who speaks in its messages
+-- who speaks in the messages of `tee`
 abbrev pub tee_called : Calling → Speaker
 tee_called calling = record { calling = calling; tool = Tee }
 
@@ -33,12 +33,12 @@ pub record Break : Type 0 where
   pub call : ℕ
   pub why : Reason
 
--- how an output stands that broke for this reason: it is gone where nobody reads it any more
+-- how an output stands that broke for this reason: it is gone if its reader is gone
 abbrev pub lost_for : Reason → Standing
 lost_for reason.Gone = Gone
 lost_for why = Broken
 
--- how an output stands by its slot
+-- how an output stands, by its slot
 abbrev pub stands_as : Slot → Standing
 stands_as slot = if slot.is_broken then lost_for slot.reason else Sound
 
@@ -55,7 +55,7 @@ standing_before call (Some broke) = if nat_lt broke.call call then lost_for brok
 abbrev pub standings_before : ℕ → List (Option Break) → List Standing
 standings_before call broke = map (standing_before call) broke
 
--- some output stands so
+-- whether some output stands so
 
 abbrev pub is_same : Standing → Standing → Bool
 is_same Sound Sound = true
@@ -67,7 +67,7 @@ abbrev pub any_is : Standing → List Standing → Bool
 any_is one [] = false
 any_is one (standing ∷ standings) = is_same standing one || any_is one standings
 
--- an output that stands so ends a run, whatever is left
+-- whether an output that stands so ends a run, whatever outputs are left
 abbrev pub ends_run : Standing → OnBroken → Bool
 ends_run Broken Exit = true
 ends_run Broken ExitNoPipe = true
@@ -75,29 +75,29 @@ ends_run Gone Exit = true
 ends_run Gone Signal = true
 ends_run standing on_broken = false
 
--- Whether a run ends, where its outputs stand so: with the first that ends it, and each once none is left.
+-- Whether a run ends if its outputs stand so: some output ends it, or none is sound.
 abbrev pub is_done : OnBroken → List Standing → Bool
 is_done on_broken standings =
     list_any (λ standing. ends_run standing on_broken) standings || not (any_is Sound standings)
 
--- nothing is said of an output that is gone
+-- whether an output that is gone isn't reported
 abbrev pub is_quiet : OnBroken → Bool
 is_quiet Warn = false
 is_quiet Exit = false
 is_quiet on_broken = true
 
--- there is a message for an output that stands so
+-- whether there is a message for an output that stands so
 abbrev pub is_told : OnBroken → Standing → Bool
 is_told on_broken Sound = false
 is_told on_broken Broken = true
 is_told on_broken Gone = not (is_quiet on_broken)
 
--- an output broke in this call, and there is a message for it
+-- whether an output broke in this call, and there is a message for it
 abbrev pub tells_in : OnBroken → ℕ → Option Break → Bool
 tells_in on_broken call None = false
 tells_in on_broken call (Some broke) = broke.call == call && is_told on_broken (lost_for broke.why)
 
--- what a call couldn't do with an output that broke in it; the number stands in no message
+-- the fault of an output that broke in this call; no message has the number of its slot
 abbrev pub fault_in : ℕ → Fault
 fault_in zero = Open 0
 fault_in (suc call) = Write 0
@@ -114,7 +114,7 @@ said_in on_broken call (name ∷ names) (first ∷ broke) = if tells_in on_broke
     then message_of (fault_in call) name ∷ said_in on_broken call names broke
     else said_in on_broken call names broke
 
--- those for the calls before this one, one call after another
+-- the messages for the calls before this call, one call after another
 abbrev pub said_before : OnBroken → ℕ → List (List ℕ) → List (Option Break) → List Message
 said_before on_broken zero names broke = []
 said_before on_broken (suc call) names broke =
@@ -125,7 +125,7 @@ abbrev pub said_of_input : Option Fault → List Message
 said_of_input None = []
 said_of_input (Some fault) = message_of fault (codes "standard input") ∷ []
 
--- all messages of a run over `pieces` pieces
+-- all messages of a run over `pieces` pieces: for opening and pieces, then for the input, then for closing
 abbrev pub messages_of : OnBroken → List (List ℕ) → List (Option Break) → ℕ → Option Fault → List Message
 messages_of on_broken names broke pieces fault =
     said_before on_broken (suc pieces) (output_names names) broke ++ said_of_input fault
@@ -135,11 +135,11 @@ abbrev pub are_sound : List (Option Break) → Bool
 are_sound [] = true
 are_sound (first ∷ broke) = is_none first && are_sound broke
 
--- something failed that isn't an output that is gone
+-- whether the input failed, or an output broke whose reader isn't gone
 abbrev pub has_failed : List Standing → Option Fault → Bool
 has_failed standings fault = not (is_none fault) || any_is Broken standings
 
--- the status where an output is gone: one that goes by the signal has the status of a tool that the signal stopped
+-- the status if an output is gone; under `Signal` it is 141, as if a signal had ended the run
 abbrev pub gone_status : OnBroken → Bool → ℕ
 gone_status Signal failed = 141
 gone_status WarnNoPipe failed = if failed then 1 else 0
@@ -153,19 +153,19 @@ status_for on_broken standings fault = if any_is Gone standings
 abbrev pub status_of : OnBroken → List (Option Break) → Option Fault → ℕ
 status_of on_broken broke fault = status_for on_broken (map standing_of broke) fault
 
--- an output that is gone is no fault
+-- whether an output that is gone is no failure
 abbrev pub forgives : OnBroken → Bool
 forgives WarnNoPipe = true
 forgives ExitNoPipe = true
 forgives on_broken = false
 
--- no output is broken but standard error, of which nothing is said here
+-- no output is broken, except perhaps standard error
 abbrev pub AreSound : List Slot → Type 0
 AreSound slots = (place : ℕ) → (place ≡ 1 → ⊥) → (slot_at slots place).is_broken ≡ false
 
--- How an input is read: to its end; or until it breaks off; or up to a piece with which it has more bytes than any tool
--- takes; or, where the outputs that broke end the run, up to the piece in which that came, so that nothing after it is
--- met. x is all that was copied, and `Leaves` says what is left unread.
+-- How far an input is read: to its end; until it breaks off; up to a piece with which it has more bytes than any tool
+-- takes; or, if `is_vain`, up to the piece with which broken outputs ended the run. x is all that was copied, and
+-- `Leaves` says what is left unread.
 pub data IsRead (content : Content) (Leaves : List ℕ → Type 0) : (is_vain : Bool) → List ℕ → Option Fault → Type 0 where
   to_end : (x : List ℕ) → content.bytes ≡ x → content.breaks_off ≡ false → Leaves []
       → IsRead content Leaves false x None
@@ -175,11 +175,11 @@ pub data IsRead (content : Content) (Leaves : List ℕ → Type 0) : (is_vain : 
       → length piece ≤ largest_piece → Leaves rest → IsRead content Leaves false x (Some TooLong)
   to_broken_output : (x rest : List ℕ) → content.bytes ≡ x ++ rest → Leaves rest → IsRead content Leaves true x None
 
--- this is left of a source that tells its bytes
+-- if bytes are visible, this is left of the source
 abbrev pub LeavesOf : Bool → Source → List ℕ → Type 0
 LeavesOf told source rest = told ≡ true → source.left.bytes ≡ rest
 
--- no read was made of a source, and it didn't break; if it tells its bytes, it has this input
+-- no read was made of a source, and it didn't break; if bytes are visible, it has this input
 abbrev pub IsAsFound : Bool → Content → Source → Type 0
 IsAsFound told content source = (there : Content) × (source ≡ source_of there) × (told ≡ true → there ≡ content)
 
@@ -188,22 +188,24 @@ abbrev pub GaveLast : List (List ℕ) → Source → Type 0
 GaveLast pieces source = (before : List (List ℕ)) (piece : List ℕ) → pieces ≡ before ++ piece ∷ []
     → source.last ≡ length piece
 
--- An input came in these pieces, each of a size that one read gives, and together no more bytes than any tool takes. A
--- read failed only where that is the fault that is told. There was one read for each piece, and none but the one more with
--- which the reading ended: it told the end, failed, or gave the piece that made it too long. Where the outputs that broke
--- ended it, there was no such read, and the last one gave the last piece. As that may come with any piece, each is what one
--- read gave.
+-- An input came in these pieces. `is_vain` says that broken outputs ended the reading.
 pub record ComesIn (told : Bool) (content : Content) (source : Source) (is_vain : Bool) (pieces : List (List ℕ))
     (fault : Option Fault) : Type 0 where
   pub read : IsRead content (LeavesOf told source) is_vain (concat pieces) fault
+  -- each piece has a size that one read gives
   pub sizes : All (λ piece. (0 < length piece) × (length piece ≤ largest_piece)) pieces
+  -- together the pieces have no more bytes than any tool takes
   pub few : length (concat pieces) < 2 ^ 63
+  -- a read failed only if that is the fault
   pub met : (fault ≡ Some (Read 0)) ⊎ (source.is_broken ≡ false)
+  -- without a fault, a read reported the end, unless broken outputs ended the reading
   pub ended : fault ≡ None → is_vain ≡ false → source.ended ≡ true
+  -- if broken outputs ended the reading, the last read gave the last piece
   pub last : told ≡ true → is_vain ≡ true → GaveLast pieces source
+  -- one read for each piece, and one that reported the end, failed or gave too much, unless broken outputs ended that
   pub reads : source.reads ≡ length pieces + (if is_vain then 0 else 1)
 
--- Standard output: it has all that was copied; or it broke in a piece, and has a beginning.
+-- What standard output is left with: all that was copied; or it broke in a piece, and has a beginning.
 pub data OutputLeft (told : Bool) (pieces : List (List ℕ)) : Option Break → Slot → Type 0 where
   output_whole : OutputLeft told pieces None (adds (told_of told (concat pieces)) standard_output)
   output_cut : {why : Reason} (before : List (List ℕ)) (piece : List ℕ) (after : List (List ℕ)) (n : ℕ)
@@ -211,8 +213,8 @@ pub data OutputLeft (told : Bool) (pieces : List (List ℕ)) : Option Break → 
       → OutputLeft told pieces (Some (record { call = suc (length before); why = why }))
       (breaks why (adds (told_of told (concat before ++ take n piece)) standard_output))
 
--- A file: it has all that was copied, and was closed; or it couldn't be opened, and its name is lost where there was no
--- memory to keep it; or it broke in a piece, and has a beginning; or it has all, and broke as it was closed.
+-- What a file is left with: all that was copied, and it was closed; or it couldn't be opened, and its name is lost if
+-- there was no memory for it; or it broke in a piece, and has a beginning; or it has all, and broke as it was closed.
 pub data FileLeft (told : Bool) (mode : Mode) (pieces : List (List ℕ)) (name : List ℕ) : Option Break → Slot → Type 0
   where
     file_whole : FileLeft told mode pieces name None (closes (adds (told_of told (concat pieces)) (opened name mode)))
@@ -226,7 +228,7 @@ pub data FileLeft (told : Bool) (mode : Mode) (pieces : List (List ℕ)) (name :
         → FileLeft told mode pieces name (Some (record { call = suc (length pieces); why = why }))
         (breaks why (closes (adds (told_of told (concat pieces)) (opened name mode))))
 
--- each file is so, by its name and how it broke, whatever became of the others
+-- `Is` is true of each file, by its name and how it broke, whatever became of the other files
 pub data EachFile (Is : List ℕ → Option Break → Slot → Type 0) : List (List ℕ) → List (Option Break) → List Slot
     → Type 0 where
   no_file : EachFile Is [] [] []
@@ -237,12 +239,12 @@ pub data EachFile (Is : List ℕ → Option Break → Slot → Type 0) : List (L
 abbrev pub FilesLeft : Bool → Mode → List (List ℕ) → List (List ℕ) → List (Option Break) → List Slot → Type 0
 FilesLeft told mode pieces = EachFile (FileLeft told mode pieces)
 
--- A run ended so: as each piece was read, the outputs that were broken didn't end it, and where they did the reading
--- ended with that; standard output and each file were left as they must be by what broke when and why; the messages for
--- that were said, each with some reason, and the status tells whether anything went wrong; or there was no memory for
--- the run at all, and nothing was opened or read.
+-- How a run ends.
 pub data EndsAs (told_in told : Bool) (calling : Calling) (mode : Mode) (on_broken : OnBroken)
     (names : List (List ℕ)) (content : Content) (source : Source) (new : List Slot) (status : ℕ) : Type 0 where
+  -- The input came in pieces, and outputs that broke before the last piece didn't end the run. The outputs are left as
+  -- what broke when says. The messages for that are reported, each with some reason, and the status says whether
+  -- anything failed.
   copied : (pieces : List (List ℕ)) (fault : Option Fault) (first : Option Break) (broke : List (Option Break))
       (output error : Slot) (files : List Slot)
       → ComesIn told_in content source (is_done on_broken (standings_before (suc (length pieces)) (first ∷ broke)))
@@ -253,11 +255,12 @@ pub data EndsAs (told_in told : Bool) (calling : Calling) (mode : Mode) (on_brok
       standard_error error
       → new ≡ output ∷ error ∷ files → status ≡ status_of on_broken (first ∷ broke) fault
       → EndsAs told_in told calling mode on_broken names content source new status
+  -- There was no memory for the run, and nothing was opened or read.
   no_room : (error : Slot) → SaysAll told (tee_called calling) (message_of Memory [] ∷ []) standard_error error
       → IsAsFound told_in content source → new ≡ streams_with error → status ≡ 1
       → EndsAs told_in told calling mode on_broken names content source new status
 
--- where nothing breaks: standard output and every file have these bytes, the files are closed, and nothing was said
+-- the outputs if nothing breaks: standard output and each file have these bytes, files are closed, nothing is reported
 abbrev pub all_copied : Bool → Mode → List (List ℕ) → List ℕ → List Slot
 all_copied told mode names bytes =
     adds (told_of told bytes) standard_output ∷ standard_error ∷ map

@@ -2,9 +2,9 @@
 use Rattle.std.specs.Prelude.{ℕ, Bool}
 
 pub record TeeState : Type 0 where
-  -- the number of its first file's output; those of the others follow it
+  -- the slot of its first file; the other files follow
   pub first : ℕ
   -- how many files there are
   pub count : ℕ
-  -- it was closed
+  -- whether it was closed
   pub is_over : Bool

@@ -5,8 +5,8 @@ ghost use Rattle.tee_core.specs.{Copy.{tee_spots, tee_work}, Run.all_copied};
 
 use ports_core::Mode;
 
-/// What is settled is what all continuations agree on: all that came in, in each output. So no byte waits, and each goes
-/// to its spot in every output. Where nothing breaks, a run leaves the outputs at the whole.
+/// What is settled is what all continuations agree on: all that came in, in each output. So no byte waits, and each goes to its spot in
+/// every output. If nothing breaks, a run leaves the outputs at the whole.
 pub fn agreed_is_settled()
     ensures outputs { (mode : Mode) (names : List (List ℕ)) (x : List ℕ)
         → IsAgreed (tee_work mode names) x ((tee_work mode names).settled x) }

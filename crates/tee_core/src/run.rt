@@ -35,19 +35,18 @@ struct Job<'a> {
     on_broken: OnBroken,
 }
 
-/// A whole run of `tee`: copies standard input to standard output and to the files of these names, which begin empty or are
-/// appended to (POSIX.1-2017, XCU tee). A file named `-` is a file. Its status is 1 where a fault was met, and else 0.
+/// A whole run of `tee`: copies standard input to standard output and to the files of these names, which begin empty or are appended to
+/// (POSIX.1-2017, XCU tee). A file named `-` is a file. Its status is 1 if a fault was met, and else 0.
 ///
-/// An output that can't be opened, written or closed is told on standard error, after the call in which it broke, and the
-/// others have all that is read. The input is read to its end, or where the run goes on with the outputs that are left, up to
-/// the piece with which the last of them broke; where it exits (GNU coreutils manual, tee, `--output-error=exit`), up to the
-/// piece in which the first one did, and not at all where a file couldn't be opened. What comes after that, a fault of the
-/// input too, isn't met. Where the input breaks off, or has more than 2^63-1 bytes, that is told. In each case the files that
-/// are sound are closed.
+/// An output that can't be opened, written or closed is reported on standard error, after the call in which it broke, and the others have
+/// all that is read. The input is read to its end. If the run goes on with the outputs that are left, it is read up to the piece with which
+/// the last output broke. If the run exits (GNU coreutils manual, tee, `--output-error=exit`), it is read up to the piece in which the
+/// first output broke, and not at all if a file couldn't be opened. What comes later, a fault of the input too, isn't met. If the input
+/// breaks off, or has more than 2^63-1 bytes, that is reported. In each case the files that are sound are closed.
 ///
-/// Of an output whose reader is gone `WarnNoPipe`, `ExitNoPipe` and `Signal` say nothing. The first two go on without it,
-/// with the status as if it were none; the third ends with it as `Exit` does, with the status 141, and goes on without those
-/// that broke otherwise. After a tool's own name each message has the system's reason.
+/// Of an output whose reader is gone `WarnNoPipe`, `ExitNoPipe` and `Signal` say nothing. The first two go on without it, with the status
+/// as if it were none. The third ends with it as `Exit` does, with the status 141, and goes on without outputs that broke otherwise. After
+/// a tool's own name each message has the system's reason.
 ///
 /// It takes memory for one buffer of 65,536 bytes and a byte for each output, before anything is opened, and for its
 /// messages.
@@ -98,7 +97,7 @@ fn tee_called(calling: Calling) -> Speaker
 ///
 /// # Errors
 ///
-/// `Memory` where there is none: nothing was opened or read.
+/// `Memory` if there is none: nothing was opened or read.
 fn copy_input<I: Inputs, O: Outs>(
     job: &Job<'_>,
     mode: Mode,
@@ -156,9 +155,9 @@ fn copy_all<I: Inputs, O: Outs>(
     status_for(job.on_broken, known, &fault)
 }
 
-/// Reads standard input to its end, or until the outputs that are broken end the run, and copies it piece by piece, with the
-/// messages for outputs that break. Returns the fault that ended it sooner, if one did: `Read` where the input broke off,
-/// `TooLong` where it has more than 2^63-1 bytes.
+/// Reads standard input to its end, or until the outputs that are broken end the run, and copies it piece by piece, with the messages for
+/// outputs that break. Returns the fault that ended it sooner, if a fault did: `Read` if the input broke off, `TooLong` if it has more than
+/// 2^63-1 bytes.
 #[tactic(auto, using(ports_core::proofs::InputsLemmas::keeps_again, ports_core::proofs::InputsLemmas::keeps_others, ports_core::proofs::InputsLemmas::asked_again, ports_core::proofs::InputsLemmas::asked_at_end))]
 fn copy_pieces<I: Inputs, O: Outs>(
     job: &Job<'_>,
@@ -205,7 +204,7 @@ fn copy_pieces<I: Inputs, O: Outs>(
     None
 }
 
-/// Copies a piece, and says which outputs broke in it.
+/// Copies a piece, and reports which outputs broke in it.
 fn copy_piece<O: Outs>(
     job: &Job<'_>,
     tee: &mut Tee,
@@ -227,7 +226,7 @@ fn copy_piece<O: Outs>(
     tell_broken(job, &Fault::Write(0), known, outs);
 }
 
-/// Closes the files, and says which of them broke in that.
+/// Closes the files, and reports which of them broke in that.
 fn close_all<O: Outs>(job: &Job<'_>, tee: &mut Tee, known: &mut [Standing], outs: &mut O)
     requires tee { IsTeeOf (map (λ name. name.now) job.now.names.now) tee.old }
     requires copies { (mode : Mode) × (pieces : List (List ℕ)) × (messages : List Message)
@@ -243,7 +242,7 @@ fn close_all<O: Outs>(job: &Job<'_>, tee: &mut Tee, known: &mut [Standing], outs
     tell_broken(job, &Fault::Write(0), known, outs);
 }
 
-/// Says what ended the reading before the input's end, if anything did.
+/// Reports what ended the reading before the input's end, if anything did.
 fn tell_input<I: Inputs, O: Outs>(job: &Job<'_>, fault: &Option<Fault>, inputs: &I, outs: &mut O)
     requires { (count : ℕ) × HasStreams (O.slots outs.old) count }
     ensures told { SaysTo O.told job.now.calling (said_of_input fault.now) (O.slots outs.old) (O.slots outs.new) }
@@ -264,8 +263,7 @@ fn tell_input<I: Inputs, O: Outs>(job: &Job<'_>, fault: &Option<Fault>, inputs: 
     }
 }
 
-/// Says of each output that is broken and isn't known to be that it broke so, in the outputs' order, where that is due.
-/// It is known then.
+/// Reports, in the outputs' order, each output that is broken and wasn't known to be, if that is due. Then it is known.
 fn tell_broken<O: Outs>(job: &Job<'_>, fault: &Fault, known: &mut [Standing], outs: &mut O)
     requires streams { HasStreams (O.slots outs.old) (length job.now.names.now) }
     requires known { length known.old ≡ length job.now.names.now + 1 }
@@ -280,8 +278,7 @@ fn tell_broken<O: Outs>(job: &Job<'_>, fault: &Fault, known: &mut [Standing], ou
     }
 }
 
-/// Says of an output that it broke so, unless it is sound, or that is known, or it is gone and nothing is said of that.
-/// Returns how it stands.
+/// Reports that an output broke so, unless it is sound, or that is known, or it is gone and that isn't reported. Returns how it stands.
 fn tell_one<O: Outs>(
     job: &Job<'_>,
     fault: &Fault,

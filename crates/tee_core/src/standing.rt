@@ -9,11 +9,11 @@ use ports_core::{Fault, OnBroken, Reason};
 /// How an output stands, as far as is known.
 #[derive(Clone, Copy, Debug)]
 pub enum Standing {
-    /// It isn't broken.
+    /// The output isn't broken.
     Sound,
-    /// It broke, and not since its reader is gone.
+    /// The output broke, and its reader isn't gone.
     Broken,
-    /// It broke since its reader is gone.
+    /// The output broke because its reader is gone.
     Gone,
 }
 
@@ -27,7 +27,7 @@ pub(crate) fn lost_for(why: Reason) -> Standing
     }
 }
 
-/// Whether a run ends, where its outputs stand so.
+/// Whether a run ends if its outputs stand so.
 pub(crate) fn is_done(on_broken: OnBroken, known: &[Standing]) -> bool
     ensures { result ≡ is_done on_broken known.now }
 {
@@ -79,7 +79,7 @@ fn is_quiet(on_broken: OnBroken) -> bool
     }
 }
 
-/// The status of a run whose outputs stand so in the end, with the fault that ended its reading, if one did.
+/// The status of a run whose outputs stand so at its end, with the fault that ended its reading, if a fault did.
 pub(crate) fn status_for(on_broken: OnBroken, known: &[Standing], fault: &Option<Fault>) -> u8
     ensures { result ≡ status_for on_broken known.now fault.now }
 {
@@ -97,7 +97,7 @@ fn has_failed(known: &[Standing], fault: &Option<Fault>) -> bool
     fault.is_some() || any_is(Standing::Broken, known)
 }
 
-/// The status where the reader of an output is gone, by whether anything else failed.
+/// The status if the reader of an output is gone, by whether anything else failed.
 fn gone_status(on_broken: OnBroken, failed: bool) -> u8
     ensures { result ≡ gone_status on_broken failed }
 {

@@ -23,11 +23,11 @@ const STANDARD_OUTPUT: usize = 0;
 /// taken.
 #[derive(Drop)]
 pub struct Tee {
-    /// The number of the first file's output; those of the others follow it.
+    /// The slot of the first file; the other files follow.
     first: usize,
     /// How many files there are.
     count: usize,
-    /// It was closed.
+    /// Whether it was closed.
     is_over: bool,
 }
 
@@ -40,12 +40,12 @@ impl Model for Tee {
 }
 
 impl Tee {
-    /// Opens the files, in order; there may be none. One that can't be opened is a broken output, and is left out. A tee
-    /// itself takes no memory: outputs are told by their numbers, and those of the files follow one another.
+    /// Opens the files, in order; there may be none. A file that can't be opened is a broken output, and is left out. A tee itself takes no
+    /// memory: it knows outputs by their numbers, and those of the files follow one another.
     ///
     /// # Errors
     ///
-    /// `Memory` where there are more files than numbers left for outputs: those before are open.
+    /// `Memory` if there are more files than numbers left for outputs: the files before are open.
     pub fn open<O: Outs>(
         alloc: Global,
         names: &[&str],
@@ -154,7 +154,7 @@ impl Tee {
 ///
 /// # Errors
 ///
-/// `Memory` where no number is left for one of them: those before are open.
+/// `Memory` if no number is left for a file: the files before are open.
 fn open_files<O: Outs>(names: &[&str], mode: Mode, outs: &mut O) -> Result<(), Fault>
     requires { length (O.slots outs.old) ≤ 2 ^ 64 }
     ensures ok { OnOk result (Opens mode (map (λ name. name.now) names.now) (O.slots outs.old) (O.slots outs.new)) }
@@ -172,11 +172,11 @@ fn open_files<O: Outs>(names: &[&str], mode: Mode, outs: &mut O) -> Result<(), F
     Ok(())
 }
 
-/// Opens a file, and returns its number, also where it can't be opened.
+/// Opens a file, and returns its number, also if it can't be opened.
 ///
 /// # Errors
 ///
-/// `Memory` where no number is left.
+/// `Memory` if no number is left.
 fn open_file<O: Outs>(name: &str, mode: Mode, outs: &mut O) -> Result<usize, Fault>
     ensures ok { IfOk result (λ slot. (slot ≡ length (O.slots outs.old))
         × OpensOne mode name.now (O.slots outs.old) (O.slots outs.new)) }
@@ -192,7 +192,7 @@ fn open_file<O: Outs>(name: &str, mode: Mode, outs: &mut O) -> Result<usize, Fau
     }
 }
 
-/// Writes the piece to an output, unless that is broken. Returns 1 where it broke, and else 0.
+/// Writes the piece to an output, unless that is broken. Returns 1 if it broke, and else 0.
 fn write_piece<O: Outs>(slot: usize, piece: &[u8], outs: &mut O) -> u64
     requires { IsUsable (slot_at (O.slots outs.old) slot) }
     ensures turned { ChangesSome (Gets O.told piece.now) (λ place. place ≡ slot) (O.slots outs.old)
@@ -208,7 +208,7 @@ fn write_piece<O: Outs>(slot: usize, piece: &[u8], outs: &mut O) -> u64
     }
 }
 
-/// Closes a file, unless it is broken. Returns 1 where it broke, and else 0.
+/// Closes a file, unless it is broken. Returns 1 if it broke, and else 0.
 fn close_file<O: Outs>(slot: usize, outs: &mut O) -> u64
     requires file { 2 ≤ slot }
     requires usable { IsUsable (slot_at (O.slots outs.old) slot) }

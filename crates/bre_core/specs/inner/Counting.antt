@@ -9,11 +9,11 @@ use Rattle.bre_core.specs.{
   Pattern.repeated,
 }
 
--- a count that goes up to one past the most positions a pattern may have
+-- a count that stops at 65,536, one above the most positions that a pattern may have
 abbrev pub capped : ℕ → ℕ
 capped count = min count 65536
 
--- a token was taken: the groups that are open and the count of the innermost concatenation, before and after it
+-- a token was taken: the open groups and the count of the innermost concatenation, before and after it
 abbrev pub Took : Token → List Group → Count → List Group → Count → Type 0
 Took (Set bytes) groups count groups' count' = (groups' ≡ groups) × (count'.before ≡ capped (count.before + count.last))
     × (count'.last ≡ 1)

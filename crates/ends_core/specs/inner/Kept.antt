@@ -5,23 +5,22 @@ use Rattle.ports_core.specs.{Slot.{Slot, with_written, told_of}, Write.BrokeAfte
 use Rattle.seg_core.specs.declared.unit.Unit.TheVariants as unit
 use Rattle.ports_core.specs.declared.fault.Fault.TheVariants as fault
 
--- if it keeps bytes and is full, no memory can be wanting
+-- if a store keeps bytes and is full, no memory can be lacking
 abbrev pub FullLacksNone : Kept → Type 0
 FullLacksNone kept = unit_of kept ≡ unit.Bytes → most_of kept ≤ length (held_of kept) → may_lack_of kept ≡ false
 
--- both count the same, by the same delimiter, and keep as many
+-- both stores count the same, have the same delimiter and keep as many
 pub record SameKept (old new : Kept) : Type 0 where
   pub unit : unit_of new ≡ unit_of old
   pub delim : delim_of new ≡ delim_of old
   pub most : most_of new ≡ most_of old
 
--- the output broke among the bytes; or they were written, and there was no room for what has to wait after them, where
--- there may be none
+-- the output broke among the bytes; or they were written, and there was no memory for what has to wait, if it may lack
 pub data Stops (told lacks : Bool) (bytes : List ℕ) (old new : List Slot) : Fault → Type 0 where
   broke : (n : ℕ) → BrokeAfter told old new 0 bytes n → Stops told lacks bytes old new (fault.Write 0)
   no_room : lacks ≡ true → new ≡ with_written 0 (told_of told bytes) old → Stops told lacks bytes old new fault.Memory
 
--- the bytes were written, or that stopped
+-- the bytes were written, or a fault stopped that
 pub record Writes (told lacks : Bool) (bytes : List ℕ) (old new : List Slot)
     (result : Result (Unit {0}) Fault) : Type 0 where
   pub out : OnOk result (new ≡ with_written 0 (told_of told bytes) old)

@@ -13,7 +13,7 @@ use Rattle.ends_core.specs.{
 use Rattle.ports_core.specs.{Slot.Slot, declared.{fault.Fault.Fault, verdict.Verdict.TheVariants.Changed}}
 use Rattle.ports_core.specs.declared.fault.Fault.TheVariants as fault
 
--- if bytes are kept and as many wait as are to be kept, no memory can be wanting
+-- if bytes are kept and as many wait as are to be kept, no memory can be lacking
 abbrev pub FullLacksNone : Ends → Type 0
 FullLacksNone ends = unit_of ends ≡ Bytes → count_of ends ≤ length (waiting_of ends) → may_lack ends ≡ false
 
@@ -25,14 +25,14 @@ due (FromNth count front) piece = after_of front.delim front.unit front.left pie
 due (Last kept) piece = []
 due (Between span) piece = bytes_between (span.from - span.came) (span.end - span.came) piece
 
--- With these bytes nothing is written where they are the first: where all from the nth on is asked for, or from a place on,
--- they stand before it, and they aren't all up to the end; else there are none.
+-- These bytes, if they are the first, write nothing. From number n on, or between two places, they stand before what is
+-- written, and between two places they aren't all up to the end. Of any other stretch there are none.
 abbrev pub WritesNothing : Ends → List ℕ → Type 0
 WritesNothing (Between span) x = (length x ≤ span.from) × ((x ≡ []) ⊎ (length x < span.end))
 WritesNothing (FromNth count front) x = after_of front.delim front.unit front.left x ≡ []
 WritesNothing ends x = x ≡ []
 
--- what it is after these bytes then
+-- the stage after these bytes, if they write nothing
 abbrev pub passed : Ends → List ℕ → Ends
 passed (FromNth count front) x = FromNth count (record front {
   left = front.left - measure front.delim front.unit x;
@@ -46,7 +46,7 @@ unused_of (First count front) piece = after_of front.delim front.unit front.left
 unused_of (Between span) piece = drop (span.end - span.came) piece
 unused_of ends piece = []
 
--- how many bytes a piece may have where this many lines or bytes are still to come
+-- how many bytes a piece may have if this many lines or bytes are still to come
 abbrev pub piece_for : Counted → ℕ → ℕ
 piece_for Lines left = max left 4096
 piece_for Bytes left = left
@@ -57,7 +57,7 @@ wanted_by (First count front) = piece_for front.unit front.left
 wanted_by (Between span) = span.end - span.came
 wanted_by ends = 2 ^ 64 - 1
 
--- what waits after the piece
+-- what waits after a piece
 abbrev pub left_waiting : Ends → List ℕ → List ℕ
 left_waiting (ButLast kept) piece = last_of (kept_delim kept) (kept_unit kept) (most_of kept) (held_of kept ++ piece)
 left_waiting (Last kept) piece = last_of (kept_delim kept) (kept_unit kept) (most_of kept) (held_of kept ++ piece)
@@ -68,21 +68,21 @@ abbrev pub due_at_end : Ends → List ℕ
 due_at_end (Last kept) = held_of kept
 due_at_end ends = []
 
--- nothing more is to come
+-- whether nothing more is to be written
 abbrev pub is_full : Ends → Bool
 is_full (First count front) = front.left == 0
 is_full (Between span) = nat_le span.end span.came
 is_full ends = false
 
--- both were asked for the same
+-- both stages were asked for the same
 pub record SameAsked (old new : Ends) : Type 0 where
   pub stretch : stretch_of new ≡ stretch_of old
   pub delim : delim_of new ≡ delim_of old
   pub unit : unit_of new ≡ unit_of old
   pub count : count_of new ≡ count_of old
 
--- Why the end stopped, with the outputs as they are then: fewer bytes came than were shown, and nothing was to be written; or
--- the output broke.
+-- Why the end stopped, and the outputs then: fewer bytes came than were shown, and the outputs stay; or the output
+-- broke.
 pub data EndsBadly (told : Bool) (ends : Ends) (old new : List Slot) : Fault → Type 0 where
   changed : 0 < missing_of ends → new ≡ old → EndsBadly told ends old new (fault.Verdict Changed)
   stopped : (fault : Fault) → Stops told false (due_at_end ends) old new fault → EndsBadly told ends old new fault

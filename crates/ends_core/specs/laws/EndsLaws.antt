@@ -1,4 +1,4 @@
--- Laws that traits cite: what stands at the ends of an input, and of an input that goes on.
+-- Laws that traits cite: what stands at the ends of an input, and of a longer input.
 use Rattle.std.proofs.{
   lemmas.{
     Grind.common_steps,
@@ -31,7 +31,7 @@ take_both (suc n) (byte ∷ x) y =
     let less : n - length x ≡ suc n - suc (length x) = omega arith in
     ap (λ rest. byte ∷ rest) (take_both n x y ∙ ap (λ m. take n x ++ take m y) less)
 
--- the first n of a text that goes on: those of the text, and of what follows as many as are missing
+-- the first n of a longer text: those of the text, and of what follows as many as are missing
 pub first_of-append : (delim : ℕ) (unit : Counted) (n : ℕ) (x y : List ℕ)
     → first_of delim unit n (x ++ y) ≡ first_of delim unit n x ++ first_of delim unit (n - measure delim unit x) y
 first_of-append delim Lines n x y = first_lines-append delim n x y
@@ -47,18 +47,18 @@ pub first_of-short : (delim : ℕ) (unit : Counted) (n : ℕ) {x : List ℕ} →
 first_of-short delim Lines n {x} short = first_lines-short delim n x short
 first_of-short delim Bytes n {x} short = take_all n x (omega arith)
 
--- once there are n, what follows adds nothing
+-- once a text has n, what follows adds nothing to its first n
 pub first_of-full : (delim : ℕ) (unit : Counted) (n : ℕ) (x y : List ℕ) → n ≤ measure delim unit x
     → first_of delim unit n (x ++ y) ≡ first_of delim unit n x
 first_of-full delim unit n x y full = grind (arith, common_steps, first_of-append, first_of-zero, append-nil)
 
--- the first of a text and what stands after them are the text
+-- the first n of a text and what stands after them are the text
 pub first_then_after : (delim : ℕ) (unit : Counted) (n : ℕ) (x : List ℕ)
     → first_of delim unit n x ++ after_of delim unit n x ≡ x
 first_then_after delim Lines n x = first_lines_then_rest delim n x
 first_then_after delim Bytes n x = take-append-drop n x
 
--- what stands after the first of a text that goes on
+-- what stands after the first n of a longer text
 pub after_of-append : (delim : ℕ) (unit : Counted) (n : ℕ) (x y : List ℕ)
     → after_of delim unit n (x ++ y) ≡ after_of delim unit n x ++ after_of delim unit (n - measure delim unit x) y
 after_of-append delim unit n x y =
@@ -69,7 +69,7 @@ after_of-append delim unit n x y =
     ∙ ap (λ z. (first_of delim unit n x ++ after_of delim unit n x) ++ z)
     (sym (first_then_after delim unit (n - measure delim unit x) y))
     ∙ swapped) where
-      -- one of them is empty
+      -- one of the two in the middle is empty
       swapped : (first_of delim unit n x ++ after_of delim unit n x)
           ++ (first_of delim unit (n - measure delim unit x) y ++ after_of delim unit (n - measure delim unit x) y)
           ≡ (first_of delim unit n x ++ first_of delim unit (n - measure delim unit x) y)
@@ -86,7 +86,7 @@ after_of-append delim unit n x y =
             simp (none, append-nil, append_assoc)
       ]
 
--- what stands before the last of a text, and these, are the text
+-- what stands before the last n of a text, and these, are the text
 pub ends_together : (delim : ℕ) (unit : Counted) (n : ℕ) (x : List ℕ)
     → but_last_of delim unit n x ++ last_of delim unit n x ≡ x
 ends_together delim Lines n x = first_then_after delim Lines (line_count delim x - n) x
@@ -104,13 +104,13 @@ last_bytes-append n x y =
     sym (ap (drop (length (drop k x ++ y) - n)) (sym here) ∙ drop-drop (length (drop k x ++ y) - n) k (x ++ y) ∙ ap
     (λ m. drop m (x ++ y)) both)
 
--- the last of a text that goes on are among its last and what follows: nothing else need be kept
+-- the last n of a longer text are among the last n of the text and what follows: nothing else need be kept
 pub last_of-append : (delim : ℕ) (unit : Counted) (n : ℕ) (x y : List ℕ)
     → last_of delim unit n (x ++ y) ≡ last_of delim unit n (last_of delim unit n x ++ y)
 last_of-append delim Lines n x y = last_lines-append delim n x y
 last_of-append delim Bytes n x y = last_bytes-append n x y
 
--- what stands before the last of a text stays there, and some of what was among the last joins it
+-- what stands before the last n of a text stays there in a longer text, and some of the last n join it
 pub but_last_of-append : (delim : ℕ) (unit : Counted) (n : ℕ) (x y : List ℕ)
     → but_last_of delim unit n (x ++ y) ≡ but_last_of delim unit n x
     ++ but_last_of delim unit n (last_of delim unit n x ++ y)

@@ -23,7 +23,7 @@ use Rattle.ends_core.specs.{
   laws.EndsLaws.{measure-append, first_of-append, first_of-full, but_last_of-append, after_of-append},
 }
 
--- the head of a text that goes on begins with the head of the text
+-- the head of a longer text begins with the head of the text
 pub head_of-grows : (delim : ℕ) (unit : Counted) (but_last : Bool) (n : ℕ) (x y : List ℕ) → (rest : List ℕ)
     × (head_of delim unit but_last n (x ++ y) ≡ head_of delim unit but_last n x ++ rest)
 head_of-grows delim unit false n x y =
@@ -38,7 +38,7 @@ pub full_head : (delim : ℕ) (unit : Counted) (but_last : Bool) (n : ℕ) (x y 
 full_head delim unit true n x y full = cc
 full_head delim unit false n x y full = grind (arith, common_steps, leb-true, le-leb, measure-append, first_of-full)
 
--- an input has not changed below n bytes once as many came, and has where it ends before
+-- an input that showed n bytes hasn't changed if as many came, and has if fewer came
 pub enough_came : (n : ℕ) (x : List ℕ) → n ≤ length x → changed_below n x ≡ None
 enough_came zero x enough = refl
 enough_came (suc n) x enough = grind (arith, common_steps, le-ltb)
@@ -87,7 +87,7 @@ tail_lawful delim unit from_nth n = record {
 drop_of-nil : (n : ℕ) → drop {A = ℕ} n [] ≡ []
 drop_of-nil n = drop_all n [] (omega arith)
 
--- of a text that goes on: those of the text, and of what follows as many as are missing
+-- the bytes of a longer text: those of the text, and of what follows as many as are missing
 pub bytes_between-append : (from end : ℕ) (x y : List ℕ)
     → bytes_between from end (x ++ y)
     ≡ bytes_between from end x ++ bytes_between (from - length x) (end - length x) y
@@ -102,7 +102,7 @@ bytes_between-append from end x y =
         | inr full ↦ let none : end - length x ≡ 0 = omega arith in rw none (drop_of-nil _ ∙ sym (drop_of-nil _))
       ]
 
--- once all came, what follows adds nothing
+-- once all these bytes came, what follows adds nothing
 pub between_full : (from end : ℕ) (x y : List ℕ) → end ≤ length x
     → bytes_between from end (x ++ y) ≡ bytes_between from end x
 between_full from end x y full = ap (drop from) (take-append-le end x y full)

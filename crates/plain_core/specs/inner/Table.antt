@@ -1,4 +1,4 @@
--- Tables of stretches of a line, as the truth values of `contains` are found with.
+-- Tables of stretches of a line, with which the value of `contains` is found.
 use Rattle.std.specs.{
   Prelude.{◌≡◌, ℕ, suc, ◌+◌, ◌≤◌, Bool, false, ◌==◌, ◌&&◌, nat_le, List, [], slice_index_or, Option},
 }
@@ -12,7 +12,7 @@ use Rattle.bre_core.specs.{
 abbrev pub at : List (List Bool) → ℕ → ℕ → Bool
 at rows from to = slice_index_or (slice_index_or rows from []) to false
 
--- the table says what a test says, of each two places of a line of that length
+-- the table says of each two places of a line of this length what the test says
 pub record IsTable (len : ℕ) (test : ℕ → ℕ → Bool) (rows : List (List Bool)) : Type 0 where
   pub exact : (from to : ℕ) → from ≤ len → to ≤ len → at rows from to ≡ test from to
 
@@ -23,11 +23,11 @@ leaf Front line from to = matches_item front line from to
 leaf End line from to = matches_item end line from to
 leaf token line from to = from == to
 
--- a stretch of the one, and then one of the other
+-- a stretch of the first test, and then a stretch of the second
 abbrev pub joined : (ℕ → ℕ → Bool) → (ℕ → ℕ → Bool) → ℕ → ℕ → Bool
 joined first second from to = any_below (suc to) (λ middle. first from middle && second middle to)
 
--- from low to high parts, where `runs` says it of each number of parts
+-- a stretch of low to high parts, if `runs` says it of each number of parts
 abbrev pub repeats : (ℕ → ℕ → ℕ → Bool) → ℕ → Option ℕ → ℕ → ℕ → Bool
 repeats runs low high from to =
     any_below (suc (low + to)) (λ count. nat_le low count && (is_at_most high count && runs count from to))

@@ -26,8 +26,8 @@ use Rattle.run_core.specs.{
   Task.{Task, Outcome, made_by, after_part, header_text, is_missing, are_missing},
 }
 
--- How closing an engine ends that has got all of its input: it finished; or a fault stopped it, and its files went if
--- the work clears them, by itself where that fault is a verdict.
+-- How closing an engine that has all of its input ends: it finished; or a fault stopped it, and its files go if the
+-- work clears them. If the fault is a verdict, the engine itself removed them.
 pub data EndsSo {S : Type 0} (terms : Terms S) (told : Bool) (engine : GuardState S) (fed : Fed)
     (old new : List Slot) : Result Fed Fault → Type 0 where
   finished : (next : S)
@@ -50,12 +50,12 @@ pub data HeaderFails (told : Bool) (text : List ℕ) (old new : List Slot) : Fau
   no_room : new ≡ old → HeaderFails told text old new Memory
   broke : (n : ℕ) → BrokeAfter told old new 0 text n → HeaderFails told text old new (Write 0)
 
--- an input that a name stands for, where it can be read
+-- the input of a name, if it can be read
 abbrev pub input_from : List ℕ → Option ℕ → Option (List ℕ) → Content → Input
 input_from name slot shown content = record { name = name; slot = slot; shown = shown; content = Some content }
 
--- One input was done, with this outcome, or a fault stopped the run there: whether a header is the first was told, and
--- whether a fault was, and standard input was read or not. The files that may be removed are those from `first` on.
+-- One input was done with this outcome, or a fault stopped the run there. The progress says whether no header was
+-- written yet, whether a fault was met, and whether standard input was read. The files from `first` on may be removed.
 pub data TookInput (told_in told : Bool) (task : Task) (most : ℕ) (input : Input) (outcome : Outcome)
     (is_first failed was_read : Bool) (so_far : Part) (error : Slot) (first : ℕ) (sources : List Source)
     (new : List Slot) : Result RunProgress Fault → Type 0 where
@@ -102,7 +102,7 @@ pub data TookAll (told_in told : Bool) (task : Task) (inputs : List Input) (sour
   not_begun : new ≡ streams → AreUntouched inputs sources → length sources ≡ 1
       → TookAll told_in told task inputs sources new (Err Memory)
 
--- the input that a source gives: standard input or a file by its number, or one that is empty
+-- `P` is true of the input that a source gives: standard input or a file by its number, or an empty input
 abbrev pub OfSource : Bool → Option ℕ → List Source → (Content → Type 0) → Type 0
 OfSource told None sources P = P empty
 OfSource told (Some slot) sources P = (content : Content) × (told ≡ true → content ≡ (source_at sources slot).left)
@@ -112,22 +112,22 @@ abbrev pub OfName : Bool → World → Bool → ℕ → List ℕ → (Input → 
 OfName told world was_read slot name P = (input : Input) × IsFor was_read slot name input
     × (told ≡ true → input ≡ input_of world was_read slot name (is_dash name)) × P input
 
--- why a source broke; one that is no input never does
+-- why a source broke; `Other` without a source
 abbrev pub reason_of : Option ℕ → List Source → Reason
 reason_of None sources = Other
 reason_of (Some slot) sources = (source_at sources slot).reason
 
--- no input but that of the source was touched
+-- no input except that of the source was touched
 abbrev pub KeepsOther : Option ℕ → List Source → List Source → Type 0
 KeepsOther None old new = new ≡ old
 KeepsOther (Some slot) old new = KeepsOthers slot old new
 
--- where a `-` reads from: from standard input the first time, and from nowhere again
+-- what a `-` reads: standard input the first time, and nothing again
 abbrev pub standard_source : Bool → Option ℕ
 standard_source was_read = if was_read then None else Some 0
 
--- What taking a name leaves of the inputs: a file is one more at the most, those before it are as they were, and
--- standard input is touched by the first `-` alone.
+-- What taking a name leaves of the inputs. A file is one more at the most, the files before it are as they were, and
+-- only the first `-` touches standard input.
 pub record TakesOne (most : ℕ) (was_read : Bool) (name : List ℕ) (old new : List Source) : Type 0 where
   pub grown : length old ≤ length new
   pub within : length new ≤ next_slot (length old) name

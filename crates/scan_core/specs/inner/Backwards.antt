@@ -9,12 +9,12 @@ use Rattle.scan_core.specs.{
 abbrev pub stretch : ℕ → ℕ → List Node → List Node
 stretch from size nodes = take size (drop from nodes)
 
--- the nodes of an item that is written out; where there is no bound, the step back stands before them
+-- the nodes of an item that is written out, after the step back if there is no bound
 abbrev pub begun : Option ℕ → List Node → List Node
 begun None nodes = Back 0 ∷ nodes
 begun (Some high) nodes = nodes
 
--- a duplication's item has begun: it may stand from its place on among `size` nodes, and its bounds are in order
+-- an item that is repeated may stand from `start` on among `size` nodes, and its bounds are in order
 abbrev pub HasBegun : Option ℕ → ℕ → ℕ → ℕ → Type 0
 HasBegun None low start size = start < size
 HasBegun (Some high) low start size = (start ≤ size) × (low ≤ high) × (0 < high)

@@ -5,14 +5,14 @@ use Rattle.scan_core.specs.{
   inner.Sets.Flows,
 }
 
--- a branch is open at one place of a line: at its first or at its last, or neither
+-- a branch is open at a place of a line; the flags say whether the place is the line's first or its last
 abbrev pub Opens : When → Bool → Bool → Type 0
 Opens Never at_first at_last = ⊥
 Opens AtFront at_first at_last = IsTrue at_first
 Opens AtEnd at_first at_last = IsTrue at_last
 Opens Always at_first at_last = Unit {0}
 
--- the branch of a number is all that it leads to
+-- a number leads without a byte exactly where its branch leads
 pub record IsBranch (code : List Node) (number : ℕ) (branch : Branch) : Type 0 where
   pub one : branch.one ≤ length code
   pub other : branch.other ≤ length code

@@ -5,31 +5,31 @@ use Rattle.scan_core.specs.{
   inner.{Hops.{HopsTo, PartsTo, end_of}, Sets.Flows, Words.{Adds, IsIn, unset}},
 }
 
--- each step from a set leads to it, or a hop leads there
+-- each step from a set leads into the set, or a hop leads there
 abbrev pub IsApart : List Node → Hops → List ℕ → Type 0
 IsApart code hops words = (from to : ℕ) → IsIn words from → Flows code false false from to
     → IsIn words to ⊎ PartsTo hops.onward.items hops.landings.items (from / 64) to
 
--- numbers were added that the old ones lead to; some were if any bit is left over
+-- only numbers to which old numbers lead were added, and some were unless `over` is 0
 pub record Closer (code : List Node) (hops : Hops) (old new : List ℕ) (over : ℕ) : Type 0 where
   pub adds : Adds code false false old new
   pub apart : IsApart code hops new
   pub fuller : unset new ≤ unset old
   pub less : (over ≡ 0 → ⊥) → unset new < unset old
 
--- a hop was followed; no number is new if no bit is left over
+-- a hop was followed; if `over` is 0, no number is new
 pub record Follows (code : List Node) (closures : Closures) (hop : Hop) (old new : List ℕ) (over : ℕ) : Type 0 where
   pub closer : Closer code closures.hops old new over
   pub followed : (bit : ℕ) → bit < 64 → bit_at hop.from bit ≡ 1 → IsIn old (hop.at * 64 + bit) → IsIn new (end_of hop)
   pub settled : over ≡ 0 → (number : ℕ) → IsIn new number → IsIn old number
 
--- hops to numbers that lead on were followed; only landings are missing if no bit is left over
+-- hops to numbers that lead on were followed; if `over` is 0, only landings are missing
 pub record FollowsHops (code : List Node) (closures : Closures) (old new : List ℕ) (over : ℕ) : Type 0 where
   pub closer : Closer code closures.hops old new over
   pub done : over ≡ 0 → (from to : ℕ) → IsIn new from → Flows code false false from to
       → IsIn new to ⊎ HopsTo closures.hops.landings.items (from / 64) to
 
--- what the landings lead to was entered, and nothing that leads out of what is in each set
+-- what the landings lead to was entered, and each number that was added leads only to what is in every set
 pub record HasLanded (code : List Node) (base : List ℕ) (landings : List Hop) (old new : List ℕ) : Type 0 where
   pub adds : Adds code false false old new
   pub over : (number : ℕ) → IsIn new number

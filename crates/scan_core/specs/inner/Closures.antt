@@ -8,25 +8,25 @@ use Rattle.scan_core.specs.{
   inner.{Each.AreEach, Hops.AreParted, Sets.{Flows, FlowsOn}, Words.{IsIn, width}},
 }
 
--- all that number 0 leads to, at a line's front or elsewhere
+-- the words have exactly what number 0 leads to, at a line's front or elsewhere
 pub record IsBegun (code : List Node) (at_first : Bool) (words : List ℕ) : Type 0 where
   pub size : length words ≡ width code
   pub exact : (number : ℕ) → IsIn words number ↔ FlowsOn code at_first false 0 number
 
--- what is in each set
+-- the words have what is in every set
 abbrev pub IsBase : List Node → List ℕ → Type 0
 IsBase code = IsBegun code false
 
--- where a node of a word leads out of a set, the bit is set
+-- if a number of a word leads out of a set, its bit is 1
 abbrev pub IsLeading : List Node → List ℕ → ℕ → ℕ → Type 0
 IsLeading code words at word = (bit : ℕ) (to : ℕ) → bit < 64 → Flows code false false (at * 64 + bit) to
     → (bit_at word bit ≡ 1) ⊎ IsIn words to
 
--- at a line's end a number leads to no more than before it
+-- a number leads to no more at a line's end than elsewhere
 abbrev pub IsPlain : List Node → ℕ → Type 0
 IsPlain code from = (to : ℕ) → Flows code false true from to → Flows code false false from to
 
--- where a number of a word leads to more there, the bit is set
+-- if a number of a word leads to more at a line's end, its bit is 1
 abbrev pub HasAnchors : List Node → ℕ → ℕ → Type 0
 HasAnchors code at word = (bit : ℕ) → bit < 64 → (bit_at word bit ≡ 1) ⊎ IsPlain code (at * 64 + bit)
 
@@ -34,7 +34,7 @@ HasAnchors code at word = (bit : ℕ) → bit < 64 → (bit_at word bit ≡ 1) �
 abbrev pub Stays : List Node → ℕ → ℕ → Type 0
 Stays code from to = Flows code false false from to × (to / 64 ≡ from / 64)
 
--- the numbers of a word that some of its numbers lead to
+-- `all` has what the chosen numbers of a word lead to within it
 pub record Closes (code : List Node) (at chosen all : ℕ) : Type 0 where
   pub kept : (bit : ℕ) → bit < 64 → bit_at chosen bit ≡ 1 → bit_at all bit ≡ 1
   pub from_chosen : (number : ℕ) → number < 64 → bit_at all number ≡ 1 → (bit : ℕ) × (bit < 64)
@@ -42,7 +42,7 @@ pub record Closes (code : List Node) (at chosen all : ℕ) : Type 0 where
   pub closed : (number to : ℕ) → number < 64 → to < 64 → bit_at all number ≡ 1
       → Flows code false false (at * 64 + number) (at * 64 + to) → bit_at all to ≡ 1
 
--- the numbers that a place of the table is for: a choice from eight of a word
+-- the numbers for which a place of the table is made: some of eight numbers of a word
 abbrev pub chosen_at : ℕ → ℕ
 chosen_at place = place % 256 * 2 ^ (place / 256 % 8 * 8) % 2 ^ 64
 

@@ -10,7 +10,7 @@ use Rattle.scan_core.specs.{
   inner.Backwards.{HasBegun, Repeats},
 }
 
--- what waits for an item waits for one that may stand among the nodes
+-- a duplication that waits for its item has a place for it among the nodes
 abbrev pub Waits : ℕ → Pending → Type 0
 Waits size Group = Unit {0}
 Waits size (Repeated duplication) = HasBegun duplication.high duplication.low duplication.start size
@@ -18,14 +18,14 @@ Waits size (Repeated duplication) = HasBegun duplication.high duplication.low du
 abbrev pub AreBegun : Compiling → Type 0
 AreBegun compiling = All (Waits (length compiling.nodes.items)) compiling.pending.items
 
--- the state, in its parts
+-- the parts of the state are these
 pub record IsNow (written : List Node) (waiting : List Pending) (depth : Option ℕ) (new : Compiling) : Type 0 where
   pub nodes : new.nodes.items ≡ written
   pub pending : new.pending.items ≡ waiting
   pub passing : new.passing ≡ depth
 
--- an item is complete after these nodes: the duplications that wait for it are written out, the innermost, which is the
--- first here, first
+-- An item is complete after these nodes. The duplications that wait for it are written out from the first of this list
+-- to the last, the innermost first.
 abbrev pub FinishesBy : List Pending → List Node → Compiling → Type 0
 FinishesBy [] nodes new = IsNow nodes [] None new
 FinishesBy (Group ∷ stack) nodes new = IsNow nodes (reverse (Group ∷ stack)) None new
@@ -35,7 +35,7 @@ FinishesBy (Repeated duplication ∷ stack) nodes new = (written : List Node) ×
 abbrev pub Finishes : List Node → List Pending → Compiling → Type 0
 Finishes nodes pending new = FinishesBy (reverse pending) nodes new
 
--- a duplication begins; one that asks for no time passes its item over
+-- a duplication begins; if it asks for its item 0 times, the item is passed over
 abbrev pub Begins : ℕ → Option ℕ → Compiling → Compiling → Type 0
 Begins low None old new = IsNow (old.nodes.items ++ Back 0 ∷ [])
     (old.pending.items ++ Repeated (record { start = length old.nodes.items; low = low; high = None }) ∷ []) None new
@@ -49,7 +49,7 @@ abbrev pub Closes : Compiling → Compiling → Type 0
 Closes old new = (around : List Pending) → old.pending.items ≡ around ++ Group ∷ []
     → Finishes old.nodes.items around new
 
--- a token outside of what is passed over
+-- a token that isn't passed over is taken
 abbrev pub Writes : Token → Compiling → Compiling → Type 0
 Writes (Set bytes) old new = Finishes (old.nodes.items ++ Take bytes ∷ []) old.pending.items new
 Writes Front old new = Finishes (old.nodes.items ++ First ∷ []) old.pending.items new
@@ -58,7 +58,7 @@ Writes Close old new = IsNow old.nodes.items (old.pending.items ++ Group ∷ [])
 Writes Open old new = Closes old new
 Writes (Repeat low high) old new = Begins low high old new
 
--- a token that may be the first of what is passed over
+-- a token that is passed over, and ends the item if no group is open
 abbrev pub PassesLeaf : ℕ → Compiling → Compiling → Type 0
 PassesLeaf zero old new = Finishes old.nodes.items old.pending.items new
 PassesLeaf (suc depth) old new = IsNow old.nodes.items old.pending.items (Some (suc depth)) new
@@ -67,7 +67,7 @@ abbrev pub PassesOpen : ℕ → Compiling → Compiling → Type 0
 PassesOpen zero old new = Unit {0}
 PassesOpen (suc depth) old new = PassesLeaf depth old new
 
--- a token of an item that isn't written, of which `depth` groups are open
+-- a token is passed over, of an item of which `depth` groups are open
 abbrev pub Passes : ℕ → Token → Compiling → Compiling → Type 0
 Passes depth (Set bytes) old new = PassesLeaf depth old new
 Passes depth Front old new = PassesLeaf depth old new
@@ -83,17 +83,17 @@ TakesIn (Some depth) token old new = Passes depth token old new
 abbrev pub Takes : Compiling → Token → Compiling → Type 0
 Takes old token new = TakesIn old.passing token old new
 
--- the tokens from the last to the first
+-- the tokens are taken from the last to the first
 abbrev pub TakesAll : Compiling → List Token → Compiling → Type 0
 TakesAll old [] new = old ≡ new
 TakesAll old (token ∷ tokens) new = (now : Compiling) × TakesAll old tokens now × Takes now token new
 
--- how deep it is in what is passed over
+-- how many groups are open in what is passed over
 abbrev pub depth_in : Option ℕ → ℕ
 depth_in None = 0
 depth_in (Some depth) = depth
 
--- no duplication waits
+-- what waits last is no duplication
 abbrev pub PopsNone : List Pending → Type 0
 PopsNone pending = (around : List Pending) (duplication : Duplication) → pending ≡ around ++ Repeated duplication ∷ []
     → ⊥

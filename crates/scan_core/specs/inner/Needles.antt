@@ -18,7 +18,7 @@ is_among (Two a b) byte = is_byte2 a b byte
 is_among (Three a b c) byte = is_byte3 a b c byte
 is_among More byte = true
 
--- it stands in the line
+-- the line has the needle
 abbrev pub HasNeedle : Needle → List ℕ → Type 0
 HasNeedle (Byte few) line = (place : ℕ) × (place < length line) × Passes (is_among few) line place
 HasNeedle (Text needle) line = (place : ℕ) × OccursAt line needle place
@@ -26,20 +26,20 @@ HasNeedle (Text needle) line = (place : ℕ) × OccursAt line needle place
 abbrev pub AreBytes : List ℕ → Type 0
 AreBytes line = (place : ℕ) → place < length line → slice_index line place < 256
 
--- each line with a match has it
+-- each line with a match has the needle
 abbrev pub IsNeedle : List Node → Needle → Type 0
 IsNeedle code needle = (line : List ℕ) → AreBytes line → EndsIn code line → HasNeedle needle line
 
--- no stretch of the text that ends before a place has it
+-- no stretch of the text that ends before a place has the needle
 abbrev pub LacksBefore : Needle → List ℕ → ℕ → Type 0
 LacksBefore needle text place = (before part after : List ℕ) → text ≡ before ++ part ++ after
     → length before + length part < place → HasNeedle needle part → ⊥
 
--- no choice before a node leads beyond it, so each walk to the end comes by
+-- no choice before a node leads beyond the node, so each walk to the end passes it
 abbrev pub IsPassed : List Node → ℕ → Type 0
 IsPassed code number = (at skip : ℕ) → at < number → At code at (Choose skip) → at + skip ≤ number
 
--- the rarest nodes of those before a number
+-- the rarest nodes before a number
 pub record IsRarest (code : List Node) (number : ℕ) (rarest : Rarest) : Type 0 where
   pub near : (at skip : ℕ) → at < number → At code at (Choose skip) → at + skip ≤ rarest.far
   pub begun : rarest.run ≤ number

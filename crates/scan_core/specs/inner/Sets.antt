@@ -6,7 +6,7 @@ use Rattle.scan_core.specs.{
   Code.{At, Goes, Entered},
 }
 
--- a node leads to another at one place of a line: at its first or at its last, or neither
+-- a node leads to another without a byte; the flags say whether the place is the line's first or its last
 abbrev pub LeadsOn : Node → Bool → Bool → ℕ → ℕ → Type 0
 LeadsOn (Take bytes) at_first at_last from to = ⊥
 LeadsOn First at_first at_last from to = IsTrue at_first × (to ≡ from + 1)
@@ -24,7 +24,7 @@ FlowsOn code at_first at_last from to = (count : ℕ) × Parts (Flows code at_fi
 abbrev pub StepsBy : List Node → ℕ → ℕ → ℕ → Type 0
 StepsBy code byte from to = (bytes : List Bool) × At code from (Take bytes) × IsTrue (has bytes byte) × (to ≡ from + 1)
 
--- where a node leads is no more than a size, and not below the front
+-- a node leads to no number above `size` and to none before the front
 abbrev pub FitsIn : ℕ → ℕ → Node → Type 0
 FitsIn size number (Take bytes) = Unit {0}
 FitsIn size number First = Unit {0}
@@ -32,16 +32,16 @@ FitsIn size number Last = Unit {0}
 FitsIn size number (Choose skip) = number + skip ≤ size
 FitsIn size number (Back by) = by ≤ number
 
--- every node leads to one of the code or to its end
+-- every node leads to a node of the code or to the code's end
 pub record IsCode (code : List Node) : Type 0 where
   pub fits : (number : ℕ) (node : Node) → At code number node → FitsIn (length code) number node
 
--- nodes that the byte before a place leads to
+-- the byte before a place leads to this number
 abbrev pub Came : List Node → List ℕ → ℕ → ℕ → Type 0
 Came code line place number = (before : ℕ) × (place ≡ before + 1) × (from : ℕ) × Entered code line from before
     × Goes code line from before number place
 
--- what follows at a place without a byte: from what the byte before led to, and from number 0
+-- a number follows at a place without a byte, from where the byte before led or from number 0
 abbrev pub Reaches : List Node → List ℕ → ℕ → Bool → Bool → ℕ → Type 0
 Reaches code line place at_first at_last number = (from : ℕ) × (Came code line place from ⊎ (from ≡ 0))
     × FlowsOn code at_first at_last from number

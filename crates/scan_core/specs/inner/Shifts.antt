@@ -11,7 +11,7 @@ use Rattle.scan_core.specs.{
 abbrev pub IsComplete : List ℕ → Type 0
 IsComplete rows = (at : ℕ) → at < length rows → 65534 ≤ slice_index_or rows at 0 → slice_index_or rows at 0 ≡ 65535
 
--- how the state is written that a byte leads to; every number beyond the states stands for the pattern's end
+-- how the next state after a byte is written; every number beyond the states stands for the pattern's end
 pub record IsOffset (rows : List ℕ) (count state byte offset : ℕ) : Type 0 where
   pub next : state < count → entry rows state byte < count → offset ≡ 6 * entry rows state byte
   pub stop : (state < count → count ≤ entry rows state byte) → offset ≡ 6 * count
@@ -33,7 +33,7 @@ pub record IsWeight (states : List State) (offset weight : ℕ) : Type 0 where
       → weight ≡ (slice_index_or states state no_state).positions
   pub stop : offset ≡ 6 * length states → weight ≡ 0
 
--- what reads need
+-- the sizes that reads rely on
 pub record IsSized (shifts : ShiftTable) : Type 0 where
   pub words : length shifts.words.items ≡ 256
   pub weights : length shifts.weights.items ≡ 256
@@ -51,7 +51,7 @@ pub record IsShifted (table : Table) (shifts : ShiftTable) : Type 0 where
 abbrev pub IsShiftTable : List Node → ShiftTable → Type 0
 IsShiftTable code shifts = (table : Table) × IsTable code table × IsShifted table shifts
 
--- the table's set of a state was come to, or the end was entered
+-- the bytes before a place lead to this state of the table, or the end was entered
 pub record IsStateAt (code : List Node) (table : Table) (line : List ℕ) (place state steps : ℕ) : Type 0 where
   pub within : place ≤ length line
   pub known : state ≤ length table.states.items

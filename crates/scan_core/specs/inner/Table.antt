@@ -1,4 +1,4 @@
--- What private calls say: a table of sets of a code's numbers: which set a byte leads to.
+-- What private calls say: a table of sets of a code's numbers, which says to which set a byte leads.
 use Rattle.std.specs.{
   Prelude.{◌≡◌, ◌⊎◌, ◌↔◌, ℕ, zero, suc, ◌+◌, ◌*◌, ◌<◌, ◌≤◌, Bool, true, false, IsTrue, List, length, slice_index_or},
 }
@@ -10,12 +10,12 @@ use Rattle.scan_core.specs.{
   Counted.{set_at, AreSteps},
 }
 
--- what a byte and then none leads to from the numbers of a set, the search having begun once more
+-- a byte leads from a number of a set to this number, or number 0 does, and then steps without a byte
 abbrev pub Next : List Node → ℕ → (ℕ → Type 0) → ℕ → Type 0
 Next code byte Set number = (from : ℕ) × (((before : ℕ) × Set before × StepsBy code byte before from) ⊎ (from ≡ 0))
     × FlowsOn code false false from number
 
--- what is entered at a place that isn't the line's last
+-- a number is entered at a place that isn't the line's last
 abbrev pub Inner : List Node → List ℕ → ℕ → ℕ → Type 0
 Inner code line zero number = Reaches code line 0 true false number
 Inner code line (suc place) number = Reaches code line (suc place) false false number
@@ -27,13 +27,13 @@ InSets sets state number = IsMarked (set_at sets state) number
 abbrev pub entry : List ℕ → ℕ → ℕ → ℕ
 entry rows state byte = slice_index_or rows (state * 256 + byte) 0
 
--- what an entry says of the set of a state and of a byte is so
+-- what an entry says of a state's set and a byte is true
 pub record Tells (code : List Node) (sets : List (List Bool)) (state byte read : ℕ) : Type 0 where
   pub next : read < 65534 → (read < length sets)
       × ((number : ℕ) → InSets sets read number ↔ Next code byte (InSets sets state) number)
   pub stop : read ≡ 65535 → Next code byte (InSets sets state) (length code)
 
--- what is noted of a state is so of its set
+-- what is noted of a state is true of its set
 pub record IsState (code : List Node) (sets : List (List Bool)) (rows : List ℕ) (number : ℕ)
     (state : State) : Type 0 where
   pub positions : state.positions ≡ positions_among code (set_at sets number)
@@ -47,7 +47,7 @@ pub record IsState (code : List Node) (sets : List (List Bool)) (rows : List ℕ
 abbrev pub no_state : State
 no_state = record { positions = 0; last_positions = 0; ends = false; is_fixed = false }
 
--- each entry of the table is what it stands for
+-- each entry and each note of the table is true
 pub record IsTableOf (code : List Node) (sets : List (List Bool)) (table : Table) : Type 0 where
   pub few : length code ≤ 65536
   pub some : 0 < length sets

@@ -18,11 +18,12 @@ IsIn words number = bit_at (slice_index_or words (number / 64) 0) (number % 64) 
 abbrev pub width : List Node → ℕ
 width code = length code / 64 + 1
 
--- the lowest bits of a word, and the bits of all words, as flags
+-- the lowest bits of a word as flags
 unfoldable pub bits : ℕ → ℕ → List Bool
 bits zero word = []
 bits (suc count) word = (word % 2 == 1) ∷ bits count (word / 2)
 
+-- the bits of all words as flags
 abbrev pub flags_of : List ℕ → List Bool
 flags_of [] = []
 flags_of (word ∷ words) = bits 64 word ++ flags_of words
@@ -32,26 +33,26 @@ abbrev pub unset : List ℕ → ℕ
 unset [] = 0
 unset (word ∷ words) = (2 ^ 64 - word) + unset words
 
--- no number was added below the one to go on with, which is an earlier one only where some were
+-- no number below `on` was added, and `on` is below `before` only if some number was added
 pub record GoesOn (old new : List ℕ) (before on : ℕ) : Type 0 where
   pub low : on ≤ before
   pub under : (number : ℕ) → number < on → IsIn new number → IsIn old number
   pub fuller : unset new ≤ unset old
   pub less : on < before → unset new < unset old
 
--- numbers were added
+-- exactly these numbers were added
 pub record Grows (Added : ℕ → Type 0) (old new : List ℕ) (before on : ℕ) : Type 0 where
   pub size : length new ≡ length old
   pub exact : (number : ℕ) → IsIn new number ↔ (IsIn old number ⊎ Added number)
   pub goes : GoesOn old new before on
 
--- numbers were added that the old ones lead to without a byte
+-- only numbers to which old numbers lead without a byte were added
 pub record Adds (code : List Node) (at_first at_last : Bool) (old new : List ℕ) : Type 0 where
   pub size : length new ≡ length old
   pub kept : (number : ℕ) → IsIn old number → IsIn new number
   pub from : (number : ℕ) → IsIn new number → (start : ℕ) × IsIn old start × FlowsOn code at_first at_last start number
 
--- a number's positions: none beyond the end
+-- how many positions a number is: 1 for the end, none beyond it
 abbrev pub counted_at : List Node → ℕ → ℕ
 counted_at [] zero = 1
 counted_at [] (suc number) = 0
@@ -62,11 +63,11 @@ abbrev pub IsOf : List Node → Kind → ℕ → Type 0
 IsOf code (Takes byte) number = StepsBy code byte number (number + 1)
 IsOf code Counts number = counted_at code number ≡ 1
 
--- a word has its numbers of a kind
+-- a word has a bit for each number of a kind
 abbrev pub IsMask : List Node → Kind → ℕ → ℕ → Type 0
 IsMask code kind at word = (bit : ℕ) → bit < 64 → (bit_at word bit ≡ 1) ↔ IsOf code kind (at * 64 + bit)
 
--- the words of the numbers that take each byte
+-- for each byte the words of the numbers that take it
 abbrev pub AreTakes : List Node → List ℕ → Type 0
 AreTakes code =
     AreEach 0 (λ place. IsMask code (Takes (place / width code)) (place % width code)) (256 * width code)
@@ -75,7 +76,7 @@ pub record IsMasks (code : List Node) (masks : Masks) : Type 0 where
   pub takes : AreTakes code masks.takes.items
   pub counts : AreEach 0 (IsMask code Counts) (width code) masks.counts.items
 
--- all was entered that a set leads to without a byte
+-- the new set has all that the old set leads to without a byte
 pub record SpreadsOut (code : List Node) (at_first at_last : Bool) (old new : List ℕ) : Type 0 where
   pub size : length new ≡ length old
   pub exact : (number : ℕ) → IsIn new number ↔ ((from : ℕ) × IsIn old from × FlowsOn code at_first at_last from number)

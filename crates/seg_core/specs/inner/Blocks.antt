@@ -11,8 +11,8 @@ abbrev pub count_of : List BlockState → ℕ
 count_of [] = 0
 count_of (block ∷ blocks) = block.count + count_of blocks
 
--- of blocks of whose bytes n are to go, whole ones are gone: those of `left` are left, `bytes` of the n bytes are still
--- to go, and in what is gone `count` delimiters were counted
+-- Of `blocks`, n bytes are to go, and whole blocks are gone. `left` are the other blocks. Of the n bytes, `bytes` are
+-- still to go. In the blocks that are gone `count` delimiters were counted.
 pub record Gone (n : ℕ) (blocks left : List BlockState) (bytes count : ℕ) : Type 0 where
   pub gone : List BlockState
   pub whole : blocks ≡ gone ++ left

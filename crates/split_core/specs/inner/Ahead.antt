@@ -6,11 +6,11 @@ use Rattle.std.specs.{
 use Rattle.seg_core.specs.Line.{HasNone, lines_of, delimiters}
 use Rattle.split_core.specs.declared.complete_lines.Ahead.{Ahead}
 
--- a bit for each byte, set where it is the delimiter; the first is the lowest
+-- a bit for each byte, the lowest for the first byte; it is 1 if the byte is the delimiter
 abbrev pub delimiter_mask : ℕ → List ℕ → ℕ
 delimiter_mask delim bytes = mask_l (map (λ byte. eqb byte delim) bytes)
 
--- the first bytes have no delimiter, and the mask tells which of the bytes after them are delimiters
+-- the first bytes have no delimiter, and the mask says which of the bytes after them are delimiters
 pub record Sees (delim : ℕ) (x : List ℕ) (ahead : Ahead) : Type 0 where
   pub within : ahead.passed + ahead.width ≤ length x
   pub narrow : ahead.width ≤ 64

@@ -1,4 +1,4 @@
--- What private calls say: what goes to the files of chunks, or to standard output where one of them goes there.
+-- What private calls say: what goes to the files of chunks, or to standard output if only one chunk is written.
 use Rattle.std.specs.{
   Prelude.{◌≡◌, ℕ, Bool, true, false, List, [], ◌∷◌, ◌++◌, length, zero, suc, Option, IfNone, IfSome, IsTrue},
 }
@@ -22,14 +22,15 @@ use Rattle.split_core.specs.{
   ChunkerState.whole_on,
 }
 
--- what is left of a text that is cut up gets more bytes, or ends
+-- a text that is cut up, with more bytes at the end of its rest
 abbrev pub with_rest : List ℕ → CutUp → CutUp
 with_rest bytes cut = record { full = cut.full; rest = cut.rest ++ bytes }
 
+-- a text that is cut up, with its rest as a full piece
 abbrev pub with_full : CutUp → CutUp
 with_full cut = record { full = cut.full ++ cut.rest ∷ []; rest = [] }
 
--- this often
+-- the same, n times
 abbrev pub with_fulls : ℕ → CutUp → CutUp
 with_fulls zero cut = cut
 with_fulls (suc n) cut = with_full (with_fulls n cut)
@@ -42,22 +43,23 @@ manner_on (in_output chunk) = record { has_name = λ place. true; name = λ plac
 abbrev pub output_on : Course → Output
 output_on course = (manner_on course).output
 
--- there is a name for the file of the chunk at a place
+-- the file of the chunk at a place has a name
 abbrev pub HasName : Course → ℕ → Type 0
 HasName (in_files filing elide) place = has_name filing.names place ≡ true
 HasName (in_output chunk) place = Unit {0}
 
--- where no files are written, only standard output breaks
+-- if no files are written, only standard output breaks
 abbrev pub IsOf : Course → Fault → Type 0
 IsOf (in_files filing elide) fault = Unit {0}
 IsOf (in_output chunk) fault = fault ≡ Write 0
 
--- the outputs have this part, and those that were opened are its own
+-- the outputs have this part, and the slots that were opened are its own
 pub record AtAim (told : Bool) (aim : AimState) (before : List Slot) (part : Part) (now : List Slot) : Type 0 where
   pub owns : OwnsAim aim (length before) now
   pub outputs : OutputsAt told before part now
 
--- What a call leaves, whatever was cut: it goes on as it did, with outputs of its own; or a fault stopped it.
+-- What a call leaves, whatever was cut: its course is the same and its slots are its own; and without a fault it can go
+-- on.
 pub record Stays (on : Course) (aim next : AimState) (old new : List Slot) (fault : Option Fault) : Type 0 where
   pub course : course_of next ≡ on
   pub owns : (first : ℕ) → OwnsAim aim first old → OwnsAim next first new
@@ -66,7 +68,7 @@ pub record Stays (on : Course) (aim next : AimState) (old new : List Slot) (faul
   pub output : IfNone fault (IsTrue (is_writable old 0) → IsTrue (is_writable new 0))
   pub ready : IfNone fault (IsAimed next new)
 
--- Outputs that had the one part have the other, or a fault stopped them between the two.
+-- Outputs that had the part `low` have the part `high`, or a fault stopped them between the two.
 pub record Brings (told : Bool) (on : Course) (aim next : AimState) (low high : Part) (old new : List Slot)
     (fault : Option Fault) : Type 0 where
   pub named : IfSome fault (λ why. why ≡ Verdict Suffixes → ⊥)
@@ -74,24 +76,24 @@ pub record Brings (told : Bool) (on : Course) (aim next : AimState) (low high : 
   pub reaches : (before : List Slot) → AtAim told aim before low old
       → IsThere (output_on on) told (AtAim told next before high new) before low high new fault
 
--- The same of what is written of two texts that are cut up; without a fault it can have been given the second then.
+-- The same of what is written of two texts that are cut up; without a fault the sink may have been given the second.
 pub record Gives (told : Bool) (on : Course) (sink next : SinkState) (from to : CutUp) (old new : List Slot)
     (fault : Option Fault) : Type 0 where
   pub brings : Brings told on sink.aim next.aim (part_on on from) (part_on on to) old new fault
   pub carries : IfNone fault (Carries next to)
 
--- it can have been given this, and there is a name for the file of the chunk that was begun
+-- the sink may have been given this, and the file of the chunk that was begun has a name
 abbrev pub CarriesOn : SinkState → CutUp → Type 0
 CarriesOn sink cut = Carries sink cut × HasName (course_of sink.aim) sink.place
 
--- of any text that it can have been given
+-- what a change of any text that is cut up gives
 pub record Changes (told : Bool) (sink : SinkState) (change : CutUp → CutUp) (old new : List Slot)
     (next : SinkState) (fault : Option Fault) : Type 0 where
   pub stays : Stays (course_of sink.aim) sink.aim next.aim old new fault
   pub gives : (cut : CutUp) → CarriesOn sink cut
       → Gives told (course_of sink.aim) sink next cut (change cut) old new fault
 
--- and all of it ended
+-- what the end of any text that is cut up gives
 pub record EndsAll (told : Bool) (sink : SinkState) (old new : List Slot)
     (next : SinkState) (fault : Option Fault)
     : Type 0 where
@@ -102,7 +104,7 @@ pub record EndsAll (told : Bool) (sink : SinkState) (old new : List Slot)
 
 -- The files
 
--- a file that is begun without a byte gets none, or an empty one
+-- an empty file, if none was made
 abbrev pub or_empty : List (List ℕ) → List (List ℕ)
 or_empty [] = [] ∷ []
 or_empty (file ∷ files) = file ∷ files
@@ -111,12 +113,12 @@ abbrev pub made_by : Bool → List (List ℕ) → List (List ℕ)
 made_by true made = made
 made_by false made = or_empty made
 
--- what is begun ends, and the next gets its file with its first byte
+-- the file that was begun ends, and the next gets its file with its first byte
 abbrev pub ends_by : Bool → Draft → Draft
 ends_by elide draft =
     record { ended = draft.ended ++ made_by elide (made_of draft.opening draft.bytes); opening = Late; bytes = [] }
 
--- an empty file is made, where what is begun has none
+-- an empty file is made, if what was begun has none
 abbrev pub begun_by : List (List ℕ) → Draft → Draft
 begun_by [] draft = with_next AtOnce draft
 begun_by (file ∷ files) draft = draft
@@ -125,8 +127,8 @@ abbrev pub empties_by : Bool → Draft → Draft
 empties_by true draft = draft
 empties_by false draft = begun_by (made_of draft.opening draft.bytes) draft
 
--- The files changed so, and with them the outputs; or a fault stopped them. Names ran out only where there was none for
--- what was begun.
+-- The files changed so, and the outputs with them; or a fault stopped that. Names ran out only if the file that was
+-- begun has no name.
 pub record Files (told : Bool) (writer : WriterState) (change : Draft → Draft) (old new : List Slot)
     (next : WriterState) (fault : Option Fault) : Type 0 where
   pub leaves : Leaves writer next old new fault

@@ -12,7 +12,7 @@ use Rattle.split_core.specs.{
 }
 use Rattle.split_core.specs.inner.Ways as ways
 
--- this number of bytes was passed over; the chunk at this place was begun with them, and they may end within a line
+-- this many bytes were passed over; the chunk at this place was begun with them, and they may end within a line
 abbrev pub passed_to : ChunkerState → ℕ → ℕ → Bool → ChunkerState
 passed_to chunker front place within = record chunker {
   cutter = record chunker.cutter {
@@ -22,21 +22,21 @@ passed_to chunker front place within = record chunker {
   };
 }
 
--- how many bytes a piece may have where this many are missing to the chunk's end
+-- how many bytes a piece may have if this many are missing to the chunk's end
 abbrev pub piece_for : Counted → ℕ → ℕ
 piece_for unit missing = max missing (max (ahead_of unit) 1)
 
--- whatever these bytes are, that takes them in
+-- the state that passed over these bytes is as if fed them, whatever they are
 abbrev pub TakesFront : ChunkerState → ℕ × ℕ × Bool → Type 0
 TakesFront chunker front = (x : List ℕ) → front.0 ≡ length x
     → TookIn (as_if terms) (Chunks chunker) (Chunks (passed_to chunker front.0 front.1 front.2)) x
 
--- it was asked for the same
+-- both were asked for the same
 pub record IsLike (chunker next : ChunkerState) : Type 0 where
   pub said : next.said ≡ chunker.said
   pub chunks : next.cutter.chunks ≡ chunker.cutter.chunks
 
--- the outputs have come from what is settled to this part, or a fault stopped them on the way
+-- the outputs went from what is settled to this part, or a fault stopped them between the two
 pub record Comes (told : Bool) (chunker : ChunkerState) (high : List ℕ → Part) (old new : List Slot)
     (next : ChunkerState) (fault : Option Fault) : Type 0 where
   pub stays : Stays (course chunker.cutter) chunker.cutter.sink.aim next.cutter.sink.aim old new fault
@@ -44,11 +44,12 @@ pub record Comes (told : Bool) (chunker : ChunkerState) (high : List ℕ → Par
       → Brings told (course chunker.cutter) chunker.cutter.sink.aim next.cutter.sink.aim
       ((work chunker).settled x) (high x) old new fault
 
--- what it leaves that took in a piece, and at the end
+-- what a call leaves that takes in a piece
 abbrev pub PassesAs : Bool → ChunkerState → List ℕ → List Slot → List Slot → ChunkerState → Result (Unit {0}) Fault
     → Type 0
 PassesAs told chunker piece old new next result =
     ways.PassesAs told (Chunks chunker) piece old new (Chunks next) result
 
+-- what the call at the end leaves
 abbrev pub EndsAs : Bool → ChunkerState → List Slot → List Slot → ChunkerState → Result (Unit {0}) Fault → Type 0
 EndsAs told chunker old new next result = ways.EndsAs told (Chunks chunker) old new (Chunks next) result

@@ -4,18 +4,18 @@ use Rattle.ports_core.specs.Part.{IsBeginning}
 use Rattle.seg_core.specs.declared.cut.Chunks.{Chunks}
 use Rattle.split_core.specs.{Chunks.{chunk_start, passed}, Parts.CutUp}
 
--- just the chunks before this place have all that goes with them
+-- exactly the chunks before this place have all that goes with them
 pub record HaveEnded (chunks : Chunks) (size : ℕ) (x : List ℕ) (place : ℕ) : Type 0 where
   pub within : place ≤ chunks.count
   pub before : chunk_start chunks.count size place ≤ passed chunks size x
   pub next : place < chunks.count → passed chunks size x < chunk_start chunks.count size (place + 1)
 
--- these bytes begin the first of these pieces
+-- the bytes `low` begin the first piece, or `last` if there is none
 abbrev pub BeginsFirst : List ℕ → List (List ℕ) → List ℕ → Type 0
 BeginsFirst low [] last = IsBeginning low last
 BeginsFirst low (piece ∷ pieces) last = IsBeginning low piece
 
--- a text that is cut up goes on: what is full stays, and what is left belongs to the next piece
+-- a text that is cut up goes on: its full pieces stay, and its rest begins the next piece
 pub record GoesOn (low high : CutUp) : Type 0 where
   pub more : List (List ℕ)
   pub full : high.full ≡ low.full ++ more

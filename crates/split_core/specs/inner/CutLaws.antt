@@ -17,7 +17,7 @@ pub data Cuts (limit : Limit) : List ℕ → List (List ℕ) → List ℕ → Ty
 abbrev pub cut_so : List (List ℕ) → List ℕ → CutUp
 cut_so parts rest = record { full = parts; rest = rest }
 
--- the shares in the end
+-- the files at the end, all closed
 abbrev pub whole_parts : Limit → List ℕ → List Share
 whole_parts limit x = map (share Closed) (parts limit x)
 

@@ -20,11 +20,11 @@ seen_cutter cutter = record {
   sink = seen_sink cutter.sink;
 }
 
--- what of a text that comes goes with the chunk that was begun, where that ends at a place
+-- what of the next text goes with the chunk that was begun, if this chunk ends at a place
 abbrev pub cut_to : CutterState → ℕ → List ℕ → List ℕ
 cut_to cutter end text = begun_before cutter.chunks.unit cutter.chunks.delim (max (end - cutter.at) 1) text
 
--- that was written
+-- the bytes that go with the chunk that was begun were written
 pub record WritesTo (told : Bool) (cutter : CutterState) (end : ℕ) (text : List ℕ) (old new : List Slot)
     (next : CutterState) (result : Result ℕ Fault) : Type 0 where
   pub chunks : next.chunks ≡ cutter.chunks
@@ -37,7 +37,7 @@ pub record WritesTo (told : Bool) (cutter : CutterState) (end : ℕ) (text : Lis
   pub within : OnOk result
       (next.is_within ≡ is_within cutter.chunks.unit cutter.chunks.delim (cut_to cutter end text))
 
--- a text was cut off, all of it before the end of the chunk that was begun, and is cut up like this
+-- x was cut off, up to the end of the chunk that was begun at most, and is cut up like this
 pub record IsCutOff (cutter : CutterState) (size : ℕ) (x : List ℕ) (cut : CutUp) : Type 0 where
   pub carries : Carries cutter.sink cut
   pub all : HasAll (course cutter) cutter.chunks.count
@@ -48,7 +48,7 @@ pub record IsCutOff (cutter : CutterState) (size : ℕ) (x : List ℕ) (cut : Cu
       → before_chunk cutter.chunks size (cutter.sink.place + 1) x ≡ x
   pub from : cutter.sink.place ≤ ended cutter.chunks size x
 
--- the chunks ended that had all that goes with them
+-- all chunks that had all that goes with them ended
 pub record EndsFull (told : Bool) (cutter : CutterState) (size : ℕ) (old new : List Slot) (next : CutterState)
     (fault : Option Fault) : Type 0 where
   pub chunks : next.chunks ≡ cutter.chunks
@@ -59,11 +59,11 @@ pub record EndsFull (told : Bool) (cutter : CutterState) (size : ℕ) (old new :
       → Gives told (course cutter) cutter.sink next.sink cut
       (with_fulls (ended cutter.chunks size x - cutter.sink.place) cut) old new fault
 
--- what is made of an input that says that it has this size
+-- the work of an input that showed this size
 abbrev pub said_work : CutterState → ℕ → Work
 said_work cutter size = work_on (course cutter) cutter.chunks (Some size)
 
--- a text was cut off that has no more than its size, and is cut up as chunks say
+-- x was cut off, which has at most this size, and is cut up as `chunks_within` says
 pub record IsCut (cutter : CutterState) (size : ℕ) (x : List ℕ) : Type 0 where
   pub cut : HasCut cutter x (chunks_within cutter.chunks size x)
   pub fits : length x ≤ size
@@ -71,7 +71,7 @@ pub record IsCut (cutter : CutterState) (size : ℕ) (x : List ℕ) : Type 0 whe
 abbrev pub part_so : CutterState → ℕ → List ℕ → Part
 part_so cutter size x = part_on (course cutter) (chunks_within cutter.chunks size x)
 
--- and more of it was, or a fault came meanwhile
+-- more of a text was cut off, or a fault came meanwhile
 pub record CutsMore (told : Bool) (cutter : CutterState) (size : ℕ) (bytes : List ℕ) (old new : List Slot)
     (next : CutterState) (fault : Option Fault) : Type 0 where
   pub chunks : next.chunks ≡ cutter.chunks
@@ -83,7 +83,7 @@ pub record CutsMore (told : Bool) (cutter : CutterState) (size : ℕ) (bytes : L
   pub leads : (x : List ℕ) → IsCut cutter size x → length (x ++ bytes) ≤ size
       → IfNone fault (IsCut next size (x ++ bytes))
 
--- as long as its output isn't complete
+-- the output isn't complete yet
 abbrev pub IsOpen : CutterState → ℕ → List ℕ → Type 0
 IsOpen cutter size x = (said_work cutter size).is_complete x ≡ false
 
@@ -95,7 +95,7 @@ CutsStretch told cutter size text old new next (Ok n) = (0 < n) × (n ≤ length
     → IsOpen cutter size (x ++ take (n - 1) text))
 CutsStretch told cutter size text old new next (Err fault) = CutsMore told cutter size text old new next (Some fault)
 
--- Of what stands within the size as much was cut off as the output isn't complete without; the last `left` bytes are left.
+-- Of the text within the size, as much was cut off as the complete output needs; the last `left` bytes are left.
 pub record CutsAs (told : Bool) (cutter : CutterState) (size : ℕ) (text : List ℕ) (old new : List Slot)
     (next : CutterState) (left : ℕ) : Type 0 where
   pub few : left ≤ length text
@@ -114,16 +114,16 @@ CutsSo told cutter size text old new next (Err fault) =
 
 -- Where the size isn't known
 
--- a text that was cut off, all of which begins before a place
+-- a text was cut off, and all of it begins before a place
 abbrev pub BeginsBefore : CutterState → ℕ → List ℕ → Type 0
 BeginsBefore cutter end z =
     HasCut cutter z (uncut z) × (begun_before cutter.chunks.unit cutter.chunks.delim end z ≡ z)
 
--- and what does of it with what waits
+-- what of the text that was cut off and of what waits begins before a place
 abbrev pub all_before : CutterState → List ℕ → ℕ → List ℕ → List ℕ
 all_before cutter waiting end z = begun_before cutter.chunks.unit cutter.chunks.delim end (z ++ waiting)
 
--- that was written, and the rest waits
+-- what begins before a place was written, and the rest waits
 pub record Settles (told : Bool) (cutter : CutterState) (waiting : List ℕ) (end : ℕ) (old new : List Slot)
     (next : CutterState) (left : List ℕ) (fault : Option Fault) : Type 0 where
   pub chunks : next.chunks ≡ cutter.chunks
@@ -136,13 +136,13 @@ pub record Settles (told : Bool) (cutter : CutterState) (waiting : List ℕ) (en
       → IfNone fault (HasCut next (all_before cutter waiting end z) (uncut (all_before cutter waiting end z))
       × (left ≡ drop (length (all_before cutter waiting end z)) (z ++ waiting)))
 
--- What was cut off is what is settled of a text that has this size with what waits.
+-- z was cut off; with what waits it has this size, and it is what is settled of both
 pub record IsFront (cutter : CutterState) (waiting : List ℕ) (size : ℕ) (z : List ℕ) : Type 0 where
   pub cut : HasCut cutter z (uncut z)
   pub all : length z + length waiting ≡ size
   pub is : before_chunk cutter.chunks size (first_on (course cutter)) (z ++ waiting) ≡ z
 
--- all of it is cut up into chunks, and all end
+-- what was cut off and what waits are cut up into chunks, and all chunks end
 pub record EndsHeld (told : Bool) (cutter : CutterState) (waiting : List ℕ) (size : ℕ) (old new : List Slot)
     (next : CutterState) (left : List ℕ) (fault : Option Fault) : Type 0 where
   pub chunks : next.chunks ≡ cutter.chunks

@@ -3,20 +3,20 @@ use Rattle.std.specs.{Prelude.{ℕ, ◌≡◌, ◌+◌, ◌%◌, List, map, min,
 use Rattle.seg_core.specs.Line.{lines_of, line_count, delimiters}
 use Rattle.split_core.specs.Parts.{dealt}
 
--- what each of n files gets of a piece, whose first byte goes to the file at this place
+-- what each of n files gets of a piece, if its first byte goes to the file at this place
 abbrev pub dealt_piece : ℕ → ℕ → ℕ → List ℕ → List (List ℕ)
 dealt_piece delim n place piece = map (λ file. dealt n file place (lines_of delim piece)) (range_with_len 0 n)
 
--- how many of the first files a piece can go to, whose first byte goes to the file at this place
+-- how many of the first files a piece can go to, if its first byte goes to the file at this place
 abbrev pub reached_by : ℕ → ℕ → ℕ → List ℕ → ℕ
 reached_by delim n place piece = min n (place + line_count delim piece)
 
--- what these first files get
+-- what the first files get that the piece can go to
 abbrev pub dealt_first : ℕ → ℕ → ℕ → List ℕ → List (List ℕ)
 dealt_first delim n place piece = map (λ file. dealt n file place (lines_of delim piece))
     (range_with_len 0 (reached_by delim n place piece))
 
--- a piece was gathered: what the files get of it, where the next one begins, and how many of them got any
+-- a piece was gathered: what each file gets, the place of the next file, and how many of the first files it can go to
 pub record Gathers (delim n start : ℕ) (piece : List ℕ) (gathered : List (List ℕ)) (next reached : ℕ) : Type 0 where
   pub gathered_is : gathered ≡ dealt_piece delim n start piece
   pub next_is : next ≡ (start + delimiters delim piece) % n

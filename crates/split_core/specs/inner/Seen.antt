@@ -17,14 +17,14 @@ seen_aim (Output chunk) = to_output chunk
 abbrev pub seen_sink : ChunkSink → SinkState
 seen_sink sink = record { place = sink.place; aim = seen_aim sink.aim }
 
--- where nothing went to any yet
+-- a sink of files to which nothing went yet
 abbrev pub new_files : Naming → Bool → Tells → SinkState
 new_files naming elide tells = record { place = 0; aim = to_files (new_writer naming tells Open) elide }
 
 abbrev pub new_output : ℕ → SinkState
 new_output chunk = record { place = 0; aim = to_output chunk }
 
--- the one chunk that is written has ended
+-- only one chunk is written, and it has ended
 abbrev pub is_past_at : Course → ℕ → Bool
 is_past_at (in_files filing elide) place = false
 is_past_at (in_output chunk) place = nat_lt chunk place

@@ -13,7 +13,7 @@ pub record Fits (limit : Limit) (left : ℕ) (has_line : Bool) (waiting : List �
   pub within : length waiting + left ≤ most limit
   pub after_line : has_line ≡ true → length waiting + left < most limit
 
--- the numbers of a step are within the piece, and what is still missing shrinks
+-- the numbers of a step are within the piece, and less is missing after it
 abbrev pub IsWithin : ℕ → Bool → List ℕ → Step → Type 0
 IsWithin left has_line piece (Goes bytes less has) = (0 < bytes) × (bytes ≤ length piece) × (0 < less) × (less ≤ left)
     × (has ≡ true → less < left)
@@ -22,7 +22,7 @@ IsWithin left has_line piece (Ends end bytes) = (0 < end) × (end ≤ bytes) × 
 IsWithin left has_line piece (Begins bytes) = (0 < bytes) × (bytes ≤ length piece) × (bytes ≤ left) × (has_line ≡ true)
 IsWithin left has_line piece Waits = (length piece < left) × (has_line ≡ true)
 
--- all of this is settled, and no part is full yet
+-- all of this text is settled, and it has no full part
 pub record IsBegun (limit : Limit) (text : List ℕ) (left : ℕ) (has_line : Bool) : Type 0 where
   pub short : is_full limit text ≡ false
   pub settled : settled_rest limit text ≡ text

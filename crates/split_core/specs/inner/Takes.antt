@@ -21,10 +21,11 @@ use Rattle.split_core.specs.{
   PartsState.{PartsState, Stands, filing_of},
 }
 
--- what is written once x came in, and in the end
+-- what is written once x came in
 abbrev pub settled_part : PartsState → List ℕ → Part
 settled_part parts x = draft_part (manner_of (filing_of parts)) (draft_of parts.limit x)
 
+-- what is written at the end
 abbrev pub whole_part : PartsState → List ℕ → Part
 whole_part parts x = part_of (manner_of (filing_of parts)) (whole_parts parts.limit x)
 
@@ -44,7 +45,7 @@ abbrev pub Extends : Bool → PartsState → List ℕ → List Slot → List Slo
 Extends told parts bytes old new next fault =
     Moves told parts (parts.left, parts.has_line, []) (with_bytes (parts.waiting ++ bytes)) old new next fault
 
--- what is begun ends, and these bytes begin the next
+-- the file that was begun ends, and these bytes begin the next
 abbrev pub begins_next : List ℕ → Draft → Draft
 begins_next past draft = with_bytes past (with_next Late draft)
 
@@ -54,13 +55,13 @@ BeginsNext told parts bytes old new next fault =
     Moves told parts (most parts.limit - length (parts.waiting ++ bytes), false, [])
     (begins_next (parts.waiting ++ bytes)) old new next fault
 
--- names ran out before these bytes of the input were written: the outputs have all that has a name
+-- names ran out before these bytes of the input were written: all files that have a name are written
 pub record LacksNames (told : Bool) (parts : PartsState) (x bytes : List ℕ) (old new : List Slot) : Type 0 where
   pub none : are_named (filing_of parts).names (length (settled_parts parts.limit (x ++ bytes))) ≡ false
   pub all : (before : List Slot) → At told parts.writer before (settled_part parts x) old
       → OutputsAt told before (settled_part parts (x ++ bytes)) new
 
--- These bytes were taken in, and what is settled with them is written; or a fault came among them.
+-- These bytes were taken in, and what is settled with them is written; or a fault came meanwhile.
 pub record Takes (told : Bool) (parts : PartsState) (bytes : List ℕ) (old new : List Slot) (next : PartsState)
     (fault : Option Fault) : Type 0 where
   pub limit : next.limit ≡ parts.limit
@@ -77,7 +78,7 @@ TakesStretch told parts piece old new next (Ok n) = (0 < n) × (n ≤ length pie
     × Takes told parts (take n piece) old new next None
 TakesStretch told parts piece old new next (Err fault) = Takes told parts piece old new next (Some fault)
 
--- the input ended, and all of it is written; or a file broke meanwhile
+-- the input ended, and the whole is written; or a file broke meanwhile
 pub record Finishes (told : Bool) (parts : PartsState) (old new : List Slot) (next : PartsState)
     (fault : Option Fault) : Type 0 where
   pub limit : next.limit ≡ parts.limit

@@ -38,14 +38,14 @@ begun_some Bytes delim place x some has = omega (arith, length-take place x)
 begun_some Lines delim place [] some has = absurd (omega arith)
 begun_some Lines delim place (byte ∷ x) some has = rw (begun_first _ _ _ x some) (omega arith)
 
--- From where on it may still get bytes
+-- From where on a text may still get bytes
 
 pub open_from_none : (delim : ℕ) (x : List ℕ) → delimiters delim x ≡ 0 → open_from Lines delim x ≡ 0
 open_from_none delim x none = rw none refl
 
 -- A text that goes on
 
--- its lines that begin before a place are one more than end before the last byte there
+-- the lines that begin before a place are one more than those that end before the last byte there
 begun_is : (delim place : ℕ) (x : List ℕ)
     → begun_before Lines delim (suc place) x ≡ first_lines delim (suc (delimiters delim (take place x))) x
 begun_is delim place x =
@@ -58,7 +58,7 @@ begun_is delim place x =
       take-append-drop place x,
     )
 
--- lines that are longer than a stretch of the text don't all end within it
+-- lines that are longer than a stretch of the text don't all end within the stretch
 few_before : (delim n place : ℕ) (x : List ℕ) → place < length (first_lines delim n x)
     → delimiters delim (take place x) < n
 few_before delim n place x past = elim (cases_lt (delimiters delim _) n) [
@@ -67,7 +67,7 @@ few_before delim n place x past = elim (cases_lt (delimiters delim _) n) [
       absurd (omega (arith, ap length full, length-first_lines-le delim n (take place x), length-take place x)))
 ]
 
--- where they are no longer, they do
+-- complete lines that aren't longer than a stretch of the text end within it
 lines_before_all : (delim place : ℕ) (x : List ℕ) → open_from Lines delim x ≤ place
     → delimiters delim (take place x) ≡ delimiters delim x
 lines_before_all delim place x within = let lines = first_lines delim (delimiters delim x) x in
@@ -85,7 +85,7 @@ take_over n [] y = grind (arith, common_steps)
 take_over zero (byte ∷ x) y = grind arith
 take_over (suc n) (byte ∷ x) y = let less : suc n - suc (length x) ≡ n - length x = omega arith in cc (take_over n x y)
 
--- what begins before a place stays, where the text can get no more before it
+-- what begins before a place stays, if the text can get no more before it
 pub begun_stays : (unit : Unit) (delim place : ℕ) (x y : List ℕ) → place ≤ open_from unit delim x
     → begun_before unit delim place (x ++ y) ≡ begun_before unit delim place x
 begun_stays Bytes delim place x y within = take-append-le place x y within
@@ -98,7 +98,8 @@ begun_stays Lines delim (suc place) x y within =
       first_lines-full delim (suc (delimiters delim (take place x))) x y (few_before _ _ place x within),
     )
 
--- else all of it does, and what follows does up to that place, or to the end of the line that is open
+-- if a text can get more before a place, all of it begins there, and what follows up to the place or to the open line's
+-- end
 pub begun_on : (unit : Unit) (delim place : ℕ) (x y : List ℕ) → open_from unit delim x < place
     → begun_before unit delim place (x ++ y) ≡ x ++ begun_before unit delim (max (place - length x) 1) y
 begun_on Bytes delim place x y past =
@@ -125,13 +126,13 @@ begun_of_none Lines delim zero = refl
 begun_of_none Lines delim (suc zero) = refl
 begun_of_none Lines delim (suc (suc place)) = refl
 
--- a text that can get more before a place stands before it
+-- a text that can get more before a place begins before it
 pub begun_all : (unit : Unit) (delim place : ℕ) (x : List ℕ) → open_from unit delim x < place
     → begun_before unit delim place x ≡ x
 begun_all unit delim place x past =
     cc (append-nil x, begun_on unit delim place x [] past, begun_of_none unit delim _)
 
--- so does one that ends before it
+-- a text that ends before a place begins before it
 pub begun_long : (unit : Unit) (delim place : ℕ) (x : List ℕ) → length x ≤ place → begun_before unit delim place x ≡ x
 begun_long Bytes delim place x long = take_all place x long
 begun_long Lines delim zero [] long = refl
@@ -143,7 +144,7 @@ begun_long Lines delim (suc place) x long =
       take-append-drop place x,
     )
 
--- the lines that begin before a place are the first ones of those that begin before a later one
+-- the lines that begin before a place are the first of the lines that begin before a later place
 pub begun_lines : (delim place other : ℕ) (x : List ℕ) → place ≤ other → (n : ℕ) × (0 < place → 0 < n)
     × (begun_before Lines delim place x ≡ first_lines delim n (begun_before Lines delim other x))
 begun_lines delim zero other x within = (0, (λ none. absurd (omega arith)), refl)
@@ -162,7 +163,7 @@ begun_lines delim (suc place) (suc other) x within =
       ),
     )
 
--- of a text, what begins before a place begins what begins before a later one
+-- what of a text begins before a place begins what begins before a later place
 pub begun_monotone : (unit : Unit) (delim : ℕ) {place other : ℕ} (x : List ℕ) → place ≤ other
     → IsBeginning (begun_before unit delim place x) (begun_before unit delim other x)
 begun_monotone Bytes delim {place} {other} x within =
@@ -186,7 +187,7 @@ begun_grows unit delim place x y = elim (cases_lt (open_from unit delim x) place
   | inr within ↦ rw (begun_stays _ _ _ x y within) (begins_itself _)
 ]
 
--- what begins before a place does so by itself
+-- what begins before a place, taken alone, begins before it
 pub begun_again : (unit : Unit) (delim place : ℕ) (x : List ℕ)
     → begun_before unit delim place (begun_before unit delim place x) ≡ begun_before unit delim place x
 begun_again unit delim place x = let (rest, is) = begun_begins unit delim place x in
@@ -195,7 +196,7 @@ begun_again unit delim place x = let (rest, is) = begun_begins unit delim place 
       | inr within ↦ cc (begun_stays unit delim place (begun_before unit delim place x) rest within)
     ]
 
--- Where its open line is
+-- Where the open line of a text is
 
 pub open_within : (unit : Unit) (delim : ℕ) (x : List ℕ) → open_from unit delim x ≤ length x
 open_within Bytes delim x = omega arith
@@ -206,7 +207,7 @@ open_grows Bytes delim x y = omega (arith, length-append x y)
 open_grows Lines delim x y =
     grind (arith, delimiters-append, first_lines-append, length-append, beginning_short, first_lines_begin)
 
--- a text that goes on has its open line after the last delimiter of what follows
+-- the open line of a text that goes on begins after the last delimiter of what follows, if this has one
 pub open_append : (delim : ℕ) (x y : List ℕ) → open_from Lines delim (x ++ y)
     ≡ cond (nat_lt 0 (delimiters delim y)) (length x + open_from Lines delim y) (open_from Lines delim x)
 open_append delim x y = grind (arith, delimiters-append, first_lines-append, first_lines-short, length-append)

@@ -80,7 +80,7 @@ module _ (chunks : Chunks) (size : ℕ) where
 
   -- Which chunks have ended
 
-  -- of n chunks from the one at place a on, the first p
+  -- of n chunks from the chunk at place a on, the first p have ended
   abbrev AreFirst : List ℕ → ℕ → ℕ → ℕ → Type 0
   AreFirst x a n p = (p ≤ n) × (0 < p → chunk_start chunks.count size (a + p) ≤ passed chunks size x)
       × (p < n → passed chunks size x < chunk_start chunks.count size (a + p + 1))
@@ -89,11 +89,11 @@ module _ (chunks : Chunks) (size : ℕ) where
   ended_from x a zero = grind arith
   ended_from x a (suc n) = grind (arith, ended_from x (a + 1) n)
 
-  -- they are the first ones, and there is one way to say how many
+  -- the chunks that have ended are the first, as many as `ended` says
   pub ended_is : (x : List ℕ) → HaveEnded chunks size x (ended chunks size x)
   ended_is x = grind (arith, ended_from x 0 chunks.count)
 
-  -- those before that place have, and no other
+  -- just the chunks before this place have ended
   pub has_ended_before : (x : List ℕ) (place : ℕ) → place < ended chunks size x → has_ended chunks size x place ≡ true
   has_ended_before x place before = grind (arith, common_steps, le-leb, ended_is)
 
@@ -101,7 +101,7 @@ module _ (chunks : Chunks) (size : ℕ) where
       → has_ended chunks size x place ≡ true → place < ended chunks size x
   ended_after x place within has = grind (arith, cases_lt, ended_is, start_grows)
 
-  -- a text that goes on ends no fewer
+  -- at least as many chunks of a longer text have ended
   pub ended_grows : (x y : List ℕ) → ended chunks size x ≤ ended chunks size (x ++ y)
   ended_grows x y = grind (arith, ended_is, passed_grows, start_grows)
 
@@ -109,7 +109,7 @@ pub ended_only : {chunks : Chunks} {size : ℕ} {x : List ℕ} {p : ℕ} → Hav
     → ended chunks size x ≡ p
 ended_only is = grind (arith, ended_is)
 
--- once it has its size, all have
+-- once a text has its size, all chunks have ended
 pub ended_all : (chunks : Chunks) {size : ℕ} (x : List ℕ) → 0 < chunks.count → size ≤ length x
     → ended chunks size x ≡ chunks.count
 ended_all chunks x some full = grind (arith, common_steps, ended_is)
@@ -121,13 +121,13 @@ module _ (chunks : Chunks) (size : ℕ) where
       → IsBeginning (before_chunk chunks size place x) (before_chunk chunks size other x)
   before_grows x place other within = begun_monotone chunks.unit chunks.delim x (grind arith)
 
-  -- what stands before a chunk that has been reached stays
+  -- what stands before a chunk stays, once the text reaches the chunk
   pub before_stays : (place : ℕ) (x y : List ℕ) → length (x ++ y) ≤ size
       → chunk_start chunks.count size place ≤ passed chunks size x
       → before_chunk chunks size place (x ++ y) ≡ before_chunk chunks size place x
   before_stays place x y within reached = grind (arith, common_steps, begun_stays, passed_open)
 
-  -- all that came in stands before the chunk after the one that is reached
+  -- all that came in stands before the end of the chunk that was begun
   pub before_next : (x : List ℕ) (place : ℕ) → 0 < chunks.count → length x ≤ size
       → HaveEnded chunks size x place → before_chunk chunks size (place + 1) x ≡ x
   before_next x place some within is = grind (arith, begun_all, begun_long)
@@ -149,17 +149,17 @@ module _ (chunks : Chunks) (size : ℕ) where
       ≡ map (chunk_at chunks size x) (range_with_len 0 place)
   full_stays place x y within reached = map_same _ _ 0 place (λ i from to. grind (arith, common_steps, before_stays))
 
-  -- once all that came in stands before a place, it does before a later one
+  -- what stands before a place stands before a later place
   before_later : (x : List ℕ) (place other : ℕ) → place ≤ other
       → before_chunk chunks size place x ≡ x → before_chunk chunks size other x ≡ x
   before_later x place other within all = let (more, is) = before_grows x place other within in
       grind (arith, common_steps, begun_within chunks.unit chunks.delim (chunk_start chunks.count size other) x)
 
-  -- so later chunks have nothing
+  -- a chunk has nothing if all that came in stands before it
   pub chunk_none : (x : List ℕ) (place : ℕ) → before_chunk chunks size place x ≡ x → chunk_at chunks size x place ≡ []
   chunk_none x place all = grind (arith, common_steps, before_later, drop_all)
 
-  -- a text goes on, and further chunks end: the one that was begun has what was left, and then what follows
+  -- if further chunks end in a longer text, the chunk that was begun has its rest and what follows
   pub fulls_on : (x y : List ℕ) (more : ℕ) → length (x ++ y) ≤ size
       → ended chunks size x + suc more ≡ ended chunks size (x ++ y)
       → let f = chunk_at chunks size (x ++ y) in let place = ended chunks size x in
@@ -172,14 +172,14 @@ module _ (chunks : Chunks) (size : ℕ) where
       → chunk_at chunks size (x ++ y) (ended chunks size x) ≡ (chunks_within chunks size x).rest ++ z
   rest_on x y z some within all = grind (arith, common_steps, before_stays, before_next, ended_is, begun_within)
 
-  -- a text goes on, and no further chunk ends: all of it goes with the one that was begun
+  -- if no further chunk ends in a longer text, all that follows goes with the chunk that was begun
   pub goes_on : (x y : List ℕ) → 0 < chunks.count → length (x ++ y) ≤ size
       → ended chunks size (x ++ y) ≡ ended chunks size x → chunks_of chunks size (x ++ y)
       ≡ record { full = (chunks_of chunks size x).full; rest = (chunks_of chunks size x).rest ++ y }
   goes_on x y some within same = grind (arith, common_steps, full_stays, rest_on, before_next, ended_is)
 
-  -- a text goes on, and all of it goes with the chunk that was begun, which ends with it, and with it further ones that
-  -- have nothing
+  -- if all that follows goes with the chunk that was begun, and this chunk ends with it, further chunks that end have
+  -- nothing
   pub ends_here : (x y : List ℕ) (more : ℕ) → 0 < chunks.count → length (x ++ y) ≤ size
       → before_chunk chunks size (ended chunks size x + 1) (x ++ y) ≡ x ++ y
       → ended chunks size x + suc more ≡ ended chunks size (x ++ y) → chunks_of chunks size (x ++ y) ≡ record {
@@ -224,7 +224,7 @@ module _ (chunks : Chunks) (size : ℕ) where
       λ past. chunk_none x place (before_later x _ place past (before_next x _ some fits (ended_is _ _ x))) in
       grind (arith, common_steps, cases_lt, pieces_are, get_or-map-range_with_len, length-map-range_with_len)
 
-  -- they are the text, as far as its size says
+  -- all pieces are the text, up to its size
   pub all_joined : (x : List ℕ) → 0 < chunks.count → joined (pieces_in (chunks_of chunks size x)) ≡ take size x
   all_joined x some = grind (arith, common_steps, pieces_are, joined_chunks, before_next, length-take, ended_is)
 
@@ -239,14 +239,14 @@ module _ (chunks : Chunks) (size : ℕ) where
 
   -- How far the chunk that was begun goes in what follows
 
-  -- what it gets of that is what begins before its end, or the rest of the line that is open
+  -- the chunk that was begun gets what begins before its end, or the rest of the open line
   pub piece_all : (x text : List ℕ) {place : ℕ} → length x < size
       → HaveEnded chunks size x place → place < chunks.count
       → let skip = max (chunk_start chunks.count size (place + 1) - length x) 1 in
       let y = begun_before chunks.unit chunks.delim skip text in before_chunk chunks size (place + 1) (x ++ y) ≡ x ++ y
   piece_all x text short is less = grind (arith, begun_on, begun_again)
 
--- where it can still grow
+-- If the size isn't known
 
 pub decided_grows : (chunks : Chunks) (first : ℕ) (x y : List ℕ) → 0 < chunks.count → first ≤ chunks.count
     → IsBeginning (before_chunk chunks (length x) first x) (before_chunk chunks (length (x ++ y)) first (x ++ y))

@@ -1,4 +1,4 @@
--- Laws that traits cite: those of the work on chunks, and of lines dealt in turn of which one file's are written.
+-- Laws that traits cite: those of the work on chunks, and on dealt lines of which those for one file are written.
 use Rattle.std.{
   proofs.{
     lemmas.{Grind.common_steps, Bool.cases_lt},
@@ -51,7 +51,7 @@ module _ (chunks : Chunks) (size : ℕ) where
         let (rest, on) = begun_grows chunks.unit chunks.delim end x y in
         (rest, rest_on chunks size x y rest some within (grind (arith, common_steps, before_next, ended_is)))
 
-  -- once more of it came in
+  -- the pieces of a longer text go on from those of the text
   pub chunks_go_on : (x y : List ℕ) → 0 < chunks.count
       → GoesOn (chunks_of chunks size x) (chunks_of chunks size (x ++ y))
   chunks_go_on x y some = let (rest, is) = begun_grows Bytes 0 size x y in
@@ -74,13 +74,13 @@ begins_pieces : (f : ℕ → List ℕ) (n : ℕ) (low last : List ℕ) → 0 < n
 begins_pieces f zero low last some begins = absurd (omega arith)
 begins_pieces f (suc n) low last some begins = begins
 
--- and in the end
+-- the pieces at the end go on from those that are decided
 decided_ends : (chunks : Chunks) (said : Option ℕ) (x : List ℕ) → 0 < chunks.count
     → GoesOn (decided chunks 1 said x) (in_the_end chunks said x)
 decided_ends chunks (Some size) x some = record { more = []; full = sym (append-nil _); rest = begins_itself _ }
 decided_ends chunks None x some = grind (arith, common_steps, start_first, cut_all, begins_pieces)
 
--- What files get of it
+-- What files get of a text that is cut up
 
 pub kept-append : (elide : Bool) (front more : List (List ℕ))
     → kept elide (front ++ more) ≡ kept elide front ++ kept elide more
@@ -96,7 +96,7 @@ pub shares_on : (elide : Bool) (state : State) {low high : CutUp} → GoesOn low
     (map (share Closed) (kept elide high.full) ++ map (share state) (unless_empty high.rest))
 shares_on elide state on = grind (arith, common_steps, shares_after)
 
--- once all is there, it is the same
+-- a text that is longer than its size differs from it
 pub longer_differs : (size : ℕ) (x : List ℕ) → size < length x → eqb (length x) size ≡ false
 longer_differs size x longer = grind arith
 

@@ -40,7 +40,7 @@ once_within (suc bound) within (stops _ short) = cc
 once_within {limit} (suc bound) {x} within (goes _ parts rest full more) =
     cc (once_within bound (after_less limit x bound full within) more)
 
--- a text is cut in one way
+-- a text is cut up in one way
 pub cut_once : (limit : Limit) {x : List ℕ} {parts : List (List ℕ)} {rest : List ℕ} → Cuts limit x parts rest
     → cut_up limit x ≡ cut_so parts rest
 cut_once limit {x} cuts = once_within _ (omega arith) cuts
@@ -55,7 +55,7 @@ cuts_on {limit} x y more {left} (goes _ parts _ full after) then =
     rw (after-append limit x y full) (cuts_on _ y more after then) in
     rw (first-append limit x y full) at (goes (x ++ y) _ left all rest)
 
--- a text that goes on has its parts, and then those of what was left of it and what follows
+-- a longer text has the parts of the text, and then those of its rest and what follows
 pub cut_on : (limit : Limit) (x y : List ℕ)
     → cut_up limit (x ++ y) ≡ cut_so ((cut_up limit x).full ++ (cut_up limit ((cut_up limit x).rest ++ y)).full)
     (cut_up limit ((cut_up limit x).rest ++ y)).rest
@@ -66,11 +66,11 @@ left_short : (limit : Limit) (x : List ℕ) {parts : List (List ℕ)} {rest : Li
 left_short limit x (stops _ short) = short
 left_short limit x (goes _ parts _ full after) = left_short _ _ after
 
--- what is left has no full part
+-- the rest has no full part
 pub rest_short : (limit : Limit) (x : List ℕ) → is_full limit (cut_up limit x).rest ≡ false
 rest_short limit x = left_short limit x cuts_up
 
--- three ways to go on: no part is full yet; all of the text is one; the text is one and a beginning of the next
+-- Three ways to go on: no part is full yet; all of the text is one part; it is one part and a beginning of the next
 
 pub cut_none : (limit : Limit) (x : List ℕ) → is_full limit x ≡ false → cut_up limit x ≡ cut_so [] x
 cut_none limit x short = search rules

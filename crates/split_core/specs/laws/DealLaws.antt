@@ -27,7 +27,7 @@ pub next_place : (ends : Bool) (place count : ℕ)
     → cond ends (place + 1) place + count ≡ place + cond ends (count + 1) count
 next_place ends place count = grind (arith, nat_tests)
 
--- an open last line goes on where it began
+-- what follows is dealt on from the file of the open line
 pub dealt_append : (delim n file place : ℕ) (x y : List ℕ)
     → dealt n file place (lines_of delim (x ++ y)) ≡ dealt n file place (lines_of delim x)
     ++ dealt n file (place + delimiters delim x) (lines_of delim y)
@@ -79,7 +79,7 @@ share_some : (delim n : ℕ) (x : List ℕ) (file : ℕ) → file < line_count d
     → has_bytes (share_of delim n x file) ≡ true
 share_some delim n x file before within = grind (arith, common_steps, has_bytes_of, dealt_some, each_line)
 
--- where members up to a place aren't empty and those from there on are, the filter leaves those up to that place
+-- if the lists before place `end` have bytes and those from it on have none, the filter leaves the lists before `end`
 filter_first : (f : ℕ → List ℕ) (n end : ℕ) → ((file : ℕ) → file < n → file < end → has_bytes (f file) ≡ true)
     → ((file : ℕ) → file < n → end ≤ file → f file ≡ [])
     → filter has_bytes (map f (range_with_len 0 n)) ≡ map f (range_with_len 0 (min n end))
@@ -96,13 +96,13 @@ filter_first f (suc n) end some none =
           cc (before, none n (omega arith) past, append-nil (map f (range_with_len 0 (min n end)))))
     ]
 
--- the files that have a line are the first ones
+-- the files that have a line are the first files
 pub dealt_files_are : (delim : ℕ) (elide : Bool) (n : ℕ) (x : List ℕ)
     → dealt_files delim elide n x ≡ map (share_of delim n x) (range_with_len 0 (opened_by delim elide n x))
 dealt_files_are delim true n x = grind (arith, common_steps, filter_first, share_some, share_none)
 dealt_files_are delim false n x = refl
 
--- a text that goes on opens no fewer files
+-- a longer text opens at least as many files
 
 pub opened_by-grows : (delim : ℕ) (elide : Bool) (n : ℕ) (x y : List ℕ)
     → opened_by delim elide n x ≤ opened_by delim elide n (x ++ y)

@@ -1,5 +1,5 @@
--- What each limit cuts off, and what the next bytes of a piece do to the part that was begun. Laws that a trait cites
--- go by these, and so does what is proved of parts under any limit: none of it has a case for one.
+-- What each limit cuts off, and what the next bytes of a piece do to the part that was begun. Laws that a trait cites,
+-- and proofs of parts under any limit, go by these and have no case for a limit.
 use Rattle.std.{
   proofs.{
     Common.{Bool, List, [], ap, append_assoc, arith, drop, false, inl, inr, length, length-append, length-drop, max},
@@ -139,7 +139,7 @@ first-append (LineBytes n delim) x y full =
 
 -- What is left after the full parts
 
--- what is left is what is settled of it, and what waits
+-- the rest is what is settled of it, and then what waits
 pub settled_then_waiting : (limit : Limit) (rest : List ℕ) → settled_rest limit rest ++ waiting_rest limit rest ≡ rest
 settled_then_waiting (LineBytes n delim) rest = whole_then_open _
 settled_then_waiting limit rest = append-nil rest
@@ -155,7 +155,7 @@ waits_few (LineBytes n delim) rest some short =
     grind (arith, common_steps, short_some, length-append, ap length (whole_then_open delim {x = rest}))
 waits_few limit rest some short = some
 
--- what is settled of a text without a full part begins the first part of the text that goes on
+-- what is settled of a text without a full part begins the first part of the longer text
 pub settled_in_full : (limit : Limit) (x y : List ℕ) → measure limit x < most limit
     → IsBeginning (settled_rest limit x) (first_part limit (x ++ y))
 settled_in_full (Lines n delim) x y short =
@@ -171,14 +171,14 @@ none_among : (delim k : ℕ) → delimiters delim (replicate k (other delim)) �
 none_among delim zero = refl
 none_among delim (suc k) = cc (ne_eqb (other delim) delim (λ is. other_differs delim (sym is)), none_among delim k)
 
--- bytes that end a part before what waits
+-- these bytes may come, and end a part before what waits
 pub record PartEnds (limit : Limit) (rest : List ℕ) : Type 0 where
   pub more : List ℕ
   pub come : CanCome more
   pub full : is_full limit (rest ++ more) ≡ true
   pub first_is : first_part limit (rest ++ more) ≡ settled_rest limit rest
 
--- of bytes for whole lines those that fill it, without a delimiter
+-- under `-C`, bytes without a delimiter that fill the part end it before what waits
 pub part_ends : (limit : Limit) (rest : List ℕ) → 0 < most limit → is_full limit rest ≡ false
     → 0 < length (waiting_rest limit rest) → PartEnds limit rest
 part_ends (LineBytes n delim) rest some short waits = record {
@@ -223,7 +223,7 @@ pub first_itself : {delim n : ℕ} {x : List ℕ} (end : ℕ) → EndsAt delim n
 first_itself {delim} {n} {x} end ends =
     cc (first_lines-full delim n (take end x) (drop end x) (omega arith), take-append-drop end x)
 
--- bytes for whole lines
+-- under `-C`
 
 pub open_goes_on : (delim : ℕ) (x y : List ℕ) → 0 < delimiters delim x → delimiters delim y ≡ 0
     → open_line delim (x ++ y) ≡ open_line delim x ++ y
@@ -243,7 +243,7 @@ open_plain delim x some =
       delimiters-first_lines delim (delimiters delim x) x (omega arith),
     )
 
--- a text that ends with the last delimiter of a block
+-- the text and then a block up to its last delimiter are whole lines
 pub ends_whole : {delim : ℕ} (x : List ℕ) {block : List ℕ} (end : ℕ) → LastEndsAt delim block end
     → whole_lines delim (x ++ take end block) ≡ x ++ take end block
 ends_whole {delim} x {block} end ends =
@@ -253,7 +253,7 @@ pub lines_at_end : {delim : ℕ} {block : List ℕ} (end : ℕ) → LastEndsAt d
     → 0 < delimiters delim (take end block)
 lines_at_end {delim} {block} end ends = grind (arith, delimiters-first_lines)
 
--- a text without a delimiter that is shorter than a part
+-- under `-C`, a text without a delimiter that is shorter than a part
 pub begun_plain : (delim n : ℕ) {next : List ℕ} → delimiters delim next ≡ 0 → length next < n
     → IsBegun (LineBytes n delim) next (n - length next) false
 begun_plain delim n {next} none short = grind arith

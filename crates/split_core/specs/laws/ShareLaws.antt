@@ -1,4 +1,4 @@
--- Laws that traits cite: laws of what files get: what is written once more came in, and in the end.
+-- Laws that traits cite: what files get once more came in, and at the end.
 use Rattle.std.proofs.{
   lemmas.{Grind.common_steps, List.{map-append, length-map}},
   Common.{◌≡◌, ℕ, ◌+◌, ◌<◌, ◌≤◌, suc, List, [], ◌∷◌, ◌++◌, length, map, Bool, true, false},
@@ -25,7 +25,7 @@ use Rattle.split_core.specs.{
 use Rattle.split_core.specs.laws.{LimitLaws.{full_some, settled_some, settled_then_waiting, short_some}}
 use Rattle.split_core.specs.laws.LimitLaws.{settled_in_full, settled_in_rest}
 
--- what standard output is told of files that begin others begins what it is told of those
+-- if files begin others, what standard output gets about the first begins what it gets about the others
 pub told_begins : (verbose : Bool) (low high : List File) → FilesBegin low high
     → IsBeginning (told_of_files (output_by verbose) low) (told_of_files (output_by verbose) high)
 told_begins false low high begins = begins_itself _
@@ -35,7 +35,7 @@ pub part_begins : (filing : Filing) (low high : List Share) → SharesBegin low 
     → Begins (part_of (manner_of filing) low) (part_of (manner_of filing) high)
 part_begins filing low high begins = grind (arith, common_steps, files_begin, told_begins)
 
--- where a place has no name, what stands from there on makes no file
+-- if a place has no name, the shares from there on make no file
 pub named_short : (filing : Filing) (place : ℕ) (front rest : List Share)
     → has_name filing.names (place + length front) ≡ false
     → named filing place (front ++ rest) ≡ named filing place front
@@ -46,8 +46,7 @@ named_short filing place front rest none = files_stop (manner_of filing) place f
 settled_in_whole : (limit : Limit) (x : List ℕ) → IsBeginning (settled_rest limit x) x
 settled_in_whole limit x = (_, sym (settled_then_waiting _ x))
 
--- what files get of a text that goes on: the full parts of the text, and then what they get of the rest and what
--- follows
+-- what files get of a longer text: the full parts of the text, and then what they get of the rest and what follows
 
 pub settled_on : (limit : Limit) (x y : List ℕ)
     → settled_parts limit (x ++ y) ≡ map (share Closed) (cut_up limit x).full
@@ -58,7 +57,7 @@ pub parts_on : (limit : Limit) (x y : List ℕ)
     → parts limit (x ++ y) ≡ (cut_up limit x).full ++ parts limit ((cut_up limit x).rest ++ y)
 parts_on limit x y = grind (arith, common_steps, cut_on, append_assoc)
 
--- a text with a full part has that as its first
+-- a text with a full part has it as its first part
 pub cut_first : (limit : Limit) (x : List ℕ) → is_full limit x ≡ true
     → cut_up limit x ≡ cut_so (first_part limit x ∷ (cut_up limit (after_first limit x)).full)
     (cut_up limit (after_first limit x)).rest
@@ -95,7 +94,7 @@ unless_count low high some back = grind (arith, common_steps)
 pub settled_count : (limit : Limit) (x : List ℕ) → length (settled_parts limit x) ≡ length (parts limit x)
 settled_count limit x = grind (arith, common_steps, length-map, unless_count, settled_some, settled_in_whole)
 
--- Once names ran out, nothing more is written.
+-- Once names ran out, nothing more is written
 
 pub are_named_more : (names : Naming) (count more : ℕ) → are_named names count ≡ false → count ≤ more
     → are_named names more ≡ false
@@ -122,7 +121,7 @@ shares_fewer [] high begins = omega arith
 shares_fewer (share ∷ low) [] begins = absurd begins
 shares_fewer (share ∷ low) (whole ∷ high) begins = omega (arith, shares_fewer low high begins.2)
 
--- a text that goes on has no fewer parts
+-- a longer text has at least as many parts
 pub parts_grow : (limit : Limit) (x y : List ℕ) → length (parts limit x) ≤ length (parts limit (x ++ y))
 parts_grow limit x y =
     rw (settled_count limit x, settled_count limit (x ++ y)) at (shares_fewer _ _ (settled_grow limit x y))

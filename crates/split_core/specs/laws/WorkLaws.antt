@@ -31,7 +31,7 @@ use Rattle.split_core.specs.{
 }
 use Rattle.seg_core.specs.declared.cut.{Limit.Limit, Chunks.Chunks as Chunking}
 
--- where each of some files has a beginning of what others have, and these are no fewer, those begin these
+-- files begin other files that aren't fewer, if each has a beginning of the other's bytes
 files_begin : (filing : Filing) (high : State) (f g : ℕ → List ℕ) → ((file : ℕ) → IsBeginning (f file) (g file))
     → (place start m n : ℕ) → m ≤ n
     → FilesBegin (named filing place (map (share Open) (map f (range_with_len start m))))
@@ -41,7 +41,7 @@ files_begin filing high f g begin place start (suc m) zero few = absurd (omega a
 files_begin filing high f g begin place start (suc m) (suc n) few =
     grind (arith, files_begin filing high f g begin (place + 1) (start + 1) m n (omega arith))
 
--- each file only grows, and none is taken back
+-- dealt files only grow, and none is taken back
 dealt_begin : (delim : ℕ) (elide : Bool) (n : ℕ) (filing : Filing) (high : State) (x z : List ℕ)
     → ((file : ℕ) → IsBeginning (share_of delim n x file) (share_of delim n z file))
     → opened_by delim elide n x ≤ opened_by delim elide n z

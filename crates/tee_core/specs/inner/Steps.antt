@@ -20,23 +20,23 @@ use Rattle.tee_core.specs.{
   TeeState.TeeState,
 }
 
--- the number of an output: standard error stands between standard output and the files
+-- the slot of an output: standard error stands between standard output and the files
 abbrev pub output_slot : ℕ → ℕ
 output_slot zero = 0
 output_slot (suc n) = suc (suc n)
 
--- how they stand: standard output, and then the files
+-- how the outputs stand: standard output, and then the files
 abbrev pub standings_of : List Slot → List Standing
 standings_of [] = []
 standings_of (output ∷ []) = []
 standings_of (output ∷ error ∷ files) = stands_as output ∷ map stands_as files
 
--- there is a message for an output that was known to stand as the first says, and now stands as the second
+-- whether there is a message for an output that stood as the first says, and now stands as the second says
 abbrev pub tells : OnBroken → Standing → Standing → Bool
 tells on_broken Sound now = is_told on_broken now
 tells on_broken was now = false
 
--- the messages for those of which it wasn't known, in their order
+-- the messages for the outputs that broke since, in their order
 abbrev pub said_since : OnBroken → Fault → List (List ℕ) → List Standing → List Standing → List Message
 said_since on_broken fault [] known nows = []
 said_since on_broken fault (name ∷ names) [] nows = []
@@ -59,7 +59,7 @@ pub record HasStreams (slots : List Slot) (count : ℕ) : Type 0 where
   pub opened : is_open error.state ≡ true
   pub files_are : length files ≡ count
 
--- a tee with the files of these names, in a run: they are all that was opened
+-- a tee in a run, with the files of these names; nothing else was opened
 pub record IsTeeOf (names : List (List ℕ)) (tee : TeeState) : Type 0 where
   pub live : tee.is_over ≡ false
   pub count : tee.count ≡ length names
@@ -76,7 +76,7 @@ pub data FileHas (told : Bool) (mode : Mode) (pieces : List (List ℕ)) (name : 
         → FileHas told mode pieces name (Some (record { call = suc (length before); why = why }))
         (breaks why (adds (told_of told (concat before ++ take n piece)) (opened name mode)))
 
--- these pieces were copied, before the files are closed
+-- these pieces were copied, and the files aren't closed yet
 pub record Copies (told : Bool) (calling : Calling) (mode : Mode) (on_broken : OnBroken) (names : List (List ℕ))
     (pieces : List (List ℕ)) (messages : List Message) (slots : List Slot) (known : List Standing) : Type 0 where
   pub output : Slot
@@ -91,11 +91,12 @@ pub record Copies (told : Bool) (calling : Calling) (mode : Mode) (on_broken : O
       (said_before on_broken (suc (length pieces)) (output_names names) (first ∷ broke) ++ messages)
       standard_error error
   pub known_are : known ≡ map standing_of (first ∷ broke)
-  -- those that broke before the last call didn't end the run, and those that broke before the next one are known
+  -- outputs that broke before the last call didn't end the run
   pub goes_on : is_done on_broken (standings_before (length pieces) (first ∷ broke)) ≡ false
+  -- outputs that broke before the next call are known
   pub are_known : standings_before (suc (length pieces)) (first ∷ broke) ≡ known
 
--- an input was read so, and all that came of it was copied
+-- an input was read, and all that came was copied
 pub record CopiesRead (told_in told : Bool) (calling : Calling) (mode : Mode) (on_broken : OnBroken)
     (names : List (List ℕ)) (content : Content) (source : Source) (slots : List Slot) (known : List Standing)
     (fault : Option Fault) : Type 0 where
@@ -103,7 +104,7 @@ pub record CopiesRead (told_in told : Bool) (calling : Calling) (mode : Mode) (o
   pub read : ComesIn told_in content source (is_done on_broken known) pieces fault
   pub copies : Copies told calling mode on_broken names pieces [] slots known
 
--- how a run leaves its outputs, once the files are closed; `before` says how they stood before that
+-- how a run leaves its outputs, once the files are closed; `before` says how they stood until then
 pub record HasCopied (told : Bool) (calling : Calling) (mode : Mode) (on_broken : OnBroken) (names : List (List ℕ))
     (pieces : List (List ℕ)) (fault : Option Fault) (before : List Standing) (slots : List Slot) (known : List Standing)
     : Type 0 where

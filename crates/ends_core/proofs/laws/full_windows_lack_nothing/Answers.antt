@@ -13,7 +13,7 @@ use Rattle.ends_core.{
 use Rattle.ports_core.specs.declared.fault.Fault.TheVariants as fault_is
 use Rattle.ends_core.proofs.laws.full_windows_lack_nothing.Goals as goal
 
--- of what writes to standard output alone, lacks no memory and has no fault of its own
+-- a stage that writes to standard output alone, lacks no memory and has no fault of its own
 only_writes : (memory : Bool) {lacks : Bool} (Ends : Verdict → Type 0) (old new : List Slot) (fault : Fault)
     → lacks ≡ false → ((verdict : Verdict) → Ends verdict → ⊥)
     → IsMet (on_output memory) (on_output memory).feeding (lacks ≡ true) Ends old new fault

@@ -42,7 +42,7 @@ pieces-init g c =
         far = λ unread. omega (arith, ap (λ (source : Source). source.reached) passed);
       };
       last = λ told. needed_front took.going;
-      -- of what is taken in without a read all is used
+      -- all that is taken in without a read is used
       few = λ standard n spare. elim took.going [
         | inl none ↦ omega (arith, ap length none, ap length spare.joined ∙ length-append spare.used spare.rest)
         | inr going ↦ omega (arith, none_spare _ loads.front n (g.met.S.Stage.lawful _ _ c.requires.fresh.within) going spare)
@@ -54,7 +54,7 @@ pieces-init g c =
       ready = took.ready _ c.requires.output;
     }
 
--- where the read broke off
+-- the read broke off
 
 pub returns-in-Err : goal.returns-in-Err
 returns-in-Err g c =
@@ -84,7 +84,7 @@ returns-in-Err g c =
       laid = c.read_part.ensures.kept ∙ so_far.laid;
     }
 
--- where the input ended
+-- the input ended
 
 pub returns-then-n-eq0 : goal.returns-then-n-eq0
 returns-then-n-eq0 g c =
@@ -134,7 +134,7 @@ returns-then-n-eq0 g c =
       laid = c.read_part.ensures.kept ∙ so_far.laid;
     }
 
--- where the engine took the piece
+-- the engine took the piece
 
 pub pieces-preserved : goal.pieces-preserved
 pieces-preserved g c =
@@ -171,7 +171,7 @@ pieces-preserved g c =
       ready = c.in-Ok-feed.ensures.passes.ready;
     }
 
--- where it failed
+-- the engine failed
 
 pub returns-in-Err-feed : goal.returns-in-Err-feed
 returns-in-Err-feed g c =
@@ -229,7 +229,7 @@ returns-in-Err-feed g c =
       laid = c.read_part.ensures.kept ∙ so_far.laid;
     }
 
--- where nothing more can follow
+-- nothing more can follow
 
 pub give_back-requires-clause-within : goal.give_back-requires-clause-within
 give_back-requires-clause-within g c told =

@@ -19,7 +19,7 @@ returns-in-Ok-clause-took g c so_far error opened at =
 pub returns-in-Ok-clause-takes : goal.returns-in-Ok-clause-takes
 returns-in-Ok-clause-takes g c = takes_file (sym c.is_dash.ensures ∙ c.if-is_dash.false) c.requires.some c.in-Ok.ensures.ok c.take_input-in-Ok.ensures.others c.take_input-in-Ok.ensures.asked
 
--- it can't be opened
+-- the file can't be opened
 
 pub returns-in-Open-clause-took : goal.returns-in-Open-clause-took
 returns-in-Open-clause-took g c so_far error opened at =

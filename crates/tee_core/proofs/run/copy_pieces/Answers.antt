@@ -60,7 +60,7 @@ pieces-preserved g c =
       asked = λ within. asked_again _ _ _ _ _ _ so_far.readable c.in-Ok.ensures.rest (omega arith) (so_far.asked within);
     }
 
--- where the read broke off
+-- the read broke off
 
 pub returns-in-Err-clause-copies : goal.returns-in-Err-clause-copies
 returns-in-Err-clause-copies g c mode at =
@@ -75,7 +75,7 @@ returns-in-Err-clause-copies g c mode at =
     (rw c.in-Err.ensures.err.0 (to_break _ bytes ended leaves)) (so_far.copies mode at) in
     (content, is, (copied, breaks))
 
--- where the input ended
+-- the input ended
 
 pub returns-then-n-eq0-clause-copies : goal.returns-then-n-eq0-clause-copies
 returns-then-n-eq0-clause-copies g c mode at =
@@ -93,7 +93,7 @@ returns-then-n-eq0-clause-copies g c mode at =
     (to_end _ bytes ended leaves) (so_far.copies mode at) in
     (content, is, (copied, breaks))
 
--- where a piece passes the limit
+-- a piece passes the limit
 
 pub returns-in_default-clause-copies : goal.returns-in_default-clause-copies
 returns-in_default-clause-copies g c mode at =
@@ -110,7 +110,7 @@ returns-in_default-clause-copies g c mode at =
     (omega (arith, length-take c.in-Ok.n c.read.new.buffer)) leaves) (so_far.copies mode at) in
     (content, is, (copied, breaks))
 
--- where the outputs that are broken end it
+-- the outputs that are broken end the run
 
 pub returns-clause-copies : goal.returns-clause-copies
 returns-clause-copies g c mode at =
