@@ -5,12 +5,15 @@ use Rattle.std.proofs.{
     Bool.{cases_lt, le-leb, leb-true, le-ltb, lt-ltb},
     List.{drop_all, drop-take, length-drop, length-take, take-append-drop, take-append-le},
   },
-  Common.{◌≡◌, ℕ, ◌-◌, ◌<◌, ◌≤◌, ◌+◌, ◌↔◌, List, [], ◌∷◌, ◌++◌, length, take, drop, nat_lt, None, true, false},
-  Common.{inl, inr, refl, sym, ◌∙◌, ap, arith, cond, length-append},
+  Common.{◌≡◌, ℕ, ◌-◌, ◌<◌, ◌≤◌, ◌+◌, ◌↔◌, List, [], ◌∷◌, ◌++◌, length, take, drop, nat_lt, None, true},
+  Common.{false, inl, inr, refl, sym, ◌∙◌, ap, arith, cond, length-append},
   Math.Seq.take-append_seam,
 }
 use Rattle.seg_core.specs.declared.unit.Unit.{Unit as Counted}
-use Rattle.ports_core.{specs.{Agreed.{ArePlaced, IsAgreed, IsUndecided, Spot, spot, spots_from}, Part.only_out}, proofs.AgreedLemmas.{IsStretch, agreed_now, common, same_spots, spot_in, spot_past, stretch_placed}}
+use Rattle.ports_core.{
+  specs.{Agreed.{ArePlaced, IsAgreed, IsUndecided, Spot, spot, spots_from}, Part.only_out},
+  proofs.AgreedLemmas.{IsStretch, agreed_now, common, same_spots, spot_in, spot_past, stretch_placed},
+}
 use Rattle.ends_core.specs.{
   Ends.{last_of, but_last_of},
   Head.head_work,
