@@ -97,7 +97,8 @@ one_line Line line is = All-cons Line line [] is (All-nil Line)
 
 -- the only line tells this fault
 pub tells_one : (run : Run) (asked : Settings) (fault : Fault) (name : List ℕ) → IsMet run asked fault name
-    → SaysAll true (speaker_of run.calling asked) (message_by run fault name ∷ []) standard_error (slot_at run.outputs 1)
+    → SaysAll true (speaker_of run.calling asked) (message_by run fault name ∷ []) standard_error
+    (slot_at run.outputs 1)
     → Tells run asked fault name
 tells_one run asked fault name met says = ([], [], grind (arith, common_steps, one_line))
 

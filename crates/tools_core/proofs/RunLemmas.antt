@@ -159,7 +159,8 @@ lacks_memory asked = (record { kind = kind.Memory; index = 0 }, no_memory 0, ref
 
 -- words that are refused, or weren't read for want of memory
 
-refused_memory : {calling : Calling} {told : Bool} (words : List (List ℕ)) (fault : Fault) {new : List Slot} {status : ℕ}
+refused_memory : {calling : Calling} {told : Bool} (words : List (List ℕ)) (fault : Fault) {new : List Slot}
+    {status : ℕ}
     → RefusesFor calling told words Memory new status → RefusesFor calling told words fault new status
 refused_memory words fault refuses = record {
   error = refuses.error;
@@ -170,8 +171,8 @@ refused_memory words fault refuses = record {
 }
 
 -- what is said of the words is said by the tool that they ask for
-pub worded_by : {told : Bool} {message : Message} (calling : Calling) {which tool : Tool} {old new : Slot} → which ≡ tool
-    → Says told (by calling which) message old new → Says told (by calling tool) message old new
+pub worded_by : {told : Bool} {message : Message} (calling : Calling) {which tool : Tool} {old new : Slot}
+    → which ≡ tool → Says told (by calling which) message old new → Says told (by calling tool) message old new
 worded_by calling is says = rw is at says
 
 says_as : {told : Bool} (calling : Calling) (words : List (List ℕ)) {settings : Settings} {new : List Slot} {status : ℕ}

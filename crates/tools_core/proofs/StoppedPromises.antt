@@ -43,10 +43,11 @@ use Rattle.words_core.specs.{
   TeeWords.TeeAsked,
   declared.settings.{Settings.{Settings, TheVariants.{Csplit, Tee, About}}, Topic.Topic},
   Help.text_about,
+  Refusal.word_at,
 }
 use Rattle.tools_core.specs.{
   About.{TellsText, no_text, text_cut, text_whole},
-  Outcome.{refusal, refuser, speaker, word_of},
+  Outcome.{refusal, refuser, speaker},
   Tasks.{by, names_of, speaker_of, tool_of},
   Promises.{BrokeAt, Completes, Does, HasGone, HasLong, IsCalled, IsCopied, IsGone, IsSilent, LostReader, IsStopped},
   Promises.{IsTask, IsUnstopped, Ran, Run, SaysLines, SaysWhy, StopsRun, Tells, TellsMet, WhyBroken, broken_off, message_by},
@@ -412,6 +413,11 @@ does_or (About which topic) does = about_or does
 does_or asked does = ends_or {asked = asked} refl does
 
 -- operands that are wrong
+
+-- the word that a fault of words speaks of
+abbrev word_of : List (List ℕ) → Fault → List ℕ
+word_of words (Usage kind place) = word_at words place
+word_of words fault = []
 
 bad_stops : (run : Run) (asked : Settings) (fault : Fault) → HasBadOperands asked fault
     → StopsRun run asked (word_of run.words fault) fault

@@ -49,7 +49,8 @@ FollowsAs calling told_in told asked followed looks shows seen watched new statu
     streams seen watched new status
 
 -- the words are refused for this, and no name was watched and no look made
-abbrev pub RefusesUnseen : Calling → Bool → List (List ℕ) → Fault → List Snapshot → List Watched → List Slot → ℕ → Type 0
+abbrev pub RefusesUnseen : Calling → Bool → List (List ℕ) → Fault → List Snapshot → List Watched → List Slot → ℕ
+    → Type 0
 RefusesUnseen calling told words fault seen watched new status = (seen ≡ []) × (watched ≡ [])
     × RefusesFor calling told words fault new status
 

@@ -38,11 +38,6 @@ speaker (name ∷ words) = unwrap_or (tool_named name) tool.Cutters
 abbrev pub refuser : Calling → List (List ℕ) → Speaker
 refuser calling words = by calling (speaker words)
 
--- the word that a fault of words speaks of
-abbrev pub word_of : List (List ℕ) → Fault → List ℕ
-word_of words (Usage kind place) = word_at words place
-word_of words fault = []
-
 -- the message that refuses words for this fault
 abbrev pub refusal : Calling → List (List ℕ) → Fault → Message
 refusal calling words (Usage kind place) =

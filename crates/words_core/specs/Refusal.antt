@@ -1,7 +1,9 @@
 -- What a tool says by its own name of words that are refused, beside what is wrong, the word and the rule. It is seen from
 -- the words.
-use Rattle.std.specs.Prelude.{ℕ, ◌-◌, ◌==◌, nat_lt, Bool, true, false, List, [], ◌∷◌, ◌++◌, codes, is_some, take}
-use Rattle.std.specs.Prelude.{Option, Some, None, Result, Ok, Err, if◌then◌else◌, slice_index_or}
+use Rattle.std.specs.{
+  Prelude.{ℕ, ◌-◌, ◌==◌, nat_lt, Bool, true, false, List, [], ◌∷◌, ◌++◌, codes, is_some, take},
+  Prelude.{Option, Some, None, Result, Ok, Err, if◌then◌else◌, slice_index_or},
+}
 use Rattle.ports_core.specs.{
   Text.in_quotes,
   declared.{
@@ -57,8 +59,8 @@ end_with_option (name ∷ words) = elim (row_named tools name) [
 ]
 
 abbrev pub for_option : List (List ℕ) → ℕ → List ℕ
-for_option words place = if end_with_option (take place words) then codes " for " ++ in_quotes (word_at words (place - 1))
-    else []
+for_option words place =
+    if end_with_option (take place words) then codes " for " ++ in_quotes (word_at words (place - 1)) else []
 
 -- What `--follow` may be, after the word that says something else. A fault of the line as a whole is told at place 0.
 abbrev pub for_follow : List (List ℕ) → ℕ → List ℕ
