@@ -31,6 +31,10 @@ row_of (name ∷ words) = row_named tools name
 -- Which letter of several in one word is no option's: the first such. 45 is a hyphen; a word that begins with two is a long
 -- option.
 
+abbrev pub letters_of : List ℕ → List ℕ
+letters_of (hyphen ∷ letter ∷ next ∷ letters) = if letter == 45 then [] else letter ∷ next ∷ letters
+letters_of word = []
+
 abbrev pub quoted_letter : ℕ → List ℕ
 quoted_letter letter = if nat_lt letter 128 then codes ": '" ++ letter ∷ codes "'" else []
 
@@ -40,9 +44,8 @@ unknown_among rows (letter ∷ letters) =
     if is_some (option_lettered rows letter) then unknown_among rows letters else quoted_letter letter
 
 abbrev pub unknown_letter : Option ToolRow → List ℕ → List ℕ
-unknown_letter (Some row) (hyphen ∷ letter ∷ next ∷ letters) =
-    if letter == 45 then [] else unknown_among row.options (letter ∷ next ∷ letters)
-unknown_letter row word = []
+unknown_letter (Some row) word = unknown_among row.options (letters_of word)
+unknown_letter None word = []
 
 -- For which option a value in a word of its own was: the word before it, if the words up to that one end with an option
 -- that lacks its value.

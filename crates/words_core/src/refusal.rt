@@ -1,9 +1,9 @@
 //! What a tool says by its own name of words that are refused, beside what is wrong and with which word.
-ghost use Rattle.std.specs.Prelude.{◌≡◌, ◌++◌, codes, map, option_map, IfOk, IfErr};
-ghost use Rattle.ports_core.specs.Text.in_quotes;
+ghost use Rattle.std.specs.Prelude.{◌≡◌, ◌++◌, codes, map, option_map, take, IfOk, IfErr};
+ghost use Rattle.ports_core.specs.Text.{in_quotes};
 ghost use Rattle.words_core.specs.{
-  Refusal.{detail_of, end_with_option, for_follow, for_option, quoted_letter, row_of, unknown_among, unknown_letter},
-  Refusal.word_at,
+  Refusal.{detail_of, end_with_option, for_follow, for_option, letters_of, quoted_letter, row_of, unknown_among},
+  Refusal.{unknown_letter, word_at},
   Spelling.option_lettered,
   Table.{row_seen, tool_seen},
 };
@@ -67,19 +67,19 @@ fn unknown_letter(
     ensures { IfOk result
         (λ text. text.items ≡ unknown_letter (option_map (λ row. tool_seen row.now) row.entry) word.now) }
 {
-    match (row, word.as_bytes()) {
-        (Some(row), [_, letters @ ..]) if are_letters(letters) => {
-            unknown_among(alloc, row.options, letters)
-        }
-        _ => Ok(Vec::new(alloc)),
+    match row {
+        Some(row) => unknown_among(alloc, row.options, letters_of(word.as_bytes())),
+        None => Ok(Vec::new(alloc)),
     }
 }
 
-/// Whether these are several letters, and not a hyphen and the name of a long option.
-fn are_letters(letters: &[u8]) -> bool {
-    match letters {
-        [letter, _, ..] => *letter != b'-',
-        _ => false,
+/// The letters of a word that has several after its hyphen, and is no long option.
+fn letters_of(word: &[u8]) -> &[u8]
+    ensures { result.now ≡ letters_of word.now }
+{
+    match word {
+        [_, letter, _, ..] if *letter != b'-' => &word[1..],
+        _ => &[],
     }
 }
 
@@ -135,11 +135,17 @@ fn for_option(alloc: Global, words: &[&str], place: usize) -> Result<Vec<u8>, Fa
     ensures ok { IfOk result (λ text. text.items ≡ for_option (map (λ word. word.now) words.now) place) }
     ensures err { IfErr result (λ fault. fault ≡ Fault.Memory) }
 {
-    let before = &words[..place.min(words.len())];
-    if end_with_option(alloc, before)? {
+    if end_with_option(alloc, words_before(words, place))? {
         return Ok(after_for(alloc, word_at(words, place.saturating_sub(1)))?);
     }
     Ok(Vec::new(alloc))
+}
+
+/// The words before this place.
+fn words_before<'a, 'b>(words: &'a [&'b str], place: usize) -> &'a [&'b str]
+    ensures { map (λ word. word.now) result.now ≡ take place (map (λ word. word.now) words.now) }
+{
+    &words[..place.min(words.len())]
 }
 
 fn after_for(alloc: Global, option: &str) -> Result<Vec<u8>, AllocError>
