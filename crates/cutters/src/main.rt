@@ -102,7 +102,7 @@ fn words_of<'a>(alloc: Global, args: &'a [String]) -> Result<Vec<&'a str>, Alloc
 /// Says that there is no memory for the words, and returns the status.
 fn refuse(alloc: Global, outs: &mut DirOut<'_, HostRuntime>) -> u8
     requires { outs.old ≡ streams }
-    ensures { RefusesFor false [] Fault.Memory outs.new result }
+    ensures { RefusesFor Calling.Cutters false [] Fault.Memory outs.new result }
 {
     let speaker = Speaker {
         calling: Calling::Cutters,

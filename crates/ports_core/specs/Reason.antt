@@ -8,7 +8,7 @@ use Rattle.std.specs.{
 use Rattle.ports_core.specs.declared.reason.Reason.{
   Reason,
   TheVariants.{Gone, Missing, Denied, Folder, NoFolder, Full, TooLarge, ReadOnly, Quota, TooMany, Device, Busy},
-  TheVariants.{LongName, Circle, Input, MayBeInput, Endless, NotUtf8, Other},
+  TheVariants.{LongName, Circle, NotOpen, NoDevice, Input, MayBeInput, Endless, NotUtf8, Other},
 }
 
 -- what a message says of it after the name
@@ -27,6 +27,8 @@ reason_text Device = codes ": Input/output error"
 reason_text Busy = codes ": Text file busy"
 reason_text LongName = codes ": File name too long"
 reason_text Circle = codes ": Too many levels of symbolic links"
+reason_text NotOpen = codes ": Bad file descriptor"
+reason_text NoDevice = codes ": No such device or address"
 reason_text Input = codes ": is an input"
 reason_text MayBeInput = codes ": cannot tell whether it is an input"
 reason_text Endless = []
@@ -40,8 +42,9 @@ is_endless why = false
 
 -- the numbers that the system has for them
 abbrev pub reasons : List (ℕ × Reason)
-reasons = (2, Missing) ∷ (5, Device) ∷ (13, Denied) ∷ (20, NoFolder) ∷ (21, Folder) ∷ (24, TooMany) ∷ (26, Busy)
-    ∷ (27, TooLarge) ∷ (28, Full) ∷ (30, ReadOnly) ∷ (32, Gone) ∷ (36, LongName) ∷ (40, Circle) ∷ (122, Quota) ∷ []
+reasons = (2, Missing) ∷ (5, Device) ∷ (6, NoDevice) ∷ (9, NotOpen) ∷ (13, Denied) ∷ (20, NoFolder) ∷ (21, Folder)
+    ∷ (24, TooMany) ∷ (26, Busy) ∷ (27, TooLarge) ∷ (28, Full) ∷ (30, ReadOnly) ∷ (32, Gone) ∷ (36, LongName)
+    ∷ (40, Circle) ∷ (122, Quota) ∷ []
 
 abbrev pub reason_in : List (ℕ × Reason) → ℕ → Reason
 reason_in [] number = Other

@@ -29,6 +29,7 @@ mod pipe_links;
 mod process_state;
 mod readers;
 mod reason;
+mod rule;
 mod slot;
 mod slots;
 mod stage;
@@ -52,7 +53,7 @@ pub use input_files::{InputFiles, id_of};
 pub use inputs::{Inputs, STANDARD_INPUT, pass_over};
 pub use laws::{digits_fill_with_zeros, names_are_in_order, no_name_is_given_twice, one_is_agreed};
 pub use length::{MOST_BYTES, PIECE, fed_with};
-pub use messages::{print, say, tell};
+pub use messages::{print, say, say_line, tell};
 pub use names::{Names, numbered};
 pub use naming::Naming;
 pub use numbering::Numbering;
@@ -63,7 +64,9 @@ pub use slot::{Mode, State};
 pub use slots::{Slots, Unopened};
 pub use stage::Stage;
 pub use sweep::sweep_files;
-pub use text::{header, is_quiet, memory_exhausted, message, message_for, write_quoted};
+pub use text::{
+    header, is_quiet, memory_exhausted, message, message_for, refusal_for, write_quoted,
+};
 pub use tool::Tool;
 pub use verdict::Verdict;
 pub use whole::{WriteCut, write_whole};

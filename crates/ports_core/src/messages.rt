@@ -27,7 +27,7 @@ pub fn say<O: Outs>(
     ensures { SaysOn O.told speaker why (message_of fault.now name.now) (O.slots outs.old) (O.slots outs.new) }
 {
     let line = message_for(alloc, speaker, why, fault, name);
-    print_message(speaker, line, outs)
+    say_line(speaker, line, outs)
 }
 
 /// Says what went wrong as `say` does, with the same memory, and returns the status of a run that ends with it: 1. Where
@@ -45,7 +45,7 @@ pub fn tell<O: Outs>(alloc: Global, speaker: Speaker, fault: &Fault, outs: &mut 
         return 141;
     }
     let line = message_for(alloc, speaker, why, fault, output_name(fault, outs));
-    print_message(speaker, line, outs);
+    say_line(speaker, line, outs);
     1
 }
 
@@ -71,8 +71,9 @@ fn output_reason<O: Outs>(fault: &Fault, outs: &O) -> Reason
     }
 }
 
-/// Writes a line to standard error, or that there was no memory for it.
-fn print_message<O: Outs>(speaker: Speaker, line: Result<Vec<u8>, Fault>, outs: &mut O)
+/// Says what this line tells, or, if there was no memory for it, the line that says so. Where standard error can't be written, it is
+/// passed over. It takes no memory.
+pub fn say_line<O: Outs>(speaker: Speaker, line: Result<Vec<u8>, Fault>, outs: &mut O)
     requires { is_open (slot_at (O.slots outs.old) 1).state ≡ true }
     ensures { (why : Reason) (message : Message) → IfOk line (λ text. text.items ≡ line_of speaker why message)
         → SaysOn O.told speaker why message (O.slots outs.old) (O.slots outs.new) }

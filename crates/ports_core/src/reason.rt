@@ -34,6 +34,10 @@ pub enum Reason {
     LongName,
     /// Links on the way to it lead in a circle.
     Circle,
+    /// It isn't open: a standard stream that was closed, or that is open for the other way alone.
+    NotOpen,
+    /// There is no such device, or nobody who listens there.
+    NoDevice,
     /// It is an input, which no output may be.
     Input,
     /// The system doesn't say whether it is an input.
@@ -66,6 +70,8 @@ impl Reason {
             Reason::Busy => b": Text file busy",
             Reason::LongName => b": File name too long",
             Reason::Circle => b": Too many levels of symbolic links",
+            Reason::NotOpen => b": Bad file descriptor",
+            Reason::NoDevice => b": No such device or address",
             Reason::Input => b": is an input",
             Reason::MayBeInput => b": cannot tell whether it is an input",
             Reason::NotUtf8 => b": name is not UTF-8",
@@ -87,6 +93,8 @@ impl Reason {
 const REASONS: &[(u32, Reason)] = &[
     (2, Reason::Missing),
     (5, Reason::Device),
+    (6, Reason::NoDevice),
+    (9, Reason::NotOpen),
     (13, Reason::Denied),
     (20, Reason::NoFolder),
     (21, Reason::Folder),

@@ -37,3 +37,5 @@ mod split_run_tests;
 mod tee_tests;
 #[cfg(test)]
 mod tests;
+#[cfg(test)]
+mod words_told_tests;

@@ -39,7 +39,7 @@ use Rattle.tools_core.{
   proofs.SameLemmas.{KnowsNoMore, all_made_alike, head_knows, shows_none, split_knows, tail_knows},
   specs.Promises.{AllAlike, AreAlike, GivesBytes, are_same, give_same, SaysLines, Completes, FindAlike, IsCopied},
   specs.Promises.{Gives, at_first, in_full},
-  specs.Promises.{IsMet, Tells, IsFound, IsGone, IsTask, IsUnstopped, LeaveAlike, Ran, Run, TellsMet, Unstopped},
+  specs.Promises.{IsMet, Tells, IsFound, IsGone, IsTask, IsUnstopped, LeaveAlike, Ran, Run, TellsMet, Unstopped, message_by},
   specs.Promises.{broken_off, failing, judged, missing, removes_files},
   specs.About.{TellsText, no_text, text_cut, text_whole},
   specs.Outcome.{DoesAsked, RefusesOperands},
@@ -97,7 +97,8 @@ one_line Line line is = All-cons Line line [] is (All-nil Line)
 
 -- the only line tells this fault
 pub tells_one : (run : Run) (asked : Settings) (fault : Fault) (name : List ℕ) → IsMet run asked fault name
-    → SaysAll true (speaker_of run.calling asked) (message_of fault name ∷ []) standard_error (slot_at run.outputs 1)
+    → SaysAll true (speaker_of run.calling asked) (message_by run fault name ∷ []) standard_error
+    (slot_at run.outputs 1)
     → Tells run asked fault name
 tells_one run asked fault name met says = ([], [], grind (arith, common_steps, one_line))
 

@@ -159,8 +159,9 @@ lacks_memory asked = (record { kind = kind.Memory; index = 0 }, no_memory 0, ref
 
 -- words that are refused, or weren't read for want of memory
 
-refused_memory : {told : Bool} (words : List (List ℕ)) (fault : Fault) {new : List Slot} {status : ℕ}
-    → RefusesFor told words Memory new status → RefusesFor told words fault new status
+refused_memory : {calling : Calling} {told : Bool} (words : List (List ℕ)) (fault : Fault) {new : List Slot}
+    {status : ℕ}
+    → RefusesFor calling told words Memory new status → RefusesFor calling told words fault new status
 refused_memory words fault refuses = record {
   error = refuses.error;
   says = let (why, says) = refuses.says in
@@ -169,20 +170,13 @@ refused_memory words fault refuses = record {
   failed = refuses.failed;
 }
 
--- what is said of the words is said by the tool that they ask for: alike, however the program was called, if no reason
--- stands in it
-abbrev unreasoned : List ℕ → Message
-unreasoned text = record { text = text; endless = text; has_reason = false }
-
-pub worded_by : {told : Bool} {text : List ℕ} (calling : Calling) {which tool : Tool} {old new : Slot} → which ≡ tool
-    → Says told (by Cutters which) (unreasoned text) old new → Says told (by calling tool) (unreasoned text) old new
-worded_by {told} {text} OwnName {which} {old} {new} is (why, says) =
-    let spoken : Says told (by OwnName which) (unreasoned text) old new =
-    (why, record { said = says.said; is = says.is; printed = says.printed }) in rw is at spoken
-worded_by Cutters is says = rw is at says
+-- what is said of the words is said by the tool that they ask for
+pub worded_by : {told : Bool} {message : Message} (calling : Calling) {which tool : Tool} {old new : Slot}
+    → which ≡ tool → Says told (by calling which) message old new → Says told (by calling tool) message old new
+worded_by calling is says = rw is at says
 
 says_as : {told : Bool} (calling : Calling) (words : List (List ℕ)) {settings : Settings} {new : List Slot} {status : ℕ}
-    → settings_of calling words ≡ Ok settings → (refuses : RefusesFor told words Memory new status)
+    → settings_of calling words ≡ Ok settings → (refuses : RefusesFor calling told words Memory new status)
     → SaysAll told (speaker_of calling settings) (message_of Memory [] ∷ []) standard_error refuses.error
 says_as calling words is refuses =
     (refuses.error, worded_by calling (by_words calling words is).0 refuses.says, refl)
@@ -197,12 +191,12 @@ module _ (calling : Calling) (told_in told : Bool) (words : List (List ℕ))
 
   -- the words ask for something whose operands can't be read
   operands_refused : (settings : Settings) (fault : Fault) → HasBadOperands settings fault
-      → RefusesFor told words fault new status → EndsUnread (Ok settings)
+      → RefusesFor calling told words fault new status → EndsUnread (Ok settings)
   operands_refused settings fault bad refuses = let (found, finds, untouched) = none_touched fresh in
       (found, finds, inr (refl, (fault, bad, refuses)))
 
   unread_for : (meant : Result Settings Fault) → settings_of calling words ≡ meant
-      → RefusesFor told words Memory new status → EndsUnread meant
+      → RefusesFor calling told words Memory new status → EndsUnread meant
   unread_for (Err fault) is refuses = ([], record { are = refl; there = λ t. refl }, (refl, refused_memory words fault refuses))
   unread_for (Ok (Csplit asked)) is refuses = operands_refused (Csplit asked) Memory (lacks_memory asked) refuses
   unread_for (Ok (Tee asked)) is refuses =
@@ -231,7 +225,7 @@ module _ (calling : Calling) (told_in told : Bool) (words : List (List ℕ))
       (found, finds, inl (no_room refuses.error (says_as calling words is refuses) refuses.slots untouched (ap length fresh.only) refuses.failed))
 
   pub refused_or_memory : {fault : Fault} → IsRefused HasBadOperands (settings_of calling words) fault
-      → RefusesFor told words fault new status → EndsUnread (settings_of calling words)
+      → RefusesFor calling told words fault new status → EndsUnread (settings_of calling words)
   refused_or_memory (inr (inl is)) refuses = rw is ([], record { are = refl; there = λ t. refl }, (refl, refuses))
   refused_or_memory {fault} (inr (inr (settings, is, bad))) refuses = rw is (operands_refused settings fault bad refuses)
   refused_or_memory (inl is) refuses = unread_for (settings_of calling words) refl (rw is at refuses)
@@ -252,7 +246,7 @@ module _ (calling : Calling) (told_in told : Bool) (words : List (List ℕ)) (lo
   -- words that weren't read for want of memory
 
   unread_tail : (asked : TailSettings) (followed : Option Followed) → speaker words ≡ tool.Tail
-      → RefusesFor told words Memory new status
+      → RefusesFor calling told words Memory new status
       → FollowsTail calling told_in told words asked followed looks shows seen watched new status
   unread_tail asked None speaks refuses = (unseen, unwatched, refused_memory words (Usage BadFollow 0) refuses)
   unread_tail asked (Some followed) speaks refuses =
@@ -267,7 +261,7 @@ module _ (calling : Calling) (told_in told : Bool) (words : List (List ℕ)) (lo
       )) refuses.failed)
 
   unread_files : (meant : Result Settings Fault) → settings_of calling words ≡ meant
-      → RefusesFor told words Memory new status
+      → RefusesFor calling told words Memory new status
       → FollowingEndsAt calling told_in told words looks shows seen watched new status meant
   unread_files (Ok (Tail asked)) is refuses = unread_tail asked asked.followed (by_words calling words is).0 refuses
   unread_files (Ok (Csplit asked)) is refuses = inr (unseen, unwatched, (Memory, lacks_memory asked, refuses))
@@ -275,13 +269,13 @@ module _ (calling : Calling) (told_in told : Bool) (words : List (List ℕ)) (lo
   unread_files (Err fault) is refuses = (unseen, unwatched, refused_memory words fault refuses)
 
   operands_unread : (settings : Settings) (fault : Fault) → HasBadOperands settings fault
-      → RefusesFor told words fault new status
+      → RefusesFor calling told words fault new status
       → FollowingEndsAt calling told_in told words looks shows seen watched new status (Ok settings)
   operands_unread (Csplit asked) fault bad refuses = inr (unseen, unwatched, (fault, bad, refuses))
   operands_unread asked fault bad refuses = absurd bad
 
   pub refused_words : {fault : Fault} → IsRefused HasBadOperands (settings_of calling words) fault
-      → RefusesFor told words fault new status
+      → RefusesFor calling told words fault new status
       → FollowingEnds calling told_in told words looks shows seen watched new status
   refused_words (inr (inl is)) refuses = rw is (unseen, unwatched, refuses)
   refused_words {fault} (inr (inr (settings, is, bad))) refuses = rw is (operands_unread settings fault bad refuses)
@@ -294,7 +288,7 @@ pub program_refuses : (calling : Calling) (told_in told_watched : Bool) {told : 
     (words : List (List ℕ)) (laid : ℕ → List ℕ → Option Content) {sources : List Source} (shows : ℕ → Snapshot)
     {seen : List Snapshot} {watched : List Watched} {fault : Fault} {new : List Slot} {status : ℕ} → IsFresh sources
     → seen ≡ [] → watched ≡ [] → IsRefused HasBadOperands (settings_of calling words) fault
-    → RefusesFor told words fault new status
+    → RefusesFor calling told words fault new status
     → ProgramEnds calling told_in told_watched told words laid sources sources shows seen watched new status
 program_refuses calling told_in told_watched {told} words laid {sources} shows {seen} {watched} {new} {status} fresh
     unseen unwatched refused refuses = by (looks_at (settings_of calling words)) where

@@ -1,7 +1,7 @@
 -- A run that a fault stopped told it, and which outputs are broken then.
 use Rattle.std.{
   proofs.lemmas.{Grind.common_steps, Bool.{cases_Bool, false≢true}, List.{Elements.{All-append, All-nil}}},
-  proofs.Common.{All, None, ◌≡◌, ℕ, ◌^◌, ◌≤◌, suc, Bool, true, false, cond, is_none, List, [], not, ◌||◌, map, ◌∷◌},
+  proofs.Common.{All, None, ◌≡◌, ℕ, ◌^◌, ◌≤◌, suc, Bool, true, false, cond, is_none, subst, List, [], not, ◌||◌, map, ◌∷◌},
   proofs.Common.{◌++◌, length, length-append, Option, Some, codes, inl, inr, ◌⊎◌, refl, sym, ◌∙◌, ap, arith, zero},
   proofs.Common.rules,
   proofs.Math.Seq.get_or-append_seam,
@@ -43,13 +43,14 @@ use Rattle.words_core.specs.{
   TeeWords.TeeAsked,
   declared.settings.{Settings.{Settings, TheVariants.{Csplit, Tee, About}}, Topic.Topic},
   Help.text_about,
+  Refusal.word_at,
 }
 use Rattle.tools_core.specs.{
   About.{TellsText, no_text, text_cut, text_whole},
-  Outcome.{refuser, speaker, word_of},
+  Outcome.{refusal, refuser, speaker},
   Tasks.{by, names_of, speaker_of, tool_of},
   Promises.{BrokeAt, Completes, Does, HasGone, HasLong, IsCalled, IsCopied, IsGone, IsSilent, LostReader, IsStopped},
-  Promises.{IsTask, IsUnstopped, Ran, Run, SaysLines, SaysWhy, StopsRun, Tells, TellsMet, WhyBroken, broken_off},
+  Promises.{IsTask, IsUnstopped, Ran, Run, SaysLines, SaysWhy, StopsRun, Tells, TellsMet, WhyBroken, broken_off, message_by},
   Promises.{failing, named, removes_files},
 }
 use Rattle.tools_core.proofs.{
@@ -110,6 +111,12 @@ stops_run run asked Memory step between long stops broke = tt
 stops_run run asked TooLong step between long stops broke = long stops
 stops_run run asked fault step between long stops broke = absurd stops
 
+-- that fault is none of words
+plain_message : (run : Run) (fault : Fault) (step : Step) (name : List ℕ) {reached : List Slot}
+    → Stops step reached fault → message_of fault name ≡ message_by run fault name
+plain_message run (Usage kind place) step name stops = absurd stops
+plain_message run fault step name stops = refl
+
 -- Why an output is broken: it was told by its name, or the output was to be removed.
 
 abbrev IsToldIn : Run → Settings → List Slot → ℕ → Type 0
@@ -140,7 +147,7 @@ streams_sound place error differs = refl
 
 stop_early : {clears : Bool} {run : Run} {asked : Settings} (fault : Fault) (name : List ℕ) {error : Slot}
     → StopsRun run asked name fault
-    → SaysAll true (speaker_of run.calling asked) (message_of fault name ∷ []) standard_error error
+    → SaysAll true (speaker_of run.calling asked) (message_by run fault name ∷ []) standard_error error
     → run.outputs ≡ streams_with error → run.status ≡ 1
     → IsStop clears run asked
 stop_early {run = run} {asked = asked} fault name {error} stops says slots is = record {
@@ -249,10 +256,13 @@ ends_or {run} {asked} {task} of
       }))
       | inr loud ↦
           let all = says_more true task.speaker lines (message_of fault name) standard_error said error says (reason, rw loud at tells) in
-          let told : SaysLines run asked (lines ++ message_of fault name ∷ []) = record {
+          let Said : List Message → Type 0 = λ those.
+              SaysAll true (speaker_of run.calling asked) those standard_error (slot_at run.outputs 1) in
+          let said : Said (lines ++ message_of fault name ∷ []) = grind (arith, common_steps, stopped_error) in
+          let told : SaysLines run asked (lines ++ message_by run fault name ∷ []) = record {
             are = All-append (TellsMet run asked) lines _ fits.are
-                (one_line (TellsMet run asked) (message_of fault name) (fault, name, inl stop, refl));
-            said = grind (arith, common_steps, stopped_error);
+                (one_line (TellsMet run asked) (message_by run fault name) (fault, name, inl stop, refl));
+            said = subst (λ line. Said (lines ++ line ∷ [])) (plain_message run fault step name stops) said;
           } in
           inr (inl (record {
             failed = rw loud at is;
@@ -404,6 +414,11 @@ does_or asked does = ends_or {asked = asked} refl does
 
 -- operands that are wrong
 
+-- the word that a fault of words speaks of
+abbrev word_of : List (List ℕ) → Fault → List ℕ
+word_of words (Usage kind place) = word_at words place
+word_of words fault = []
+
 bad_stops : (run : Run) (asked : Settings) (fault : Fault) → HasBadOperands asked fault
     → StopsRun run asked (word_of run.words fault) fault
 bad_stops run (Csplit asked) fault bad = grind (arith, common_steps)
@@ -411,8 +426,8 @@ bad_stops run asked fault bad = absurd bad
 
 refused_by : {old new : Slot} (run : Run) (asked : Settings) (fault : Fault) → HasBadOperands asked fault
     → speaker run.words ≡ tool_of asked
-    → Says true (refuser run.words) (message_of fault (word_of run.words fault)) old new
-    → Says true (speaker_of run.calling asked) (message_of fault (word_of run.words fault)) old new
+    → Says true (refuser run.calling run.words) (refusal run.calling run.words fault) old new
+    → Says true (speaker_of run.calling asked) (message_by run fault (word_of run.words fault)) old new
 refused_by run asked Memory bad is says = worded_by run.calling is says
 refused_by run asked (Usage kind place) bad is says = worded_by run.calling is says
 refused_by run (Csplit asked) fault bad is says = grind (arith, common_steps)

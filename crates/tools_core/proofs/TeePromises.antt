@@ -41,7 +41,7 @@ use Rattle.words_core.specs.{TeeWords.TeeAsked, declared.settings.Settings.{Sett
 use Rattle.tools_core.{
   specs.{
     Promises.{BeginsAs, BrokeAt, EndsWithBreak, HasGone, HasUpTo, IsCalled, LostReader, OneIs, Ran, Run, SaysLines},
-    Promises.{StopsRun, Tells, TellsMet, failing},
+    Promises.{StopsRun, Tells, TellsMet, failing, message_by},
     Tasks.speaker_of,
   },
   proofs.BeginLemmas.{bare_begins, empty_begins},
@@ -89,6 +89,14 @@ module _ (Line : Message → Type 0) (on_broken : OnBroken) where
       grind (arith, common_steps, in_call_are, (before_are call names broke tell))
 
 -- An output that broke has its line, after the call in which it did.
+
+-- no fault of an output is one of words
+failing_message : (run : Run) (place : ℕ) (which : State) (name : List ℕ)
+    → message_of (failing place which) name ≡ message_by run (failing place which) name
+failing_message run place state.Unopened name = refl
+failing_message run place state.Open name = refl
+failing_message run place state.Closed name = refl
+failing_message run place state.Removed name = refl
 
 -- how it was left
 record HasBroken (last : ℕ) (name : List ℕ) (output : Slot) (one : Break) : Type 0 where
@@ -245,10 +253,10 @@ module _ (run : Run) (asked : TeeAsked) {mode : Mode} {pieces names : List (List
 
   has_line : (place : ℕ) → (place ≡ 1 → ⊥) → {one : Break} → broke_at (first ∷ broke) (number_of place) ≡ Some one
       → tee.is_told asked.on_broken (lost_for one.why) ≡ true
-      → At place (λ name output when. HasLine (message_of (failing place output.state) name) lines)
+      → At place (λ name output when. HasLine (message_by run (failing place output.state) name) lines)
   has_line place differs {one} is told =
       let here = has_broken place differs is in
-      rw (here.same place) at (call_line asked.on_broken names (first ∷ broke) fault here.within
+      rw (here.same place ∙ failing_message run place _ _) at (call_line asked.on_broken names (first ∷ broke) fault here.within
       (said_at asked.on_broken _ _ one.call (number_of place) rest (rw (is, eq-eqb one.call one.call refl) told)))
 
   -- all lines of such a run, where that on the input is one
@@ -259,7 +267,8 @@ module _ (run : Run) (asked : TeeAsked) {mode : Mode} {pieces names : List (List
       let tell : TellEach Line asked.on_broken (output_names names) (first ∷ broke) = each_number _ (λ place differs one is.
       let here = has_broken place differs is in
       let which = (slot_at run.outputs place).state in
-      (failing place which, _, inl (failing_stops run (Tee asked) which (differs, here.called, here.broken, refl)), here.same place)) in
+      (failing place which, _, inl (failing_stops run (Tee asked) which (differs, here.called, here.broken, refl)),
+          here.same place ∙ failing_message run place which _)) in
       record {
         are = All-append Line _ _ (All-append Line _ _
             (before_are Line asked.on_broken (suc (length pieces)) (output_names names) (first ∷ broke) tell) of_input)
@@ -269,7 +278,7 @@ module _ (run : Run) (asked : TeeAsked) {mode : Mode} {pieces names : List (List
 
   abbrev IsToldAt : ℕ → Type 0
   IsToldAt place = At place (λ name output when. IsCalled output name
-      × HasLine (message_of (failing place output.state) name) lines)
+      × HasLine (message_by run (failing place output.state) name) lines)
 
   -- an output that is broken lost its reader, or was told
   pub tee_broke : (place : ℕ) → (place ≡ 1 → ⊥) → (slot_at run.outputs place).is_broken ≡ true

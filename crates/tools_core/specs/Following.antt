@@ -49,21 +49,22 @@ FollowsAs calling told_in told asked followed looks shows seen watched new statu
     streams seen watched new status
 
 -- the words are refused for this, and no name was watched and no look made
-abbrev pub RefusesUnseen : Bool → List (List ℕ) → Fault → List Snapshot → List Watched → List Slot → ℕ → Type 0
-RefusesUnseen told words fault seen watched new status = (seen ≡ []) × (watched ≡ [])
-    × RefusesFor told words fault new status
+abbrev pub RefusesUnseen : Calling → Bool → List (List ℕ) → Fault → List Snapshot → List Watched → List Slot → ℕ
+    → Type 0
+RefusesUnseen calling told words fault seen watched new status = (seen ≡ []) × (watched ≡ [])
+    × RefusesFor calling told words fault new status
 
 -- words that follow nothing are
-abbrev pub RefusesToFollow : Bool → List (List ℕ) → List Snapshot → List Watched → List Slot → ℕ → Type 0
-RefusesToFollow told words seen watched new status =
-    RefusesUnseen told words (Usage BadFollow 0) seen watched new status
+abbrev pub RefusesToFollow : Calling → Bool → List (List ℕ) → List Snapshot → List Watched → List Slot → ℕ → Type 0
+RefusesToFollow calling told words seen watched new status =
+    RefusesUnseen calling told words (Usage BadFollow 0) seen watched new status
 
 abbrev pub FollowsTail : Calling → (told_in told : Bool) → List (List ℕ) → TailSettings
     → Option Followed → ℕ → (ℕ → Snapshot) → List Snapshot → List Watched → List Slot → ℕ → Type 0
 FollowsTail calling told_in told words asked (Some followed) looks shows seen watched new status =
     FollowsAs calling told_in told asked followed looks shows seen watched new status
 FollowsTail calling told_in told words asked None looks shows seen watched new status =
-    RefusesToFollow told words seen watched new status
+    RefusesToFollow calling told words seen watched new status
 
 -- What was asked for was followed; or the words were refused: for operands that can't be read, where they have such
 -- ones, and else since they follow nothing.
@@ -72,10 +73,10 @@ abbrev pub FollowingEndsAt : Calling → (told_in told : Bool) → List (List �
 FollowingEndsAt calling told_in told words looks shows seen watched new status (Ok (Tail asked)) =
     FollowsTail calling told_in told words asked asked.followed looks shows seen watched new status
 FollowingEndsAt calling told_in told words looks shows seen watched new status (Ok settings) =
-    (HasOperands settings × RefusesToFollow told words seen watched new status)
-    ⊎ ((seen ≡ []) × (watched ≡ []) × RefusesOperands told words settings new status)
+    (HasOperands settings × RefusesToFollow calling told words seen watched new status)
+    ⊎ ((seen ≡ []) × (watched ≡ []) × RefusesOperands calling told words settings new status)
 FollowingEndsAt calling told_in told words looks shows seen watched new status (Err fault) =
-    RefusesUnseen told words fault seen watched new status
+    RefusesUnseen calling told words fault seen watched new status
 
 -- a run of these words, over looks that would see this and of which these were made, left the outputs so, and returned
 -- this status

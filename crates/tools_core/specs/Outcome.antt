@@ -1,15 +1,15 @@
 -- What a whole run does, by its words.
 use Rattle.std.specs.{
   Option.unwrap_or,
-  Prelude.{◌≡◌, ℕ, Bool, true, List, [], ◌∷◌, Result, Ok, Err, ◌⊎◌, slice_index_or},
+  Prelude.{◌≡◌, ℕ, Bool, true, List, [], ◌∷◌, Result, Ok, Err, ◌⊎◌},
 }
 use Rattle.ports_core.specs.{
   Slot.Slot,
   Source.{Content, Source, source_at},
-  Text.message_of,
+  Text.{Message, message_of, refusal_of},
   Message.Says,
   declared.{
-    calling.{Calling.{Calling, TheVariants.Cutters}, Speaker.Speaker},
+    calling.{Calling.Calling, Speaker.Speaker},
     tool.Tool.Tool,
     fault.Fault.{Fault, TheVariants.Usage},
   },
@@ -24,6 +24,7 @@ use Rattle.words_core.specs.{
   CsplitWords.CsplitAsked,
   TeeWords.TeeAsked,
   Help.text_about,
+  Refusal.{detail_of, word_at},
   Words.{HasBadOperands, tool_named, settings_of},
 }
 use Rattle.tools_core.specs.{About.TellsText, Tasks.{by, csplit_task, head_task, tail_task, split_task, names_of}}
@@ -34,14 +35,14 @@ abbrev pub speaker : List (List ℕ) → Tool
 speaker [] = tool.Cutters
 speaker (name ∷ words) = unwrap_or (tool_named name) tool.Cutters
 
--- in the line no reason stands, so it is the same however the program was called
-abbrev pub refuser : List (List ℕ) → Speaker
-refuser words = by Cutters (speaker words)
+abbrev pub refuser : Calling → List (List ℕ) → Speaker
+refuser calling words = by calling (speaker words)
 
--- the word that a fault of words speaks of
-abbrev pub word_of : List (List ℕ) → Fault → List ℕ
-word_of words (Usage kind place) = slice_index_or words place []
-word_of words fault = []
+-- the message that refuses words for this fault
+abbrev pub refusal : Calling → List (List ℕ) → Fault → Message
+refusal calling words (Usage kind place) =
+    refusal_of (refuser calling words) kind (word_at words place) (detail_of calling words kind place)
+refusal calling words fault = message_of fault []
 
 -- `csplit` over its input, which was cut at the operands that its words ask for
 pub record CsplitEndsAs (calling : Calling) (told_in told : Bool)
@@ -78,19 +79,19 @@ DoesAsked calling told_in told (Tee asked) inputs sources new status =
 DoesAsked calling told_in told (About tool topic) inputs sources new status =
     TellsText told (by calling tool) (text_about tool topic) new status
 
--- the words are refused for this fault, with the word that it speaks of: a message, status 1, and nothing else
-pub record RefusesFor (told : Bool) (words : List (List ℕ)) (fault : Fault) (new : List Slot)
+-- the words are refused for this fault: a message, status 1, and nothing else
+pub record RefusesFor (calling : Calling) (told : Bool) (words : List (List ℕ)) (fault : Fault) (new : List Slot)
     (status : ℕ) : Type 0 where
   pub error : Slot
-  pub says : Says told (refuser words) (message_of fault (word_of words fault)) standard_error error
+  pub says : Says told (refuser calling words) (refusal calling words fault) standard_error error
   pub slots : new ≡ streams_with error
   pub failed : status ≡ 1
 
 -- what is asked for has operands that can't be read, or there was no memory for them, and the words are refused for
 -- that
-abbrev pub RefusesOperands : Bool → List (List ℕ) → Settings → List Slot → ℕ → Type 0
-RefusesOperands told words settings new status = (fault : Fault) × HasBadOperands settings fault
-    × RefusesFor told words fault new status
+abbrev pub RefusesOperands : Calling → Bool → List (List ℕ) → Settings → List Slot → ℕ → Type 0
+RefusesOperands calling told words settings new status = (fault : Fault) × HasBadOperands settings fault
+    × RefusesFor calling told words fault new status
 
 -- A run did what was asked for; or it refused its operands, or the words: then no input was opened or read, and all are
 -- as they were.
@@ -98,9 +99,9 @@ abbrev pub RunEndsAt : Calling → Bool → Bool → List (List ℕ) → List In
     → (old sources : List Source) → List Slot → ℕ → Result Settings Fault → Type 0
 RunEndsAt calling told_in told words inputs old sources new status (Ok settings) =
     DoesAsked calling told_in told settings inputs sources new status
-    ⊎ ((sources ≡ old) × RefusesOperands told words settings new status)
+    ⊎ ((sources ≡ old) × RefusesOperands calling told words settings new status)
 RunEndsAt calling told_in told words inputs old sources new status (Err fault) = (sources ≡ old)
-    × RefusesFor told words fault new status
+    × RefusesFor calling told words fault new status
 
 -- a run of these words, called so, on these inputs left inputs and outputs so, and returned this status
 abbrev pub RunEnds : Calling → Bool → Bool → List (List ℕ) → List Input

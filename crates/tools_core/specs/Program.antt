@@ -3,7 +3,7 @@ use Rattle.std.specs.Prelude.{◌≡◌, ℕ, Bool, false, List, [], Option, Som
 use Rattle.ports_core.specs.{
   Slot.Slot,
   Source.{Content, Source},
-  declared.{calling.Calling.Calling, fault.Fault.{Fault, TheVariants.Memory}},
+  declared.{calling.Calling.{Calling, TheVariants.Cutters}, fault.Fault.{Fault, TheVariants.Memory}},
 }
 use Rattle.run_core.specs.{RunEnds.RunsOver, RunSteps.world_of}
 use Rattle.watch_core.specs.{DirWatchState.any_files, Snapshot.Snapshot, Watched.Watched}
@@ -41,4 +41,4 @@ abbrev pub RanAs : Calling → List (List ℕ) → List Source → List Source �
 RanAs calling words sources sources_new new status =
     ((seen : List Snapshot) × (watched : List Watched)
     × ProgramEnds calling false false false words (λ slot name. None) sources sources_new (λ n. any_files) seen watched
-    new status) ⊎ ((sources_new ≡ sources) × RefusesFor false [] Memory new status)
+    new status) ⊎ ((sources_new ≡ sources) × RefusesFor Cutters false [] Memory new status)

@@ -64,7 +64,7 @@ use Rattle.watch_core.specs.{Snapshot.Snapshot, Watched.Watched}
 use Rattle.follow_core.specs.Ending.{shows_by}
 use Rattle.tools_core.specs.{
   Following.{FollowingEnds, is_name},
-  Outcome.{DoesAsked, RunEnds, names_read},
+  Outcome.{DoesAsked, RunEnds, names_read, refusal},
   Program.ProgramEnds,
   Tasks.{csplit_task, has_headers, head_task, is_minus, is_plus, names_of, naming_of, speaker_of, split_task, tail_task},
 }
@@ -448,10 +448,15 @@ pub data GoesOnAfter (run : Run) (asked : Settings) : Fault → List ℕ → Typ
 abbrev pub IsMet : Run → Settings → Fault → List ℕ → Type 0
 IsMet run asked fault name = StopsRun run asked name fault ⊎ GoesOnAfter run asked fault name
 
+-- the message that tells a fault by a line that has this name: that of operands that are wrong refuses the words
+abbrev pub message_by : Run → Fault → List ℕ → Message
+message_by run (fault.Usage kind word) name = refusal run.calling run.words (fault.Usage kind word)
+message_by run why name = message_of why name
+
 -- the message that tells such a fault
 abbrev pub TellsMet : Run → Settings → Message → Type 0
 TellsMet run asked message = (fault : Fault) × (name : List ℕ) × IsMet run asked fault name
-    × (message ≡ message_of fault name)
+    × (message ≡ message_by run fault name)
 
 -- Standard error got the lines of these messages, of which each tells a fault that the run met: as far as it takes
 -- lines, and where there was no memory for one, the line that says so stands in its place.
@@ -462,7 +467,7 @@ pub record SaysLines (run : Run) (asked : Settings) (lines : List Message) : Typ
 -- the run told this fault by a line that has this name, perhaps among others
 abbrev pub Tells : Run → Settings → Fault → List ℕ → Type 0
 Tells run asked fault name = (before : List Message) × (after : List Message)
-    × SaysLines run asked (before ++ message_of fault name ∷ after)
+    × SaysLines run asked (before ++ message_by run fault name ∷ after)
 
 -- The run has one input, which showed a text that has a byte, and then gave these bytes, which are fewer or more, and
 -- ended after them.

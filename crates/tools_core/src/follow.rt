@@ -46,7 +46,7 @@ pub fn run_follow<W: Watch, O: Outs>(
             outs,
             looks,
         ),
-        Err(fault) => refuse_words(alloc, words, &fault, outs),
+        Err(fault) => refuse_words(alloc, Calling::Cutters, words, &fault, outs),
     }
 }
 
@@ -71,9 +71,9 @@ pub(crate) fn follow_asked<W: Watch, O: Outs>(
     match settings {
         Settings::Tail(tail) => match tail.followed {
             Some(followed) => follow_tail(alloc, calling, tail, followed, looks, watch, outs),
-            None => refuse_words(alloc, words, &NOT_FOLLOWED, outs),
+            None => refuse_words(alloc, calling, words, &NOT_FOLLOWED, outs),
         },
-        _ => refuse_words(alloc, words, &NOT_FOLLOWED, outs),
+        _ => refuse_words(alloc, calling, words, &NOT_FOLLOWED, outs),
     }
 }
 

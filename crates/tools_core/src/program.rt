@@ -54,6 +54,6 @@ pub fn run_words<I: Inputs, W: Watch, O: Outs>(
                 run_tool(alloc, calling, &settings, inputs, outs)
             }
         }
-        Err(fault) => refuse_words(alloc, words, &fault, outs),
+        Err(fault) => refuse_words(alloc, calling, words, &fault, outs),
     }
 }

@@ -1,22 +1,29 @@
 //! One whole run: from words and inputs to outputs and a status.
-ghost use Rattle.std.specs.Prelude.{◌≡◌, ◌≤◌, [], false, length, map};
-ghost use Rattle.ports_core.specs.{Slot.streams, Source.{source_at, IsFresh}, Inputs.{AsksAtMost, largest_piece}};
+ghost use Rattle.std.specs.Prelude.{◌≡◌, ◌≤◌, [], false, length, map, IfOk};
+ghost use Rattle.ports_core.specs.{
+  Slot.streams,
+  Source.{source_at, IsFresh},
+  Inputs.{AsksAtMost, largest_piece},
+  Text.{line_of, refusal_of},
+};
 ghost use Rattle.run_core.specs.{Input.has_dash, Reading.count_after, RunEnds.RunsOver, RunSteps.world_of};
 ghost use Rattle.tools_core.specs.{
-  Outcome.{DoesAsked, RefusesFor, RunEnds, names_read, refuser, speaker, word_of},
+  Outcome.{DoesAsked, RefusesFor, RunEnds, names_read, refuser, speaker},
   Tasks.{by, names_of},
 };
-ghost use Rattle.words_core.specs.Words.{CanRun};
+ghost use Rattle.words_core.specs.{Refusal.{detail_of, word_at}, Words.CanRun};
 
 use crate::about::tell_about;
 use crate::csplit::CsplitAdapter;
 use crate::ends::{HeadAdapter, TailAdapter};
 use crate::split::SplitAdapter;
-use ports_core::{Calling, Fault, Inputs, Outs, Reason, Speaker, Tool, say};
+use ports_core::{
+    Calling, Fault, Inputs, Outs, Reason, Speaker, Tool, UsageKind, refusal_for, say, say_line,
+};
 use run_core::run_inputs;
 use std::alloc::Global;
 use tee_core::run_tee;
-use words_core::{Settings, find_tool, read_words};
+use words_core::{Settings, detail_of, find_tool, read_words};
 
 /// Runs the tool that the words name, the first being the tool's name. It reads the inputs that they name, writes
 /// what the tool makes of them, and says what went wrong on standard error. Words that ask for help or the version read
@@ -41,29 +48,50 @@ pub fn run<I: Inputs, O: Outs>(alloc: Global, words: &[&str], inputs: &mut I, ou
 {
     match read_words(alloc, words) {
         Ok(settings) => run_tool(alloc, Calling::Cutters, &settings, inputs, outs),
-        Err(fault) => refuse_words(alloc, words, &fault, outs),
+        Err(fault) => refuse_words(alloc, Calling::Cutters, words, &fault, outs),
     }
 }
 
-/// Says what is wrong with the words, and returns the status.
+/// Says what is wrong with the words, as the program was called, and returns the status.
 pub(crate) fn refuse_words<O: Outs>(
     alloc: Global,
+    calling: Calling,
     words: &[&str],
     fault: &Fault,
     outs: &mut O,
 ) -> u8
     requires { O.slots outs.old ≡ streams }
-    ensures { RefusesFor O.told (map (λ word. word.now) words.now) fault.now (O.slots outs.new) result }
+    ensures { RefusesFor calling O.told (map (λ word. word.now) words.now) fault.now (O.slots outs.new) result }
 {
-    say(
-        alloc,
-        refuser(words),
-        Reason::Other,
-        fault,
-        word_of(words, fault),
-        outs,
-    );
+    let speaker = refuser(calling, words);
+    match fault {
+        Fault::Usage(kind, place) => {
+            let line = refusal(alloc, speaker, words, kind, *place);
+            say_line(speaker, line, outs);
+        }
+        _ => say(alloc, speaker, Reason::Other, fault, "", outs),
+    }
     1
+}
+
+/// The line that refuses words for a fault of this kind, in the word at this place.
+///
+/// # Errors
+///
+/// `Memory` where there is no room for it.
+fn refusal(
+    alloc: Global,
+    speaker: Speaker,
+    words: &[&str],
+    kind: &UsageKind,
+    place: usize,
+) -> Result<Vec<u8>, Fault>
+    ensures { IfOk result (λ text. text.items ≡ line_of speaker Reason.Other
+        (refusal_of speaker kind.now (word_at (map (λ word. word.now) words.now) place)
+        (detail_of speaker.calling (map (λ word. word.now) words.now) kind.now place))) }
+{
+    let detail = detail_of(alloc, speaker.calling, words, kind, place)?;
+    refusal_for(alloc, speaker, kind, word_at(words, place), &detail)
 }
 
 /// Does what the settings ask for, over the inputs that they name, or tells what they ask about. `tail` takes what is there of
@@ -146,10 +174,10 @@ pub(crate) fn by(calling: Calling, tool: Tool) -> Speaker
 }
 
 /// Who speaks where words are refused.
-fn refuser(words: &[&str]) -> Speaker
-    ensures { result ≡ refuser (map (λ word. word.now) words.now) }
+fn refuser(calling: Calling, words: &[&str]) -> Speaker
+    ensures { result ≡ refuser calling (map (λ word. word.now) words.now) }
 {
-    by(Calling::Cutters, speaker(words))
+    by(calling, speaker(words))
 }
 
 /// Who refuses words: the tool that they name, or the program where they name none.
@@ -162,12 +190,9 @@ fn speaker(words: &[&str]) -> Tool
     }
 }
 
-/// The word that a fault of words speaks of.
-fn word_of<'a>(words: &[&'a str], fault: &Fault) -> &'a str
-    ensures { result.now ≡ word_of (map (λ word. word.now) words.now) fault.now }
+/// The word at this place, empty where there is none.
+fn word_at<'a>(words: &[&'a str], place: usize) -> &'a str
+    ensures { result.now ≡ word_at (map (λ word. word.now) words.now) place }
 {
-    match fault {
-        Fault::Usage(_, place) => words.get(*place).copied().unwrap_or(""),
-        _ => "",
-    }
+    words.get(place).copied().unwrap_or("")
 }

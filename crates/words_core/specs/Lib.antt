@@ -8,6 +8,7 @@ pub mod Given
 pub mod Help
 pub mod Laws
 pub mod Lettered
+pub mod Refusal
 pub mod Spelling
 pub mod Number
 pub mod SplitWords

@@ -11,6 +11,7 @@ mod format;
 mod help;
 mod laws;
 mod lettered;
+mod refusal;
 mod settings;
 mod spelled;
 mod spelling;
@@ -38,6 +39,7 @@ pub use laws::{
     starts_ask, tail_options_ask, tee_options_ask, values_are_spelled_alike,
     words_are_the_arguments,
 };
+pub use refusal::detail_of;
 pub use settings::{Headers, Settings, Topic};
 pub use spelled::{Chosen, Operand, Spelled};
 pub use spelling::read_given;

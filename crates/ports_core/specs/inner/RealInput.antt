@@ -2,14 +2,14 @@
 use Rattle.std.specs.Prelude.{ℕ, ◌+◌, ◌-◌, ◌^◌, Bool, false, List, map, min, if◌then◌else◌}
 use Rattle.ports_core.specs.{
   Source.{Source, fails, gives, gets_back, skips},
-  declared.reason.Reason.{Reason, TheVariants.Other},
+  declared.reason.Reason.{Reason, TheVariants.NotOpen},
 }
 
 pub record RealInput : Type 0 where
   pub source : Source
   -- how many of its bytes were given and not given back, or passed over; it stays at the greatest number of 64 bits
   pub place : ℕ
-  -- it is standard input in whose place something stands that says nothing of why it can't be read
+  -- it is standard input that was closed: what stands in its place says nothing of why it can't be read
   pub is_closed : Bool
 
 abbrev pub sources_of : List RealInput → List Source
@@ -26,9 +26,9 @@ input_gives size n input = record input {
   place = min (input.place + n) (2 ^ 64 - 1);
 }
 
--- why it can't be read, where the system says this
+-- why it can't be read, if the system says this: standard input that was closed isn't open
 abbrev pub why_of : RealInput → Reason → Reason
-why_of input why = if input.is_closed then Other else why
+why_of input why = if input.is_closed then NotOpen else why
 
 -- a read into a buffer of this size failed, and the system says why
 abbrev pub input_fails : Reason → ℕ → RealInput → RealInput

@@ -1,6 +1,6 @@
 use Rattle.std.proofs.Common.{◌∙◌, inl, inr}
 use Rattle.ports_core.proofs.MessageLemmas.{says_on}
-use Rattle.ports_core.proofs.messages.print_message.Goals as goal
+use Rattle.ports_core.proofs.messages.say_line.Goals as goal
 
 pub returns-in-Ok : goal.returns-in-Ok
 returns-in-Ok g c why message is = says_on _ _ (inl (c.deref.ensures.value ∙ rw c.in-Ok.is at is)) c.print.ensures

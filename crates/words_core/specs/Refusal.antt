@@ -1,0 +1,78 @@
+-- What a tool says by its own name of words that are refused, beside what is wrong, the word and the rule. It is seen from
+-- the words.
+use Rattle.std.specs.{
+  Prelude.{ℕ, ◌-◌, ◌==◌, nat_lt, Bool, true, false, List, [], ◌∷◌, ◌++◌, codes, is_some, take},
+  Prelude.{Option, Some, None, Result, Ok, Err, if◌then◌else◌, slice_index_or},
+}
+use Rattle.ports_core.specs.{
+  Text.in_quotes,
+  declared.{
+    calling.Calling.{Calling, TheVariants.{Cutters, OwnName}},
+    fault.{
+      Fault.{Fault, TheVariants.Usage},
+      UsageKind.{UsageKind, TheVariants.{BadFollow, MissingValue, UnknownOption}},
+    },
+  },
+}
+use Rattle.words_core.specs.{
+  Given.Given,
+  Spelling.{given_by, option_lettered},
+  Table.{OptionRow, ToolRow, row_named, tools},
+}
+
+abbrev pub word_at : List (List ℕ) → ℕ → List ℕ
+word_at words place = slice_index_or words place []
+
+-- the tool that words name
+abbrev pub row_of : List (List ℕ) → Option ToolRow
+row_of [] = None
+row_of (name ∷ words) = row_named tools name
+
+-- Which letter of several in one word is no option's: the first such. 45 is a hyphen; a word that begins with two is a long
+-- option.
+
+abbrev pub letters_of : List ℕ → List ℕ
+letters_of (hyphen ∷ letter ∷ next ∷ letters) = if letter == 45 then [] else letter ∷ next ∷ letters
+letters_of word = []
+
+abbrev pub quoted_letter : ℕ → List ℕ
+quoted_letter letter = if nat_lt letter 128 then codes ": '" ++ letter ∷ codes "'" else []
+
+abbrev pub unknown_among : List OptionRow → List ℕ → List ℕ
+unknown_among rows [] = []
+unknown_among rows (letter ∷ letters) =
+    if is_some (option_lettered rows letter) then unknown_among rows letters else quoted_letter letter
+
+abbrev pub unknown_letter : Option ToolRow → List ℕ → List ℕ
+unknown_letter (Some row) word = unknown_among row.options (letters_of word)
+unknown_letter None word = []
+
+-- For which option a value in a word of its own was: the word before it, if the words up to that one end with an option
+-- that lacks its value.
+
+abbrev pub lacks_value : Result Given Fault → Bool
+lacks_value (Err (Usage MissingValue word)) = true
+lacks_value given = false
+
+abbrev pub end_with_option : List (List ℕ) → Bool
+end_with_option [] = false
+end_with_option (name ∷ words) = elim (row_named tools name) [
+  | Some row ↦ lacks_value (given_by OwnName row words)
+  | None ↦ false
+]
+
+abbrev pub for_option : List (List ℕ) → ℕ → List ℕ
+for_option words place =
+    if end_with_option (take place words) then codes " for " ++ in_quotes (word_at words (place - 1)) else []
+
+-- What `--follow` may be, after the word that says something else. A fault of the line as a whole is told at place 0.
+abbrev pub for_follow : List (List ℕ) → ℕ → List ℕ
+for_follow words place =
+    if place == 0 then [] else codes " " ++ in_quotes (word_at words place) ++ codes ": name or descriptor"
+
+-- what is said of this kind of fault, which stands in the word at this place
+abbrev pub detail_of : Calling → List (List ℕ) → UsageKind → ℕ → List ℕ
+detail_of Cutters words kind place = []
+detail_of OwnName words UnknownOption place = unknown_letter (row_of words) (word_at words place)
+detail_of OwnName words BadFollow place = for_follow words place
+detail_of OwnName words kind place = for_option words place
