@@ -4,4 +4,7 @@ use Rattle.csplit_core.proofs.WholeLemmas.{none_lost_at_end, all_with}
 use Rattle.csplit_core.proofs.laws.no_line_is_lost.Goals as goal
 
 pub returns : goal.returns
-returns c = grind (arith, common_steps, all_with, none_lost_at_end)
+returns c = record {
+  settled = λ style operands x whole live. grind (arith, common_steps, whole, (all_with whole false operands), live);
+  whole = λ style operands x whole live. none_lost_at_end whole operands x live;
+}

@@ -28,11 +28,11 @@ pub returns-in-Number-clause-says : goal.returns-in-Number-clause-says
 returns-in-Number-clause-says c lines seen = falls lines
     (left_is c.args.operands.now c.args.self.now.done c.in-Some.ensures.lookup.3.0 c.in-Some.ensures.lookup.1) seen
     c.args.self.now.matched (c.in-Number.number * (c.args.self.now.repetition + 1)) (rw c.in-Number.is (refl, refl))
-    c.saturating_mul-cut.ensures c.requires.few c.fall.result c.fall.ensures
+    c.saturating_mul-cut.ensures (rw c.past_last.ensures refl) (omega arith) c.requires.current c.fall.result c.fall.ensures
 
 pub returns-else-not-found-clause-says : goal.returns-else-not-found-clause-says
 returns-else-not-found-clause-says c lines seen = falls_search lines
     (left_is c.args.operands.now c.args.self.now.done c.in-Some.ensures.lookup.3.0 c.in-Some.ensures.lookup.1) seen
     c.in-Search.offset c.in-Search.is
     (omega (arith, c.search_line.ensures c.args.operands.now)) c.if-not-found.false
-    c.line_at.ensures c.requires.few c.fall-in-Search.result c.fall-in-Search.ensures
+    c.line_at.ensures (rw c.past_last.ensures refl) (omega arith) c.requires.current c.fall-in-Search.result c.fall-in-Search.ensures
