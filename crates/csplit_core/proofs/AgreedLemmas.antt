@@ -5,7 +5,7 @@ use Rattle.std.proofs.{
   Common.{nat_le, min, length-take, ◌⊎◌, ne_eqb, eq-eqb, length-drop, length-take-le, rules, ◌≢◌},
   lemmas.{
     Bool.{cases_lt, false≢true, Decides.nat_tests},
-    List.{append-nil, map-append, take-append-drop, drop-drop, drop_all},
+    List.{append-nil, map-append, take-append-drop, drop-drop, drop_all, take_all},
     Grind.common_steps,
   },
 }
@@ -109,17 +109,21 @@ pub data Waits (style : Style) (x : List Line) (state : State) (ending : Ending)
       → settled_end (length x) ending ≡ suc (length x) - k → Turned style x state operand (suc (length x) - k)
       → Waits style x state ending
 
-waits_by : {style : Style} {x : List Line} {state : State} (ending : Ending) → EndsAs style x state ending
-    → 1 ≤ state.current → (search_line style.suppress state ≤ suc (length x)) ⊎ (length x < state.current)
-    → Waits style x state ending
-waits_by ending ends some (inr past) = none_left past
-waits_by {style} {x} {state} (missed operand repetition) (left, are, none, often) some (inl within) = by operand.target refl none where
+waits_in : {style : Style} {x : List Line} {state : State} (ending : Ending) → EndsAs style x state ending
+    → 1 ≤ state.current → search_line style.suppress state ≤ suc (length x) → Waits style x state ending
+waits_in {style} {x} {state} (missed operand repetition) (left, are, none, often) some within = by operand.target refl none where
   by : (target : Target) → operand.target ≡ target → Misses style x state operand target
       → Waits style x state (missed operand repetition)
   by (Number n) is none = absurd none
   by (Search pattern kept (Plus k)) is none = none_waits (search rules)
   by (Search pattern kept (Minus k)) is none = some_wait k refl (search rules) (agrees pattern kept k some are is none within)
-waits_by _ ends some (inl within) = none_waits refl
+waits_in _ ends some within = none_waits refl
+
+waits_by : {style : Style} {x : List Line} {state : State} (ending : Ending) → EndsAs style x state ending
+    → 1 ≤ state.current → (search_line style.suppress state ≤ suc (length x)) ⊎ (length x < state.current)
+    → Waits style x state ending
+waits_by ending ends some (inl within) = waits_in ending ends some within
+waits_by ending ends some (inr past) = none_left past
 
 -- What is settled is what all continuations agree on.
 
@@ -188,7 +192,7 @@ settled_place : {style : Style} (a b : List Line) {last : State} (ending : Endin
     → place_from style.suppress (length (a ++ b)) index more how line ≡ in_section index
 settled_place a b ending ends more end (is_used_up state none) line from before = grind (arith, common_steps)
 settled_place a b ending ends more end (misses state operand operands are none) line from before = grind (arith, common_steps)
-settled_place a b ending ends more end (is_above state operand operands matched cut are at from far) line from before = grind (arith, common_steps)
+settled_place a b ending ends more end (is_above state operand operands matched cut are at least far) line from before = grind (arith, common_steps)
 settled_place a b ending ends more end (is_below state operand operands matched cut are at low) line from before = grind (arith, common_steps)
 settled_place a b ending ends more end
     (cuts state operand operands matched cut steps' last' ending' are at least in_lines rest) line from before =
@@ -327,8 +331,9 @@ step_past : (suppress : Bool) (lines : List Line) (current cut index s : ℕ) (l
 step_past suppress lines current cut index s later some least past =
     let next = line_after suppress cut in
     let least_next : cut ≤ next = line_some suppress cut in
-    let all : lines_between current cut lines ≡ drop (current - 1) lines = search (rules, length-drop) in
-    let none : drop (next - 1) lines ≡ [] = search (rules, drop_all) in
+    let all : lines_between current cut lines ≡ drop (current - 1) lines =
+    take_all (cut - current) (drop (current - 1) lines) (omega (arith, length-drop (current - 1) lines)) in
+    let none : drop (next - 1) lines ≡ [] = drop_all (next - 1) lines (omega arith) in
     rw (all, none) (sym (append-nil _))
 
 -- the lines before the cut, that at it, and those after it

@@ -104,10 +104,10 @@ abbrev SaysFirst : Style → List Operand → Attempt → Type 0
 SaysFirst style operands attempt = (lines : List Line) → AreSeen style.suppress lines 0 (start operands) false →
     AgreesWithPlan style lines (start operands) attempt
 
-no_first_cut : (style : Style) (operands : List Operand) (target : Target) {matched cut : ℕ}
+no_first_cut : (style : Style) (operands : List Operand) (target : Target) (matched cut : ℕ)
     → Moves 0 (start operands) target matched cut → 1 ≤ cut → cut ≤ past_last style target → ⊥
-no_first_cut style operands (Number n) moves some within = omega arith
-no_first_cut style operands (Search pattern kept offset) moves some within = omega arith
+no_first_cut style operands (Number n) matched cut moves some within = omega arith
+no_first_cut style operands (Search pattern kept offset) matched cut moves some within = omega arith
 
 first_ends : {style : Style} (operands : List Operand) {attempt : Attempt} → SaysFirst style operands attempt
     → MovesOn style operands 0 first_progress attempt → EndsHere style [] (start operands) attempt

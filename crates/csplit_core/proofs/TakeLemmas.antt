@@ -3,10 +3,10 @@ use Rattle.std.proofs.{
   lemmas.{Grind.common_steps, Bool.{false≢true, cases_lt}},
   Common.{◌≡◌, ◌⊎◌, inl, inr, ℕ, ◌+◌, ◌-◌, ◌<◌, ◌≤◌, Bool, true, Option, Some, None, List, [], ◌∷◌, ◌++◌, length},
   Common.{refl, sym, ◌∙◌, ap, subst, arith, append_assoc, length-append, IfSome, Ok, Err, take, drop, eqb, Result},
-  Common.{take_all, append-nil, take-append-drop, length-drop, length-take-le, drop_at, drop_all, take_at, drop-drop, is_some},
+  Common.{take_all, append-nil, take-append-drop, length-drop, length-take-le, drop_at, take_at, drop-drop, is_some},
   Common.{IfOk, rules},
 }
-use Rattle.std.proofs.{lemmas.List.drop-append-le, Math.Seq.take-append-add}
+use Rattle.std.proofs.{lemmas.List.{drop-append-le, drop_all}, Math.Seq.take-append-add}
 use Rattle.seg_core.{
   specs.{Line.{line_count, delimiters, ends_with}, Window.Window},
   proofs.EndLines.line_count-grows,
@@ -28,7 +28,8 @@ use Rattle.ports_core.{
 use Rattle.csplit_core.specs.{
   Input.{newline, all_lines, without_newline},
   Operand.{Line, Number, Operand, Search, Target},
-  Plan.{State, CutsAt, search_line, past_last},
+  Plan.{State, Ending, used_up, missed, above, below, CutsAt, search_line, past_last},
+  inner.PlanLaws.EndsAs,
   Output.{Style, manner_of},
   Planned.{Plan, plan},
   laws.{PlanLaws.plan_runs, SectionLaws.{ends_as, cuts_from, grows}},
@@ -88,9 +89,16 @@ pub record Reached (low : Part) (cutter : CutterState) (x left : List ℕ) : Typ
   pub arrives : Arrives cutter at
   pub same : low ≡ part_at at
 
-pub took_held : {told : Bool} {cutter next : CutterState} {lines : ℕ} {aim : Attempt} {t more : List ℕ}
-    {old new : List Slot}
-    {fault : Option Fault} → IsSound (more_lines cutter lines aim) → IsFit cutter → (cutter.aim ≡ Below → ⊥)
+low_taken : {cutter : CutterState} {x : List ℕ} (t : List ℕ) (live : IsLive cutter x) → IsWhole x → (ending : Ending)
+    → EndsAs cutter.style (all_lines (x ++ t)) (state_in cutter) ending → is_final ending ≡ true → live.at.taken ≡ 0
+low_taken t live whole used_up ends final = absurd (false≢true final)
+low_taken t live whole (missed operand repetition) ends final = absurd (false≢true final)
+low_taken t live whole (above operand repetition matched cut) ends final = absurd (false≢true final)
+low_taken t live whole (below operand repetition) (operands, matched, cut, are, at, low, often) final =
+    omega (arith, live_taken live, live_before t live matched cut are (rw (all_lines-append t (inl whole)) at at))
+
+pub took_held : {told : Bool} {cutter next : CutterState} {lines : ℕ} {aim : Attempt} {t : List ℕ} (more : List ℕ)
+    {old new : List Slot} {fault : Option Fault} → IsSound (more_lines cutter lines aim) → IsFit cutter → (cutter.aim ≡ Below → ⊥)
     → lines ≤ cutter.lines + length t → length more ≤ length t
     → ((x : List ℕ) → IsWhole x → (live : IsLive cutter x)
     → cutter.window.held ++ more ≡ text_from (cutter.progress.current + live.at.taken) (x ++ t))
@@ -99,7 +107,7 @@ pub took_held : {told : Bool} {cutter next : CutterState} {lines : ℕ} {aim : A
     → HoldsLines told (more_lines cutter lines aim) (cutter.window.held ++ more) old new next fault
     → Takes told cutter t old new next fault
 unfolding at_more
-took_held {cutter = cutter} {next} {lines} {aim} {t} {more} {fault = fault} sound fit differs few short left ends held = record {
+took_held {cutter = cutter} {next} {lines} {aim} {t} more {fault = fault} sound fit differs few short left ends held = record {
   keeps = held.keeps;
   reaches = λ x whole stands. let there = reached x whole stands in reaches_as there.same refl (held.reaches (x ++ t) there.at there.arrives);
   went = where_well fault held.went (λ went. record {
@@ -116,11 +124,15 @@ took_held {cutter = cutter} {next} {lines} {aim} {t} {more} {fault = fault} soun
       let few = few_taken live.at in
       let most : cutter.window.most ≡ most_waiting live.ends.ending = search (rules, most_is, ends_as) in
       let either : (live.at.taken ≡ 0) ⊎ (most_waiting live.ends.ending ≤ line_count newline cutter.window.held) =
-      (grind (arith, common_steps, cases_lt, fit.fits.some, few, live.settled, (left_count live.at))) in record {
+      (let settled = live.settled in let some = fit.fits.some in
+      elim (cases_lt (most_waiting live.ends.ending) (cutter.lines + 1 - cutter.progress.current)) [
+        | inl some' ↦ inr (omega (arith, left_count live.at))
+        | inr none ↦ inl (omega arith)
+      ]) in record {
         at = at_more t more (inl whole) fit.fits.some live.at live.ends there.0 (left x whole live);
         arrives = record {
           ends = there.1;
-          low = grind (arith, common_steps, ends_as, live_before, all_lines-append, live_taken, false≢true);
+          low = low_taken t live whole there.1.ending (ends_as there.1.runs);
           enough = search (rules, either, most, line_count-grows);
         };
         same = sym (live_part live) ∙ part_more t more (inl whole) fit.fits.some live.at live.ends there.0 (left x whole live);
@@ -132,11 +144,11 @@ took_held {cutter = cutter} {next} {lines} {aim} {t} {more} {fault = fault} soun
 search_from : (suppress : Bool) (state : State) → state.current ≤ search_line suppress state
 search_from suppress state = search rules
 
-cut_near : {style : Style} {lines : List Line} {state : State} {operand : Operand} (target : Target) {matched cut : ℕ}
+cut_near : (style : Style) (lines : List Line) (state : State) (operand : Operand) (target : Target) (matched cut : ℕ)
     → CutsAt style lines state operand target matched cut → state.current ≤ cut
     → cut ≤ length lines + past_last style target → state.current ≤ length lines
-cut_near (Number n) at from within = omega arith
-cut_near {style} {state = state} (Search pattern kept offset) at from within =
+cut_near style lines state operand (Number n) matched cut at from within = omega arith
+cut_near style lines state operand (Search pattern kept offset) matched cut at from within =
     let first = at.0 in omega (arith, first.not_before, first.within, search_from style.suppress state)
 
 line_has : (line : List ℕ) → IsLine line → 1 ≤ length line
@@ -173,7 +185,7 @@ take_cut {told} {cutter} {mid} {next} line more {cut} {old} {new} {fault} fit di
       let cuts = tries x whole live in
       let count : cutter.lines + 1 ≡ line_count newline (x ++ line) = search (rules, count-line) in
       let near : cutter.progress.current ≤ cutter.lines + 1 =
-      (let e = cut_near cuts.0.operand.target cuts.0.cuts cuts.0.from cuts.0.within in
+      (let e = cut_near cutter.style (all_lines (x ++ line)) (state_in cutter) cuts.0.operand cuts.0.operand.target cut.matched cut.line cuts.0.cuts cuts.0.from cuts.0.within in
       omega (arith, length-all_lines (x ++ line))) in
       let left_is = all_left line (inl whole) fit.fits.some live.at (λ skips. absurd (omega arith)) in
       let place : cutter.lines + 1 - delimiters newline cutter.window.held ≡ cutter.progress.current + live.at.taken =
@@ -568,7 +580,7 @@ module _ {told : Bool} {cutter mid next : CutterState} {text : List ℕ} {size :
       let end_is : end ≡ more_lines cutter end.lines mid.aim = search rules in
       record {
         on = gone.on;
-        took = took_held (subst IsSound end_is gone.over.sound) fit differs
+        took = took_held (drop first line ++ more) (subst IsSound end_is gone.over.sound) fit differs
             (search (rules, length-append, length-take-le, line_has))
             (omega (arith, length-append (drop first line) more, length-append line more, length-drop first line))
             (λ x whole live. left_after first line more fit start.line
@@ -576,7 +588,7 @@ module _ {told : Bool} {cutter mid next : CutterState} {text : List ℕ} {size :
             (joins_by gone.on.n start.complete (λ ends. whole-append line whole (inr ends))) whole live)
             (λ x whole live.
             let both = gone.over.ends (x ++ line)
-            (search (rules, joins_by, whole-append))
+            (joins_by gone.on.n start.complete (λ ends. whole-append line whole (inr ends)))
             (ap (λ (c : CutterState). c.lines) mid_is ∙ ap (λ k. k + 1) live.at.counted ∙ sym (count-line line whole start.line))
             (tries x whole live) in
             let is = append_assoc x line (take gone.on.n (drop size text)) in (search rules)) (rw end_is at gone.held);

@@ -11,7 +11,7 @@ use Rattle.std.proofs.{
 }
 use Rattle.csplit_core.specs.{
   Operand.{Target, Number, Search, Operand, Line, unmarked, is_match, Offset, moved, has_more},
-  Plan.{State, Step, Ending, missed, above, search_line, MatchesNone, line_after, Runs, is_used_up, misses, is_above},
+  Plan.{State, Step, Ending, used_up, missed, above, search_line, MatchesNone, line_after, Runs, is_used_up, misses, is_above},
   Plan.{is_below, cuts, below, CutsAt, state_after, past_last},
   Output.Style,
   Planned.plan,
@@ -21,17 +21,17 @@ use Rattle.csplit_core.specs.{
   },
   Progress.{state_of, EndsHere, AimsAt},
   inner.Cutter.{AreSeen, AgreesWithPlan, FallsAt, GoesPast, WillCut, WillSkip, PassesOn, PassesCut, IsWhole, IsLine},
-  inner.Cutter.{Joins, past_in},
+  inner.Cutter.{Joins, past_in, search_after},
   inner.Cutter.{Looked, IsFound, IsNoCut, StaysNear, Tries, TriesNext, AreClear, IsNextFound, Lacks, equipped},
   inner.Cutter.{PassesClear, PassesOver, StopsAt},
   inner.PlanLaws.{needed, EndsAs},
   declared.{
-    progress.{Attempt.{Attempt, TheVariants.{Missed, Above, Below, Cuts}}, Progress.Progress},
+    progress.{Attempt.{Attempt, TheVariants.{UsedUp, Missed, Above, Below, Cuts}}, Progress.Progress},
     line_cutter.{CutPoint.CutPoint, Passed.Passed},
   },
   Measure.{Moves, IsRepeatedBy, Fits},
   Input.{newline, without_newline, marked, all_lines, is_match_of},
-  Cutter.{CutterState, state_in, suppress_in, IsFit, pattern_in, past_by, IsLive, EndsNow, IsSound},
+  Cutter.{CutterState, state_in, suppress_in, IsFit, pattern_by, pattern_in, past_by, IsLive, EndsNow, IsSound},
 }
 use Rattle.csplit_core.proofs.{
   WholeLemmas.after_within,
@@ -80,7 +80,7 @@ ends_still b (misses state operand operands is none) still =
     misses state operand operands is ((grind (arith, common_steps, none, (still operand operands is))))
 ends_still {style} {a} b (is_above state operand operands matched cut is at from far) still = search (rules, is_above, cuts_still)
 ends_still {style} {a} b (is_below state operand operands matched cut is at low) still =
-    is_below state operand operands matched cut is (cuts_still _ a b state operand _ matched cut at) low
+    is_below state operand operands matched cut is (cuts_still style a b state operand operand.target matched cut at) low
 ends_still b (cuts state operand operands matched cut steps' last' ending' is at from within rest) still = ends_still b rest still
 
 pub stays : (style : Style) (operands : List Operand) (a b : List Line)
@@ -96,14 +96,14 @@ stays style operands a b so =
 pub capped : (real cap most total : ℕ) → most ≡ min real cap → most ≤ total → total < cap → most ≡ real
 capped real cap most total is within low = search rules
 
-module _ {style : Style} (all : List Line) {total : ℕ} {state : State} {found : Bool} {operand : Operand}
+module _ (style : Style) (all : List Line) {total : ℕ} {state : State} {found : Bool} {operand : Operand}
     {operands : List Operand} (are : state.operands ≡ operand ∷ operands)
     (seen : AreSeen style.suppress all total state found) where
   pub falls : (matched real : ℕ) {most last : ℕ} → CutsAt style all state operand operand.target matched real
       → most ≡ min real (2 ^ 64 - 1) → last ≡ total + past_last style operand.target → last < 2 ^ 64 - 1
       → state.current < 2 ^ 64 - 1 → (attempt : Attempt)
       → FallsAt last state.current matched most attempt → AgreesWithPlan style all state attempt
-  falls matched real {most} at_cut is last_is few low (Above line cap) at = record {
+  falls matched real {most} at_cut is last_is few low (Above line most') at = record {
     ending = above operand state.repetition matched real;
     runs = is_above state operand operands matched real are at_cut (let c = seen.count in omega arith) (let c = seen.count in omega arith);
     aims = (at.0, at.1 ∙ is);
@@ -215,7 +215,9 @@ pub attempt_ends : {style : Style} {lines : List Line} {state : State} (attempt 
     → AgreesWithPlan style lines state attempt → EndsHere style lines state attempt
 attempt_ends attempt no_cut ends = search rules
 
--- a search after a cut begins at the cut or after it, and after the line that was matched last
+-- a search after a cut begins at the cut or after it
+pub search_past : (suppress : Bool) (cut : CutPoint) → cut.line ≤ search_after suppress cut
+search_past suppress cut = search rules
 
 -- what `try_last` owes
 
@@ -243,12 +245,35 @@ StaysOver cutter text lines Missed = (operand : Operand) → cutter.sought ≡ p
 StaysOver cutter text lines (Above matched line) = lines + past_in cutter < line
 StaysOver cutter text lines attempt = Unit {0}
 
+still_over : {cutter : CutterState} (lines : ℕ) (text : List ℕ) → IsFit cutter → (x : List ℕ)
+    → lines ≡ cutter.lines + line_count newline text → cutter.lines ≡ line_count newline x → (aim : Attempt)
+    (ending : Ending) → EndsAs cutter.style (all_lines x) (state_in cutter) ending → AimsAt aim ending
+    → StaysOver cutter text lines aim
+    → EndsStill cutter.style (length (all_lines x)) (all_lines text) (length (all_lines x ++ all_lines text)) (state_in cutter) ending
+still_over lines text fit x count counted UsedUp used_up ends aims stays = tt
+still_over {cutter} lines text fit x count counted Missed (missed operand repetition) ends aims stays = λ one more are.
+    rw (length-all_lines x, ← counted) (stays one (fit.sought ∙ ap pattern_by are))
+still_over {cutter} lines text fit x count counted (Above last line) (above operand repetition matched cut) (operands, are, at, from, far, often) aims stays =
+    let past : past_in cutter ≡ past_last cutter.style operand.target = ap (past_by cutter.style) are in
+    let same : line ≡ min cut (2 ^ 64 - 1) = aims.1 in
+    omega (arith, length-append (all_lines x) (all_lines text), length-all_lines x, length-all_lines text)
+still_over lines text fit x count counted Below (below operand repetition) ends aims stays = tt
+still_over lines text fit x count counted aim ending ends aims stays = absurd aims
+
 -- what passing over a text leaves of the plan
 pub ends_over : {cutter : CutterState} {lines : ℕ} (text : List ℕ) → IsFit cutter
     → lines ≡ cutter.lines + line_count newline text → StaysOver cutter text lines cutter.aim → (x : List ℕ)
     → Joins x text → cutter.lines ≡ line_count newline x → EndsNow cutter x
     → (lines ≡ line_count newline (x ++ text)) × EndsNow (record cutter { lines = lines }) (x ++ text)
-ends_over text fit count stays x before counted ends = search (rules, length-all_lines, length-append, count-append, all_lines-append, ends_still)
+ends_over {cutter} {lines} text fit count stays x before counted ends = (
+  omega (arith, count-append text before),
+  record {
+    ending = ends.ending;
+    runs = rw (all_lines-append text before) (ends_still (all_lines text) ends.runs
+        (still_over lines text fit x count counted cutter.aim ends.ending (ends_as ends.runs) ends.aims stays));
+    aims = ends.aims;
+  },
+)
 
 pub next_stays : {cutter : CutterState} {x : List ℕ} (line : List ℕ) {attempt : Attempt} → IsFit cutter
     → IsLive cutter x

@@ -42,11 +42,11 @@ steps_and_rest {lines} (cuts state operand operands matched cut steps' last' end
 steps_and_rest run whole some = refl
 
 -- the steps' sections, then these lines, where they are what is left
-pub all_with : {style : Style} → style.suppress ≡ false → (closed : Bool) (operands : List Operand) {x : List Line} (end rest : List Line)
+pub all_with : (style : Style) → style.suppress ≡ false → (closed : Bool) (operands : List Operand) {x : List Line} (end rest : List Line)
     → end ++ rest ≡ drop ((plan style operands x).last.current - 1) x
     → lines_in (map (section_of x) (plan style operands x).steps
     ++ section (is_last_kept (plan style operands x).ending) closed end ∷ []) ++ rest ≡ x
-all_with {style} whole closed operands {x} end rest is =
+all_with style whole closed operands {x} end rest is =
     ap (λ those. those ++ rest) (search (rules, lines_in-append, append-nil))
     ∙ append_assoc _ end rest
     ∙ ap (λ those. lines_in (map (section_of x) (plan style operands x).steps) ++ those) is ∙ steps_and_rest (plan_runs style operands x) whole (omega arith)
@@ -58,10 +58,10 @@ pub rest_is_all : (x : List Line) (current : ℕ) → 1 ≤ current
     → lines_between current (suc (length x)) x ≡ drop (current - 1) x
 rest_is_all x current some = grind (arith, common_steps)
 
-pub none_lost_at_end : {style : Style} → style.suppress ≡ false → (operands : List Operand) (x : List Line) → is_final (plan style operands x).ending ≡ false
+pub none_lost_at_end : (style : Style) → style.suppress ≡ false → (operands : List Operand) (x : List Line) → is_final (plan style operands x).ending ≡ false
     → lines_in (whole_sections x (plan style operands x)) ≡ x
-none_lost_at_end {style} whole operands x live =
+none_lost_at_end style whole operands x live =
     let plan' = plan style operands x in
     let some = (are_within (plan_runs style operands x) (omega arith)).1 in
-    sym (search (rules, append-nil)) ∙ all_with whole true operands (lines_between plan'.last.current (whole_end (length x) plan'.ending) x) []
+    sym (search (rules, append-nil)) ∙ all_with style whole true operands (lines_between plan'.last.current (whole_end (length x) plan'.ending) x) []
     (search (rules, append-nil, ends_after_all, rest_is_all))

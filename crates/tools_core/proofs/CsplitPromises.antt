@@ -268,7 +268,7 @@ none_is_lost run asked input does has whole none =
       files_joined asked.style (whole_sections lines (plan asked.style split.operands lines))
           (kept_then (map (section_of lines) (plan asked.style split.operands lines).steps) _ kept.sections kept.final),
     )
-    (rw (none_lost_at_end whole split.operands lines split.well, all_bytes (lines_of newline input))
+    (rw (none_lost_at_end asked.style whole split.operands lines split.well, all_bytes (lines_of newline input))
     (joined-lines_of newline input))
 
 -- Each line in its turn

@@ -106,7 +106,7 @@ fewer_by : (style : Style) (total : ℕ) (state : State) (operand : Operand) (op
     → next.repetition ≡ repetition_after more state.repetition → next.matched ≡ matched
     → needed total next < needed_by total state (operand ∷ operands)
 fewer_by style total state operand operands cut at some within true next left again same =
-    search (rules, fewer_left)
+    let less = fewer_left style total state next operand.target cut at some within again same in rw left (omega arith)
 fewer_by style total state operand operands cut at some within false next left again same = search (rules, fewer_operands)
 
 pub fewer_moves : (style : Style) (total : ℕ) (state : State) {operand : Operand} {operands : List Operand}

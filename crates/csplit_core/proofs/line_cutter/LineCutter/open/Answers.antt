@@ -33,7 +33,7 @@ returns g c =
     rw (c.start-progress.ensures, c.in_ok-window.ensures.ok, c.in_ok-matcher.ensures.ok, c.next_operand-next.ensures)
     (first_opened _ _ c.requires.streams
     (grind (arith, common_steps, made_goes))
-    c.in_ok-begin.ensures.size (rw (c.style.view_is, c.start-progress.ensures) at c.attempt-aim.ensures.says)
+    c.in_ok-begin.ensures.size (rw c.start-progress.ensures at c.attempt-aim.ensures.says)
     (grind (arith, common_steps)))
 
 pub begin-requires : goal.begin-requires
