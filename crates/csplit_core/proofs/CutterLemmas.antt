@@ -47,11 +47,7 @@ use Rattle.csplit_core.specs.{
   Cutter.{kept_by, most_by, text_from, draft_by, settled_draft, CutterState, suppress_in, state_in, IsAt, EndsNow},
   Cutter.{IsLive, IsFit, Leads},
 }
-use Rattle.csplit_core.proofs.{
-  LineLemmas.{all_lines-append, bytes_between, length-all_lines, count-append, count_from, first_still, rest_more},
-  LineLemmas.{from_further, first_further},
-  WholeLemmas.after_within,
-}
+use Rattle.csplit_core.proofs.{LineLemmas.{all_lines-append, bytes_between, length-all_lines, count-append, count_from, first_still, rest_more}, LineLemmas.{from_further, first_further}}
 use Rattle.ports_core.specs.{
   Draft.{Draft, share, made_of, shares_of, draft_part, with_bytes, with_next, told_of_files, size_of_file},
   Slot.Slot,

@@ -1,11 +1,5 @@
 -- Taking lines in, one by one and stretch by stretch, and cutting them as often as operands cut.
-use Rattle.std.proofs.{
-  lemmas.{Grind.common_steps, Bool.{false≢true, cases_lt}},
-  Common.{◌≡◌, ◌⊎◌, inl, inr, ℕ, ◌+◌, ◌-◌, ◌<◌, ◌≤◌, Bool, true, Option, Some, None, List, [], ◌∷◌, ◌++◌, length},
-  Common.{refl, sym, ◌∙◌, ap, subst, arith, append_assoc, length-append, IfSome, Ok, Err, take, drop, eqb, Result},
-  Common.{take_all, append-nil, take-append-drop, length-drop, length-take-le, drop_at, take_at, drop-drop, is_some},
-  Common.{IfOk, rules},
-}
+use Rattle.std.proofs.{lemmas.{Grind.common_steps, Bool.{false≢true, cases_lt}}, Common.{◌≡◌, ◌⊎◌, inl, inr, ℕ, ◌+◌, ◌-◌, ◌≤◌, Bool, true, Option, Some, None, List, [], ◌∷◌, ◌++◌, length}, Common.{refl, sym, ◌∙◌, ap, subst, arith, append_assoc, length-append, IfSome, Ok, Err, take, drop, eqb, Result}, Common.{take_all, append-nil, take-append-drop, length-drop, length-take-le, drop_at, take_at, drop-drop, is_some}, Common.{IfOk, rules}}
 use Rattle.std.proofs.{lemmas.List.{drop-append-le, drop_all}, Math.Seq.take-append-add}
 use Rattle.seg_core.{
   specs.{Line.{line_count, delimiters, ends_with}, Window.Window},

@@ -294,15 +294,17 @@ pub above_cuts : {style : Style} (lines : List Line) (line : Line) {state : Stat
     → GoesPast style (lines ++ line ∷ []) state matched at × (total + 1 ≤ at)
 above_cuts {style} lines line {total = total} {at = at} (above operand repetition matched cut) count (operands, are, cuts_at, from, far, often) aims near few =
     let past : past_by style _ ≡ past_last style operand.target = ap (past_by style) are in
-    let same : at ≡ cut = search (rules, aims, past, past_near style operand.target) in
-    (record {
-      operand = operand;
-      operands = operands;
-      are = are;
-      cuts = search (rules, cuts_still);
-      from = omega arith;
-      within = omega (arith, length-append lines (line ∷ []));
-    }, omega arith)
+    let same : at ≡ cut = search (rules, aims, past, past_near style operand.target) in (
+      record {
+        operand = operand;
+        operands = operands;
+        are = are;
+        cuts = search (rules, cuts_still);
+        from = omega arith;
+        within = omega (arith, length-append lines (line ∷ []));
+      },
+      omega arith,
+    )
 above_cuts lines line ending count ends aims near few = absurd aims
 
 -- where a pattern matched no line so far

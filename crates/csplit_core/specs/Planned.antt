@@ -1,7 +1,5 @@
 -- The plan of a run, computed.
-use Rattle.std.specs.{
-  Prelude.{ℕ, ◌+◌, ◌-◌, ◌*◌, zero, suc, nat_lt, Bool, List, [], ◌∷◌, length, drop, Option, Some, None, if◌then◌else◌},
-}
+use Rattle.std.specs.{Prelude.{ℕ, ◌+◌, ◌-◌, ◌*◌, zero, suc, nat_lt, List, [], ◌∷◌, length, drop, Option, Some, None, if◌then◌else◌}}
 use Rattle.operand_core.specs.Style.{Style}
 use Rattle.csplit_core.specs.{
   Operand.{Offset, Target, Number, Search, Operand, Line, moved},

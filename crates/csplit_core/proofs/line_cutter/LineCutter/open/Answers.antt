@@ -1,10 +1,7 @@
 use Rattle.std.proofs.lemmas.Grind.{common_steps}
 use Rattle.std.proofs.Common.{◌∙◌, ap, arith}
 use Rattle.ports_core.{proofs.HandedOn.handed_on, specs.FileWriter.WriterState}
-use Rattle.csplit_core.{
-  specs.Output.{Style},
-  proofs.StageLemmas.{begun_not, first_opened, first_part, made_goes, opened_lacks},
-}
+use Rattle.csplit_core.{proofs.StageLemmas.{begun_not, first_opened, first_part, made_goes, opened_lacks}}
 use Rattle.csplit_core.proofs.line_cutter.LineCutter.open.Goals as goal
 
 pub returns-in_err-matcher : goal.returns-in_err-matcher
