@@ -1,14 +1,5 @@
 -- What `csplit` leaves of its input.
-use Rattle.std.{
-  proofs.lemmas.{
-    Grind.common_steps,
-    Bool.{cond_both, false≢true, lt-ltb},
-    List.{append-nil, Elements.{All-append, All-cons, All-map, All-nil}},
-  },
-  proofs.Common.{suc, ◌≡◌, ℕ, ◌+◌, drop, Bool, true, false, eqb, List, [], ◌∷◌, Option, Some, None, refl, ◌∙◌, ◌-◌},
-  proofs.Common.{◌≤◌, ◌++◌, length, map, sym, ap, subst, arith, cond},
-  specs.List.flat_map,
-}
+use Rattle.std.{proofs.lemmas.{Grind.common_steps, Bool.{cond_both, false≢true, lt-ltb}, List.{append-nil, Elements.{All-append, All-cons, All-map, All-nil}}}, proofs.Common.{suc, ◌≡◌, ℕ, ◌+◌, drop, Bool, true, false, eqb, List, [], ◌∷◌, Option, Some, None, refl, ◌∙◌, ◌-◌}, proofs.Common.{◌≤◌, ◌++◌, length, map, sym, ap, arith, cond}, specs.List.flat_map}
 use Rattle.operand_core.specs.{
   declared.operand.{Operand.Operand, Target.{Target, TheVariants.{Number, Search}}, Times.{Times, TheVariants.Count}},
   Reading.{Aim, line, match, Spelled, Aimed, aims, fails, Words, AreRead, Asks, IsTarget, aim_of, failed},
