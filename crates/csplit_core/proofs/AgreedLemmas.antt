@@ -5,16 +5,16 @@ use Rattle.std.proofs.{
   Common.{nat_le, min, length-take, ◌⊎◌, ne_eqb, eq-eqb, length-drop, length-take-le, rules, ◌≢◌},
   lemmas.{
     Bool.{cases_lt, false≢true, Decides.nat_tests},
-    List.{append-nil, map-append, take-append-drop, drop-drop},
+    List.{append-nil, map-append, take-append-drop, drop-drop, drop_all, take_all},
     Grind.common_steps,
   },
 }
 use Rattle.csplit_core.specs.{
   Agreed.{CanCome, kept_lines, whole_outputs, settled_outputs, AreFronts, IsAgreed},
   Operand.{Minus, Target, Number, Search, Operand, Line, Plus, is_kept},
-  Plan.{State, start, Step, Ending, below, search_line, MatchesNone, CutsAt, line_after, step_of, Runs, is_below},
+  Plan.{State, start, Step, Ending, below, search_line, MatchesNone, CutsAt, line_after, state_after, step_of, Runs, is_below},
   Plan.{cuts, missed, Misses, is_used_up, misses, is_above},
-  laws.PlanLaws.{line_some, runs_on, goes_on, plan_runs, plan_once, cuts_still, less_test, not_less_test},
+  laws.PlanLaws.{line_some, past_near, runs_on, goes_on, plan_runs, plan_once, cuts_still, less_test, not_less_test},
   laws.SectionLaws.{between_still, ends_as, are_within, closed_still, plan_grows, whole_covers, plan_goes_on},
   inner.PlanLaws.{AreWithin, EndsAs, GoesOn},
   Planned.{plan, Plan},
@@ -25,22 +25,40 @@ use Rattle.csplit_core.specs.{
 use Rattle.csplit_core.proofs.WholeLemmas.{between_rest, after_within, ends_after_all}
 use Rattle.ports_core.{specs.Part.IsBeginning, proofs.AgreedLemmas.{agreed_as, nothing_waits}}
 use Rattle.bre_core.specs.Pattern.{Pattern}
+use Rattle.operand_core.specs.Style.{Style}
 
 -- One more line that every operand finds.
 
-matched_within : (suppress : Bool) (lines : List Line) (state : State) (operand : Operand) (target : Target)
-    (matched cut : ℕ) → CutsAt suppress lines state operand target matched cut → state.matched ≤ length lines
+matched_within : (style : Style) (lines : List Line) (state : State) (operand : Operand) (target : Target)
+    (matched cut : ℕ) → CutsAt style lines state operand target matched cut → state.matched ≤ length lines
     → matched ≤ length lines
-matched_within suppress lines state operand target matched cut at within = search rules
+matched_within style lines state operand target matched cut at within = search rules
 
-search_within : {suppress : Bool} {lines : List Line} {first : State} {steps : List Step} {last : State}
-    {ending : Ending} → Runs suppress lines first steps last ending → first.matched ≤ length lines
-    → search_line suppress first ≤ suc (length lines)
-    → search_line suppress last ≤ suc (length lines)
-search_within {suppress} {lines} (cuts state operand operands matched' cut steps' last' ending' is at from in_lines rest) matched within =
-    let few = matched_within suppress lines state operand operand.target matched' cut at matched in
-    search_within rest few (search rules)
-search_within run matched within = within
+current_grows : {style : Style} {lines : List Line} {first : State} {steps : List Step} {last : State}
+    {ending : Ending} → Runs style lines first steps last ending → first.current ≤ last.current
+current_grows {style} (cuts state operand operands matched cut steps' last' ending' is at least within rest) =
+    omega (arith, current_grows rest, line_some style.suppress cut)
+current_grows run = omega arith
+
+search_near : (suppress : Bool) (operand : Operand) (operands : List Operand) (repetition matched cut : ℕ) {total : ℕ}
+    → matched ≤ total → cut ≤ total
+    → search_line suppress (state_after suppress operand operands repetition matched cut) ≤ suc total
+search_near suppress operand operands repetition matched cut few within = search rules
+
+first_search : (suppress : Bool) (operands : List Operand) → search_line suppress (start operands) ≤ 1
+first_search suppress operands = search rules
+
+search_within : {style : Style} {lines : List Line} {first : State} {steps : List Step} {last : State}
+    {ending : Ending} → Runs style lines first steps last ending → first.matched ≤ length lines
+    → search_line style.suppress first ≤ suc (length lines)
+    → (search_line style.suppress last ≤ suc (length lines)) ⊎ (length lines < last.current)
+search_within {style} {lines} (cuts state operand operands matched' cut steps' last' ending' is at from in_lines rest) matched within =
+    let few = matched_within style lines state operand operand.target matched' cut at matched in
+    elim (cases_lt (length lines) cut) [
+      | inl past ↦ inr (omega (arith, current_grows rest, line_some style.suppress cut))
+      | inr here ↦ search_within rest few (search_near style.suppress operand operands state.repetition matched' cut few here)
+    ]
+search_within run matched within = inl within
 
 -- a line that each operand finds
 abbrev pub matching : List Line
@@ -53,51 +71,59 @@ pub matching_comes : CanCome matching
 matching_comes = search rules
 
 -- the cut falls within the lines that are there: the section ends there, or the cut is below it
-pub data Turned (suppress : Bool) (x : List Line) (state : State) (operand : Operand) (cut : ℕ) : Type 0 where
+pub data Turned (style : Style) (x : List Line) (state : State) (operand : Operand) (cut : ℕ) : Type 0 where
   too_low : cut < state.current
-      → Runs suppress (x ++ matching) state [] state (below operand state.repetition)
-      → Turned suppress x state operand cut
+      → Runs style (x ++ matching) state [] state (below operand state.repetition)
+      → Turned style x state operand cut
   turns : state.current ≤ cut → (rest : List Step) (end : State) (how : Ending)
-      → Runs suppress (x ++ matching) state (step_of state operand (suc (length x)) cut ∷ rest) end how
-      → Turned suppress x state operand cut
+      → Runs style (x ++ matching) state (step_of state operand (suc (length x)) cut ∷ rest) end how
+      → Turned style x state operand cut
 
-turned_by : {suppress : Bool} {x : List Line} {state : State} {operand : Operand} {operands : List Operand} (cut : ℕ)
+turned_by : {style : Style} {x : List Line} {state : State} {operand : Operand} {operands : List Operand} (cut : ℕ)
     → 1 ≤ state.current → state.operands ≡ operand ∷ operands
-    → CutsAt suppress (x ++ matching) state operand operand.target (suc (length x)) cut
-    → cut ≤ length (x ++ matching) → Turned suppress x state operand cut
-turned_by {suppress} {x} {state} {operand} {operands} cut some is at within = elim (cases_lt cut state.current) [
-  | inl low ↦ too_low low (is_below state operand operands (suc (length x)) cut is at within low)
+    → CutsAt style (x ++ matching) state operand operand.target (suc (length x)) cut
+    → cut ≤ length (x ++ matching) → Turned style x state operand cut
+turned_by {style} {x} {state} {operand} {operands} cut some is at within = elim (cases_lt cut state.current) [
+  | inl low ↦ too_low low (is_below state operand operands (suc (length x)) cut is at low)
   | inr from ↦
-      turns from _ _ _ (cuts state operand operands (suc (length x)) cut _ _ _ is at from within
-      (runs_on _ _ _ (omega (arith, line_some suppress cut))))
+      turns from _ _ _ (cuts state operand operands (suc (length x)) cut _ _ _ is at from (omega arith)
+      (runs_on _ _ _ (omega (arith, line_some style.suppress cut))))
 ]
 
-agrees : {suppress : Bool} {x : List Line} {state : State} {operand : Operand} {operands : List Operand}
+agrees : {style : Style} {x : List Line} {state : State} {operand : Operand} {operands : List Operand}
     (pattern : Pattern) (kept : Bool) (k : ℕ) → 1 ≤ state.current → state.operands ≡ operand ∷ operands
     → operand.target ≡ Search pattern kept (Minus k)
-    → MatchesNone operand x (search_line suppress state) → search_line suppress state ≤ suc (length x)
-    → Turned suppress x state operand (suc (length x) - k)
-agrees {suppress} {x} {state} {operand} pattern kept k some is target none within =
+    → MatchesNone operand x (search_line style.suppress state) → search_line style.suppress state ≤ suc (length x)
+    → Turned style x state operand (suc (length x) - k)
+agrees {style} {x} {state} {operand} pattern kept k some is target none within =
     turned_by (suc (length x) - k) some is
     (grind (arith, common_steps))
     (omega (arith, length-append x matching))
 
--- at the end of a plan either nothing waits, or one line more makes a cut that stands back
-pub data Waits (suppress : Bool) (x : List Line) (state : State) (ending : Ending) : Type 0 where
-  none_waits : whole_end (length x) ending ≡ settled_end (length x) ending → Waits suppress x state ending
+-- at the end of a plan either nothing waits, since no line is left or all of it is settled, or one line more makes a cut
+-- that stands back
+pub data Waits (style : Style) (x : List Line) (state : State) (ending : Ending) : Type 0 where
+  none_waits : whole_end (length x) ending ≡ settled_end (length x) ending → Waits style x state ending
+  none_left : length x < state.current → Waits style x state ending
   some_wait : {operand : Operand} (k : ℕ) → is_last_kept ending ≡ is_kept operand.target
-      → settled_end (length x) ending ≡ suc (length x) - k → Turned suppress x state operand (suc (length x) - k)
-      → Waits suppress x state ending
+      → settled_end (length x) ending ≡ suc (length x) - k → Turned style x state operand (suc (length x) - k)
+      → Waits style x state ending
 
-waits_by : {suppress : Bool} {x : List Line} {state : State} (ending : Ending) → EndsAs suppress x state ending
-    → 1 ≤ state.current → search_line suppress state ≤ suc (length x) → Waits suppress x state ending
-waits_by {suppress} {x} {state} (missed operand repetition) (left, are, none, often) some within = by operand.target refl none where
-  by : (target : Target) → operand.target ≡ target → Misses suppress x state operand target
-      → Waits suppress x state (missed operand repetition)
+waits_in : {style : Style} {x : List Line} {state : State} (ending : Ending) → EndsAs style x state ending
+    → 1 ≤ state.current → search_line style.suppress state ≤ suc (length x) → Waits style x state ending
+waits_in {style} {x} {state} (missed operand repetition) (left, are, none, often) some within = by operand.target refl none where
+  by : (target : Target) → operand.target ≡ target → Misses style x state operand target
+      → Waits style x state (missed operand repetition)
   by (Number n) is none = absurd none
   by (Search pattern kept (Plus k)) is none = none_waits (search rules)
   by (Search pattern kept (Minus k)) is none = some_wait k refl (search rules) (agrees pattern kept k some are is none within)
-waits_by _ ends some within = none_waits refl
+waits_in _ ends some within = none_waits refl
+
+waits_by : {style : Style} {x : List Line} {state : State} (ending : Ending) → EndsAs style x state ending
+    → 1 ≤ state.current → (search_line style.suppress state ≤ suc (length x)) ⊎ (length x < state.current)
+    → Waits style x state ending
+waits_by ending ends some (inl within) = waits_in ending ends some within
+waits_by ending ends some (inr past) = none_left past
 
 -- What is settled is what all continuations agree on.
 
@@ -137,70 +163,63 @@ same_by : (lt le : Bool) (index : ℕ) (one other : Place) → (lt ≡ false →
 same_by lt le index one other same = search rules
 
 -- before the current line all plans that go on agree
-place_front : {suppress : Bool} {lines : List Line} {first : State} {steps : List Step} {last : State} {ending : Ending}
-    → Runs suppress lines first steps last ending
+place_front : {style : Style} {lines : List Line} {first : State} {steps : List Step} {last : State} {ending : Ending}
+    → Runs style lines first steps last ending
     → (total total' index line : ℕ) (more more' : List Step) (how how' : Ending) → first.current ≤ line
     → line < last.current
-    → place_from suppress total index (steps ++ more) how line
-    ≡ place_from suppress total' index (steps ++ more') how' line
-place_front {suppress} (cuts state operand operands matched cut steps' last' ending' is at least within rest) total total' index line more more' how how' from before =
-    same_by (nat_lt line cut) (suppress && nat_le line cut) index _ _
-    (λ lt le. place_front rest total total' (index + 1) line more more' how how' (left_by suppress line cut lt le) before)
+    → place_from style.suppress total index (steps ++ more) how line
+    ≡ place_from style.suppress total' index (steps ++ more') how' line
+place_front {style} (cuts state operand operands matched cut steps' last' ending' is at least within rest) total total' index line more more' how how' from before =
+    same_by (nat_lt line cut) (style.suppress && nat_le line cut) index _ _
+    (λ lt le. place_front rest total total' (index + 1) line more more' how how' (left_by style.suppress line cut lt le) before)
 place_front run total total' index line more more' how how' from before = absurd (omega arith)
 
-current_grows : {suppress : Bool} {lines : List Line} {first : State} {steps : List Step} {last : State}
-    {ending : Ending} → Runs suppress lines first steps last ending → first.current ≤ last.current
-current_grows {suppress} (cuts state operand operands matched cut steps' last' ending' is at least within rest) =
-    omega (arith, current_grows rest, line_some suppress cut)
-current_grows run = omega arith
-
 -- from the current line on, what follows decides
-place_after : {suppress : Bool} {lines : List Line} {first : State} {steps : List Step} {last : State} {ending : Ending}
-    → Runs suppress lines first steps last ending
+place_after : {style : Style} {lines : List Line} {first : State} {steps : List Step} {last : State} {ending : Ending}
+    → Runs style lines first steps last ending
     → (total index line : ℕ) (more : List Step) (how : Ending) → last.current ≤ line
-    → place_from suppress total index (steps ++ more) how line
-    ≡ place_from suppress total (index + length steps) more how line
-place_after {suppress} (cuts state operand operands matched cut steps' last' ending' is at least within rest) total index line more how from =
+    → place_from style.suppress total index (steps ++ more) how line
+    ≡ place_from style.suppress total (index + length steps) more how line
+place_after {style} (cuts state operand operands matched cut steps' last' ending' is at least within rest) total index line more how from =
     search (rules, line_some, current_grows rest, not_less_test, not_left, place_after rest total (index + 1) line more how from)
-place_after {suppress} run total index line more how from = search rules
+place_after {style} run total index line more how from = search rules
 
 -- What is settled of the open section is in it whatever comes
 
-settled_place : {suppress : Bool} (a b : List Line) {last : State} (ending : Ending) → EndsAs suppress a last ending
-    → (more : List Step) (end : State) {how : Ending} → Runs suppress (a ++ b) last more end how
+settled_place : {style : Style} (a b : List Line) {last : State} (ending : Ending) → EndsAs style a last ending
+    → (more : List Step) (end : State) {how : Ending} → Runs style (a ++ b) last more end how
     → {index : ℕ} (line : ℕ) → last.current ≤ line → line < settled_end (length a) ending
-    → place_from suppress (length (a ++ b)) index more how line ≡ in_section index
+    → place_from style.suppress (length (a ++ b)) index more how line ≡ in_section index
 settled_place a b ending ends more end (is_used_up state none) line from before = grind (arith, common_steps)
 settled_place a b ending ends more end (misses state operand operands are none) line from before = grind (arith, common_steps)
-settled_place a b ending ends more end (is_above state operand operands matched cut are at far) line from before = grind (arith, common_steps)
-settled_place a b ending ends more end (is_below state operand operands matched cut are at in_lines low) line from before = grind (arith, common_steps)
+settled_place a b ending ends more end (is_above state operand operands matched cut are at least far) line from before = grind (arith, common_steps)
+settled_place a b ending ends more end (is_below state operand operands matched cut are at low) line from before = grind (arith, common_steps)
 settled_place a b ending ends more end
     (cuts state operand operands matched cut steps' last' ending' are at least in_lines rest) line from before =
     grind (arith, common_steps)
 
 -- where the cut is below the current line all lines go nowhere
 
-nowhere_by : {suppress : Bool} {lines : List Line} {first : State} {operand : Operand} {operands : List Operand}
+nowhere_by : {style : Style} {lines : List Line} {first : State} {operand : Operand} {operands : List Operand}
     (matched cut : ℕ) → first.operands ≡ operand ∷ operands
-    → CutsAt suppress lines first operand operand.target matched cut → cut ≤ length lines → cut < first.current
-    → (more : List Step) (end : State) {how : Ending} → Runs suppress lines first more end how → (index line : ℕ)
-    → place_from suppress (length lines) index more how line ≡ nowhere
-nowhere_by matched cut is at within low more end run index line = search rules
+    → CutsAt style lines first operand operand.target matched cut → cut < first.current
+    → (more : List Step) (end : State) {how : Ending} → Runs style lines first more end how → (index line : ℕ)
+    → place_from style.suppress (length lines) index more how line ≡ nowhere
+nowhere_by matched cut is at low more end run index line = search rules
 
 -- One place for each line that doesn't wait
 
-decided_by : (suppress : Bool) (a b : List Line) {last : State} (ending : Ending) → 1 ≤ last.current
-    → EndsAs suppress a last ending → (line : ℕ) → last.current ≤ line → line ≤ length a
+decided_by : (style : Style) (a b : List Line) {last : State} (ending : Ending) → 1 ≤ last.current
+    → EndsAs style a last ending → (line : ℕ) → last.current ≤ line → line ≤ length a
     → ((is_final ending ≡ false) → settled_end (length a) ending ≤ line → ⊥)
-    → (index : ℕ) (more : List Step) (end : State) {how : Ending} → Runs suppress (a ++ b) last more end how
-    → place_from suppress (length (a ++ b)) index more how line ≡ cond (is_final ending) nowhere (in_section index)
-decided_by suppress a b (missed operand repetition) some is line from within not index more end rest =
+    → (index : ℕ) (more : List Step) (end : State) {how : Ending} → Runs style (a ++ b) last more end how
+    → place_from style.suppress (length (a ++ b)) index more how line ≡ cond (is_final ending) nowhere (in_section index)
+decided_by style a b (missed operand repetition) some is line from within not index more end rest =
     settled_place a b (missed operand repetition) is more end rest line from
     (search (rules, cases_lt))
-decided_by suppress a b {last} (below operand repetition) some (operands, matched, cut, is, at, in_lines, low, often) line from within not index more end rest =
-    nowhere_by matched cut is (search (rules, cuts_still))
-    (omega (arith, length-append a b)) low more end rest index line
-decided_by suppress a b ending some is line from within not index more end rest = settled_place a b ending is more end rest line from (omega arith)
+decided_by style a b {last} (below operand repetition) some (operands, matched, cut, is, at, low, often) line from within not index more end rest =
+    nowhere_by matched cut is (search (rules, cuts_still)) low more end rest index line
+decided_by style a b ending some is line from within not index more end rest = settled_place a b ending is more end rest line from (omega arith)
 
 -- Two places for each that does
 
@@ -218,10 +237,10 @@ in_later suppress total other line (step ∷ steps) how less is =
 
 -- a line after the cut isn't in the section
 
-turned_away : {suppress : Bool} {x : List Line} {state : State} {operand : Operand} (k line : ℕ)
-    → Turned suppress x state operand (suc (length x) - k) → suc (length x) - k ≤ line
-    → (steps : List Step) × (end : State) × (how : Ending) × Runs suppress (x ++ matching) state steps end how
-    × ((index : ℕ) → place_from suppress (length (x ++ matching)) index steps how line ≡ in_section index → ⊥)
+turned_away : {style : Style} {x : List Line} {state : State} {operand : Operand} (k line : ℕ)
+    → Turned style x state operand (suc (length x) - k) → suc (length x) - k ≤ line
+    → (steps : List Step) × (end : State) × (how : Ending) × Runs style (x ++ matching) state steps end how
+    × ((index : ℕ) → place_from style.suppress (length (x ++ matching)) index steps how line ≡ in_section index → ⊥)
 turned_away k line fact from = search (rules, not_less_test, in_later)
 
 -- Places are right: each section has the lines that go into it.
@@ -280,13 +299,12 @@ left_there : (suppress : Bool) (cut line : ℕ) → cut ≤ line → line < line
     → (suppress && nat_le line cut) ≡ true
 left_there suppress cut line from within = grind (arith, nat_tests, from, within)
 
--- the lines before the cut, that at it, and those after it
-step_parts : (suppress : Bool) (lines : List Line) (current cut index s : ℕ) (later : ℕ → Place) → 1 ≤ current
+step_within : (suppress : Bool) (lines : List Line) (current cut index s : ℕ) (later : ℕ → Place) → 1 ≤ current
     → current ≤ cut → cut ≤ length lines
     → lines_into s (places_with suppress index cut later) current (drop (current - 1) lines)
     ≡ lines_into s (places_with suppress index cut later) current (lines_between current cut lines)
     ++ lines_into s later (line_after suppress cut) (drop (line_after suppress cut - 1) lines)
-step_parts suppress lines current cut index s later some least within =
+step_within suppress lines current cut index s later some least within =
     let places = places_with suppress index cut later in
     let next = line_after suppress cut in
     let least_next : cut ≤ next = line_some suppress cut in
@@ -304,37 +322,62 @@ step_parts suppress lines current cut index s later some least within =
     ∙ ap (λ n. lines_into s places n (drop (next - 1) lines)) (let e : cut + length (lines_between cut next lines) ≡ next = omega arith in e)
     ∙ into_same s places later next (drop (next - 1) lines) (search (rules, not_less_test, not_left)))
 
-step_before : (suppress : Bool) (lines : List Line) (current cut : ℕ) {index : ℕ} (later : ℕ → Place) (line : ℕ)
-    → 1 ≤ current → current ≤ cut → cut ≤ length lines → line < current + length (lines_between current cut lines)
-    → places_with suppress index cut later line ≡ in_section index
-step_before suppress lines current cut later line some least within before = grind (arith, common_steps)
+-- where the cut is past the last line
+step_past : (suppress : Bool) (lines : List Line) (current cut index s : ℕ) (later : ℕ → Place) → 1 ≤ current
+    → current ≤ cut → length lines < cut
+    → lines_into s (places_with suppress index cut later) current (drop (current - 1) lines)
+    ≡ lines_into s (places_with suppress index cut later) current (lines_between current cut lines)
+    ++ lines_into s later (line_after suppress cut) (drop (line_after suppress cut - 1) lines)
+step_past suppress lines current cut index s later some least past =
+    let next = line_after suppress cut in
+    let least_next : cut ≤ next = line_some suppress cut in
+    let all : lines_between current cut lines ≡ drop (current - 1) lines =
+    take_all (cut - current) (drop (current - 1) lines) (omega (arith, length-drop (current - 1) lines)) in
+    let none : drop (next - 1) lines ≡ [] = drop_all (next - 1) lines (omega arith) in
+    rw (all, none) (sym (append-nil _))
 
-placed_from : {suppress : Bool} {lines : List Line} {first : State} {steps : List Step} {last : State} {ending : Ending}
-    → Runs suppress lines first steps last ending → 1 ≤ first.current → (index k : ℕ) {s : ℕ} → s ≡ index + k
+-- the lines before the cut, that at it, and those after it
+step_parts : (suppress : Bool) (lines : List Line) (current cut index s : ℕ) (later : ℕ → Place) → 1 ≤ current
+    → current ≤ cut → cut ≤ length lines + 1
+    → lines_into s (places_with suppress index cut later) current (drop (current - 1) lines)
+    ≡ lines_into s (places_with suppress index cut later) current (lines_between current cut lines)
+    ++ lines_into s later (line_after suppress cut) (drop (line_after suppress cut - 1) lines)
+step_parts suppress lines current cut index s later some least near = elim (cases_lt (length lines) cut) [
+  | inl past ↦ step_past suppress lines current cut index s later some least past
+  | inr within ↦ step_within suppress lines current cut index s later some least within
+]
+
+step_before : (suppress : Bool) (lines : List Line) (current cut : ℕ) {index : ℕ} (later : ℕ → Place) (line : ℕ)
+    → 1 ≤ current → current ≤ cut → line < current + length (lines_between current cut lines)
+    → places_with suppress index cut later line ≡ in_section index
+step_before suppress lines current cut later line some least before = grind (arith, common_steps)
+
+placed_from : {style : Style} {lines : List Line} {first : State} {steps : List Step} {last : State} {ending : Ending}
+    → Runs style lines first steps last ending → 1 ≤ first.current → (index k : ℕ) {s : ℕ} → s ≡ index + k
     → get_or
     (map (λ
     (one : Section). one.lines)
     (sections_by true whole_end lines (record { steps = steps; last = last; ending = ending }))) k []
-    ≡ lines_into s (place_from suppress (length lines) index steps ending) first.current
+    ≡ lines_into s (place_from style.suppress (length lines) index steps ending) first.current
     (drop (first.current - 1) lines)
-placed_from {suppress} {lines} (cuts state operand operands matched cut steps' last' ending' is cuts_at least within rest) some index zero {s} at =
-    let later = place_from suppress (length lines) (index + 1) steps' ending' in
-    sym (step_parts suppress lines state.current cut index s later some least within ∙ (grind (
+placed_from {style} {lines} (cuts state operand operands matched cut steps' last' ending' is cuts_at least within rest) some index zero {s} at =
+    let later = place_from style.suppress (length lines) (index + 1) steps' ending' in
+    sym (step_parts style.suppress lines state.current cut index s later some least (omega (arith, within, past_near style operand.target)) ∙ (grind (
       arith,
       common_steps,
-      (into_none s later (line_after suppress cut) (drop (line_after suppress cut - 1) lines)
+      (into_none s later (line_after style.suppress cut) (drop (line_after style.suppress cut - 1) lines)
           (search (rules, in_later))),
     ))
-    ∙ into_all (place_from suppress (length lines) index (step_of state operand matched cut ∷ steps') ending') state.current
+    ∙ into_all (place_from style.suppress (length lines) index (step_of state operand matched cut ∷ steps') ending') state.current
     (lines_between state.current cut lines)
-    (λ line from before. step_before suppress lines state.current cut later line some least within before
+    (λ line from before. step_before style.suppress lines state.current cut later line some least before
     ∙ ap in_section (let e : index ≡ s = omega arith in e)))
-placed_from {suppress} {lines} (cuts state operand operands matched cut steps' last' ending' is cuts_at least within rest) some index (suc k) {s} at =
-    let later = place_from suppress (length lines) (index + 1) steps' ending' in
-    placed_from rest (omega (arith, line_some suppress cut)) (index + 1) k (omega arith)
-    ∙ sym (step_parts suppress lines state.current cut index s later some least within
-    ∙ ap (λ those. those ++ lines_into s later (line_after suppress cut) (drop (line_after suppress cut - 1) lines))
-    (into_none s (place_from suppress (length lines) index (step_of state operand matched cut ∷ steps') ending') state.current
+placed_from {style} {lines} (cuts state operand operands matched cut steps' last' ending' is cuts_at least within rest) some index (suc k) {s} at =
+    let later = place_from style.suppress (length lines) (index + 1) steps' ending' in
+    placed_from rest (omega (arith, line_some style.suppress cut)) (index + 1) k (omega arith)
+    ∙ sym (step_parts style.suppress lines state.current cut index s later some least (omega (arith, within, past_near style operand.target))
+    ∙ ap (λ those. those ++ lines_into s later (line_after style.suppress cut) (drop (line_after style.suppress cut - 1) lines))
+    (into_none s (place_from style.suppress (length lines) index (step_of state operand matched cut ∷ steps') ending') state.current
     (lines_between state.current cut lines)
     (search (rules, step_before, ne_eqb))))
 placed_from {lines} {first} {ending} run some index k at = grind (arith, common_steps, into_all, less_test, into_none, not_less_test, end_is)
@@ -370,34 +413,34 @@ nowhere_by_step : (lt le : Bool) (index : ℕ) {later : Place} (A : Type 0)
     → cond lt (in_section index) (cond le (left_out index) later) ≡ nowhere → A
 nowhere_by_step lt le index A rest same = search rules
 
-nowhere_at : {suppress : Bool} {lines : List Line} {first : State} {steps : List Step} {last : State} {ending : Ending}
-    → Runs suppress lines first steps last ending → (index line : ℕ) → first.current ≤ line → line ≤ length lines
-    → place_from suppress (length lines) index steps ending line ≡ nowhere
+nowhere_at : {style : Style} {lines : List Line} {first : State} {steps : List Step} {last : State} {ending : Ending}
+    → Runs style lines first steps last ending → (index line : ℕ) → first.current ≤ line → line ≤ length lines
+    → place_from style.suppress (length lines) index steps ending line ≡ nowhere
     → (is_final ending ≡ true) × (last.current ≤ line)
-nowhere_at (is_below state operand operands matched cut is cuts_at in_lines low) index line from within same = (refl, from)
-nowhere_at {suppress} (cuts state operand operands matched cut steps' last' ending' is cuts_at least in_lines rest) index line from within same =
-    nowhere_by_step (nat_lt line cut) (suppress && nat_le line cut) index ((is_final ending' ≡ true) × (last'.current ≤ line))
-    (λ lt le later. nowhere_at rest (index + 1) line (left_by suppress line cut lt le) within later) same
+nowhere_at (is_below state operand operands matched cut is cuts_at low) index line from within same = (refl, from)
+nowhere_at {style} (cuts state operand operands matched cut steps' last' ending' is cuts_at least in_lines rest) index line from within same =
+    nowhere_by_step (nat_lt line cut) (style.suppress && nat_le line cut) index ((is_final ending' ≡ true) × (last'.current ≤ line))
+    (λ lt le later. nowhere_at rest (index + 1) line (left_by style.suppress line cut lt le) within later) same
 nowhere_at run index line from within same = absurd (search rules)
 
 -- The plan over the lines that came in
 
-module _ (suppress : Bool) (operands : List Operand) (x : List Line) where
+module _ (style : Style) (operands : List Operand) (x : List Line) where
   abbrev made : Plan
-  made = plan suppress operands x
+  made = plan style operands x
 
-  here : Runs suppress x (start operands) made.steps made.last made.ending
-  here = plan_runs suppress operands x
+  here : Runs style x (start operands) made.steps made.last made.ending
+  here = plan_runs style operands x
 
   inside : AreWithin (length x) made.steps × (1 ≤ made.last.current)
   inside = are_within here (omega arith)
 
-  end_waits : Waits suppress x made.last made.ending
-  end_waits = waits_by made.ending (ends_as here) inside.1 (search_within here (omega arith) (search rules))
+  end_waits : Waits style x made.last made.ending
+  end_waits = waits_by made.ending (ends_as here) inside.1 (search_within here (omega arith) (let e = first_search style.suppress operands in omega arith))
 
   -- What is settled is what all continuations agree on.
 
-  fewest : length (whole_outputs suppress operands (x ++ [])) ≡ length (settled_outputs suppress operands x)
+  fewest : length (whole_outputs style operands (x ++ [])) ≡ length (settled_outputs style operands x)
   fewest = grind (arith, common_steps, append-nil, kept-append)
 
   -- what is settled of the last section
@@ -410,14 +453,14 @@ module _ (suppress : Bool) (operands : List Operand) (x : List Line) where
     comes : CanCome y
     next : Section
     more : List Section
-    are : whole_sections (x ++ y) (plan suppress operands (x ++ y)) ≡ map (section_of x) made.steps ++ next ∷ more
+    are : whole_sections (x ++ y) (plan style operands (x ++ y)) ≡ map (section_of x) made.steps ++ next ∷ more
     kept : is_last_kept made.ending ≡ next.is_kept
     short : length next.lines ≤ length open_lines
 
   -- Such a continuation is there: none at all, or under an offset back one line that the operand finds
 
   decides_by : (y : List Line) (more : List Step) (end : State) {how : Ending} → CanCome y
-      → Runs suppress (x ++ y) made.last more end how → {next : Section} {rest' : List Section}
+      → Runs style (x ++ y) made.last more end how → {next : Section} {rest' : List Section}
       → sections_by true whole_end (x ++ y) (record { steps = more; last = end; ending = how }) ≡ next ∷ rest'
       → is_last_kept made.ending ≡ next.is_kept → length next.lines ≤ length open_lines → Decides
   decides_by y more end {how} comes rest {next} {rest'} are kept short = record {
@@ -430,7 +473,7 @@ module _ (suppress : Bool) (operands : List Operand) (x : List Line) where
     short = short;
   }
 
-  decides : Waits suppress x made.last made.ending → Decides
+  decides : Waits style x made.last made.ending → Decides
   decides (none_waits same) = record {
     y = [];
     comes = none_comes;
@@ -440,6 +483,15 @@ module _ (suppress : Bool) (operands : List Operand) (x : List Line) where
     kept = refl;
     short = search rules;
   }
+  decides (none_left past) = record {
+    y = [];
+    comes = none_comes;
+    next = section (is_last_kept made.ending) true (lines_between made.last.current (whole_end (length x) made.ending) x);
+    more = [];
+    are = search (rules, append-nil);
+    kept = refl;
+    short = search (rules, drop_all);
+  }
   decides (some_wait k kept past (too_low low rest)) =
       decides_by matching _ _ matching_comes rest refl kept
       (let e : length (lines_between made.last.current 0 (x ++ matching)) ≡ 0 = (search rules) in omega arith)
@@ -448,10 +500,10 @@ module _ (suppress : Bool) (operands : List Operand) (x : List Line) where
       (let e : length (lines_between made.last.current (suc (length x) - k) (x ++ matching)) ≡ length open_lines
       = search (rules, between_still, inside) in omega arith)
 
-  pub settled_is_agreed : IsAgreed (whole_outputs suppress operands) x (settled_outputs suppress operands x)
+  pub settled_is_agreed : IsAgreed (whole_outputs style operands) x (settled_outputs style operands x)
   settled_is_agreed =
       let decides = decides end_waits in
-      agreed_as [] decides.y (λ y comes. (search (rules, kept_grow, (plan_grows suppress true whole_end whole_covers operands x y))))
+      agreed_as [] decides.y (λ y comes. (search (rules, kept_grow, (plan_grows style true whole_end whole_covers operands x y))))
       none_comes decides.comes fewest
       (λ place less. search (rules, decides, no_longer))
 
@@ -461,29 +513,30 @@ module _ (suppress : Bool) (operands : List Operand) (x : List Line) where
   abbrev WaitsAt : ℕ → Type 0
   WaitsAt line = (is_final made.ending ≡ false) × (made.last.current ≤ line) × (settled_end (length x) made.ending ≤ line) × (line ≤ length x)
 
-  goes : (y : List Line) → GoesOn suppress operands x y
+  goes : (y : List Line) → GoesOn style operands x y
   goes = plan_goes_on operands x
 
   -- a line after the cuts has one place where it doesn't wait
   place_there : (y : List Line) (line : ℕ) → made.last.current ≤ line → line ≤ length x → (WaitsAt line → ⊥)
-      → place_of suppress operands (x ++ y) line
+      → place_of style operands (x ++ y) line
       ≡ cond (is_final made.ending) nowhere (in_section (0 + length made.steps))
   place_there y line from within not = rw (goes y).is (place_after here (length (x ++ y)) 0 line (goes y).more (goes y).how from
-      ∙ decided_by suppress x y _ inside.1 (ends_as here) line from within
+      ∙ decided_by style x y _ inside.1 (ends_as here) line from within
       (λ live past. not (live, from, past, within)) _ (goes y).more (goes y).end (goes y).rest)
 
   same_line : (y z : List Line) (line : ℕ) → 1 ≤ line → line ≤ length x → (WaitsAt line → ⊥)
-      → place_of suppress operands (x ++ y) line ≡ place_of suppress operands (x ++ z) line
+      → place_of style operands (x ++ y) line ≡ place_of style operands (x ++ z) line
   same_line y z line some within not = elim (cases_lt line made.last.current) [
     | inl before ↦ rw ((goes y).is, (goes z).is) (search (rules, place_front, here, goes))
     | inr from ↦ place_there y line from within not ∙ sym (place_there z line from within not)
   ]
 
   -- the rest as it is puts a line that waits into its section
-  differ_line : (line : ℕ) → WaitsAt line → Waits suppress x made.last made.ending
+  differ_line : (line : ℕ) → WaitsAt line → Waits style x made.last made.ending
       → (y : List Line) × (z : List Line) × CanCome y × CanCome z
-      × (place_of suppress operands (x ++ y) line ≢ place_of suppress operands (x ++ z) line)
+      × (place_of style operands (x ++ y) line ≢ place_of style operands (x ++ z) line)
   differ_line line (live, from, past, within) (none_waits same) = search (rules, ends_after_all)
+  differ_line line (live, from, past, within) (none_left none) = absurd (omega arith)
   differ_line line (live, from, past, within) (some_wait k kept settled agrees) =
       let away = turned_away k line agrees (omega arith) in (
         [],
@@ -491,15 +544,15 @@ module _ (suppress : Bool) (operands : List Operand) (x : List Line) where
         none_comes,
         matching_comes,
         λ same. away.4 (0 + length made.steps)
-            (sym (ap (λ (p : Plan). place_from suppress (length (x ++ matching)) 0 p.steps p.ending line)
+            (sym (ap (λ (p : Plan). place_from style.suppress (length (x ++ matching)) 0 p.steps p.ending line)
             (plan_once (goes_on matching _ _ here away.3))
             ∙ place_after here (length (x ++ matching)) 0 line away.0 away.2 from)
             ∙ rw (append-nil x) at (sym same)
-            ∙ (ap (λ those. place_from suppress (length x) 0 those made.ending line) (sym (append-nil made.steps))
+            ∙ (ap (λ those. place_from style.suppress (length x) 0 those made.ending line) (sym (append-nil made.steps))
             ∙ place_after here (length x) 0 line [] made.ending from ∙ (search rules))),
       )
 
-  undecided_by : (final : Bool) → is_final made.ending ≡ final → IsUndecided (place_of suppress operands) x
+  undecided_by : (final : Bool) → is_final made.ending ≡ final → IsUndecided (place_of style operands) x
       (cond final []
       (drop (settled_end (length x) made.ending - made.last.current) (drop (made.last.current - 1) x)))
   undecided_by true final = search (rules, nothing_waits, same_line, false≢true)
@@ -511,20 +564,20 @@ module _ (suppress : Bool) (operands : List Operand) (x : List Line) where
         are_last = search (rules, take-append-drop, drop-drop);
         differ = λ i past within.
             let (y, z, can, also, apart) = differ_line (i + 1) (search rules) end_waits in
-            (y, z, place_of suppress operands (x ++ y) (i + 1), can, also, refl, λ same. apart (sym same));
+            (y, z, place_of style operands (x ++ y) (i + 1), can, also, refl, λ same. apart (sym same));
         decided = λ i less y z at can also is. sym (same_line y z (i + 1) (omega arith) (search rules) (search rules)) ∙ is;
       }
 
-  pub waiting_is_undecided : IsUndecided (place_of suppress operands) x (waiting_lines x made)
+  pub waiting_is_undecided : IsUndecided (place_of style operands) x (waiting_lines x made)
   waiting_is_undecided = undecided_by (is_final made.ending) refl
 
   -- Places are right.
 
-  pub are_placed : ArePlaced (place_of suppress operands x) suppress made x
+  pub are_placed : ArePlaced (place_of style operands x) style.suppress made x
   are_placed = record {
     sections = λ k. placed_from here (omega arith) 0 k (omega arith);
     cuts = λ line cut some same.
-        let left = left_at suppress (length x) 0 cut line made.steps made.ending same in
+        let left = left_at style.suppress (length x) 0 cut line made.steps made.ending same in
         (left.so, ap (λ n. get_or (map (λ (step : Step). step.cut) made.steps) n 0) (let e : cut ≡ left.k = omega arith in e) ∙ left.is);
     rest = λ line some within same. nowhere_at here 0 line some within same;
   }

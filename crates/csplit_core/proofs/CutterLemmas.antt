@@ -42,16 +42,12 @@ use Rattle.csplit_core.specs.{
   inner.{
     PlanLaws.EndsAs,
     Cutter.{Joins, settled_part, Keeps, KeepsBy, part_at, draft_at, bare, Puts, CutsIn, Arrives, HoldsLines},
-    Cutter.{search_after, CutsNow, WentOn, IsAfter, CutAt, CutsAll, WillCut, IsEnd},
+    Cutter.{search_after, CutsNow, WentOn, IsAfter, CutAt, CutsAll, WillCut, WillSkip, IsEnd},
   },
   Cutter.{kept_by, most_by, text_from, draft_by, settled_draft, CutterState, suppress_in, state_in, IsAt, EndsNow},
   Cutter.{IsLive, IsFit, Leads},
 }
-use Rattle.csplit_core.proofs.{
-  LineLemmas.{all_lines-append, bytes_between, length-all_lines, count-append, count_from, first_still, rest_more},
-  LineLemmas.{from_further, first_further},
-  WholeLemmas.after_within,
-}
+use Rattle.csplit_core.proofs.{LineLemmas.{all_lines-append, bytes_between, length-all_lines, count-append, count_from, first_still, rest_more}, LineLemmas.{from_further, first_further}}
 use Rattle.ports_core.specs.{
   Draft.{Draft, share, made_of, shares_of, draft_part, with_bytes, with_next, told_of_files, size_of_file},
   Slot.Slot,
@@ -72,13 +68,13 @@ use Rattle.ports_core.proofs.{
 -- the sections of the plan, and of the last one what stands before the line that this says
 abbrev pub draft_to : (ℕ → Ending → ℕ) → Style → List Operand → List Line → Draft
 draft_to past style operands lines =
-    let p = plan style.suppress operands lines in
+    let p = plan style operands lines in
     draft_by style lines p.steps (is_last_kept p.ending) (bytes_of (lines_between p.last.current (past (length lines) p.ending) lines))
 
 -- it is the draft of these steps, where the plan ends after them
 pub draft_is : (past : ℕ → Ending → ℕ) (style : Style) (operands : List Operand) (x : List ℕ) {steps : List Step}
     {state : State} {ending : Ending} (taken : ℕ) {written : List ℕ}
-    → Runs style.suppress (all_lines x) (start operands) steps state ending
+    → Runs style (all_lines x) (start operands) steps state ending
     → taken ≡ past (line_count newline x) ending - state.current
     → written ≡ first_lines newline taken (text_from state.current x)
     → draft_by style (all_lines x) steps (kept_by state.operands) written ≡ draft_to past style operands (all_lines x)
@@ -128,14 +124,14 @@ final_count total current ending past = search rules
 -- the sections that ended stay, whatever comes
 pub ended_still : (style : Style) (operands : List Operand) {x : List ℕ} (t : List ℕ) {steps : List Step}
     {state : State} {ending : Ending} (kept : Bool) (written : List ℕ) → Joins x t
-    → Runs style.suppress (all_lines x) (start operands) steps state ending
+    → Runs style (all_lines x) (start operands) steps state ending
     → draft_by style (all_lines x) steps kept written ≡ draft_by style (all_lines (x ++ t)) steps kept written
 ended_still style operands t kept written whole runs = search (rules, are_within, all_lines-append, closed_still)
 
 -- as many lines may wait as the next operand says
-pub most_is : (suppress : Bool) (lines : List Line) (state : State) (ending : Ending)
-    → EndsAs suppress lines state ending → is_final ending ≡ false → most_by state.operands ≡ most_waiting ending
-most_is suppress lines state ending none live = search rules
+pub most_is : (style : Style) (lines : List Line) (state : State) (ending : Ending)
+    → EndsAs style lines state ending → is_final ending ≡ false → most_by state.operands ≡ most_waiting ending
+most_is style lines state ending none live = search rules
 
 -- one call after another
 pub keeps_on : {given : List Operand} {made : Style} {writer : WriterState} {two three : CutterState}
@@ -165,33 +161,47 @@ settled_same x keeps = search rules
 -- the plan up to where the cutter stands
 pub runs_to : {cutter : CutterState} {x left : List ℕ} (at : IsAt cutter x left) {aim : Attempt}
     (ends : EndsNow (record cutter { aim = aim }) x)
-    → Runs (suppress_in cutter) (all_lines x) (start cutter.operands) at.steps (state_in cutter) ends.ending
+    → Runs cutter.style (all_lines x) (start cutter.operands) at.steps (state_in cutter) ends.ending
 runs_to at ends = search rules
 
--- more lines came in, and nothing was done with them yet
-unfoldable pub at_more : {cutter : CutterState} {lines : ℕ} {x : List ℕ} (t : List ℕ) {left : List ℕ} → Joins x t
+-- more lines came in, which are left but for one that is left out, and nothing was done with them yet
+unfoldable pub at_more : {cutter : CutterState} {lines : ℕ} {x : List ℕ} (t more : List ℕ) {left : List ℕ} → Joins x t
     → 1 ≤ cutter.progress.current → (at : IsAt cutter x left) {aim : Attempt}
     → EndsNow (record cutter { aim = aim }) x → lines ≡ line_count newline (x ++ t)
-    → IsAt (bare (record cutter { lines = lines })) (x ++ t) (left ++ t)
-at_more {cutter} t whole some at ends count =
+    → left ++ more ≡ text_from (cutter.progress.current + at.taken) (x ++ t)
+    → IsAt (bare (record cutter { lines = lines })) (x ++ t) (left ++ more)
+at_more {cutter} t more whole some at ends count left_is =
     let e = all_lines-append t whole in record {
       steps = at.steps;
       leads = search (rules, goes_on, runs_to);
       counted = count;
       taken = at.taken;
       written = at.written;
-      few = omega (arith, count-append t whole);
-      written_is = search (rules, first_still);
-      left_is = ap (λ those. those ++ t) at.left_is ∙ rest_more (cutter.progress.current + at.taken) t whole (omega arith) at.few;
+      few = omega (arith, at.few, count-append t whole);
+      written_is = at.written_is ∙ sym (first_still at.taken cutter.progress.current t whole some at.few);
+      left_is = left_is;
       writes = subst (Writes (manner_of cutter.style) cutter.writer) (search (rules, ended_still, runs_to)) at.writes;
     }
 
-pub part_more : {cutter : CutterState} {lines : ℕ} {x : List ℕ} (t : List ℕ) {left : List ℕ} (whole : Joins x t)
+pub part_more : {cutter : CutterState} {lines : ℕ} {x : List ℕ} (t more : List ℕ) {left : List ℕ} (whole : Joins x t)
     (some : 1 ≤ cutter.progress.current) (at : IsAt cutter x left) {aim : Attempt}
     (ends : EndsNow (record cutter { aim = aim }) x)
-    (count : lines ≡ line_count newline (x ++ t)) → part_at at ≡ part_at (at_more t whole some at ends count)
+    (count : lines ≡ line_count newline (x ++ t))
+    (left_is : left ++ more ≡ text_from (cutter.progress.current + at.taken) (x ++ t))
+    → part_at at ≡ part_at (at_more t more whole some at ends count left_is)
 unfolding at_more
-part_more {cutter} t whole some at ends count = search (rules, ended_still, runs_to)
+part_more {cutter} t more whole some at ends count left_is = search (rules, ended_still, runs_to)
+
+-- all of them are left, unless the first is left out
+pub all_left : {cutter : CutterState} {x : List ℕ} (t : List ℕ) {left : List ℕ} → Joins x t
+    → 1 ≤ cutter.progress.current → (at : IsAt cutter x left) → (WillSkip cutter → t ≡ [])
+    → left ++ t ≡ text_from (cutter.progress.current + at.taken) (x ++ t)
+all_left {cutter} {x} t {left} whole some at none = elim (cases_lt (cutter.lines + 1) cutter.progress.current) [
+  | inl skips ↦ rw (none skips) (search (rules, append-nil, at.left_is))
+  | inr near ↦ ap (λ those. those ++ t) at.left_is
+      ∙ rest_more (cutter.progress.current + at.taken) t whole (omega arith)
+      (let few = at.few in let count = at.counted in omega arith)
+]
 
 -- what is written of the open section, where all but the last lines that may wait are taken, is what is settled
 pub live_taken : {cutter : CutterState} {x : List ℕ} (live : IsLive cutter x)
@@ -211,7 +221,7 @@ pub left_count : {cutter : CutterState} {x left : List ℕ} (at : IsAt cutter x 
 left_count at = search (rules, count_from)
 
 pub few_taken : {cutter : CutterState} {x left : List ℕ} (at : IsAt cutter x left)
-    → cutter.progress.current + at.taken ≤ cutter.lines + 1
+    → at.taken ≤ cutter.lines + 1 - cutter.progress.current
 few_taken at = search rules
 
 -- with the first lines of those that were left more is written, and the lines after them are left
@@ -435,24 +445,24 @@ open_at lines last ending = section (is_last_kept ending) false
     (lines_between last.current (settled_end (length lines) ending) lines)
 
 settled_by_plan : (style : Style) (operands : List Operand) {lines : List Line} {steps : List Step} {last : State}
-    {ending : Ending} → Runs style.suppress lines (start operands) steps last ending
+    {ending : Ending} → Runs style lines (start operands) steps last ending
     → settled_of style operands lines ≡ part_of style (map (section_of lines) steps ++ open_at lines last ending ∷ [])
 settled_by_plan style operands runs = search (rules, plan_once, runs)
 
 -- the first of what follows is kept as the next operand says
-head_kept : {suppress : Bool} {lines : List Line} {state : State} {more : List Step} {last : State} {ending : Ending}
-    → Runs suppress lines state more last ending → (one : Section) × (rest : List Section)
+head_kept : {style : Style} {lines : List Line} {state : State} {more : List Step} {last : State} {ending : Ending}
+    → Runs style lines state more last ending → (one : Section) × (rest : List Section)
     × (map (section_of lines) more ++ open_at lines last ending ∷ [] ≡ one ∷ rest)
     × (kept_by state.operands ≡ one.is_kept)
 head_kept (is_used_up state none) = (_, _, refl, ap kept_by none)
 head_kept (misses state operand those is none) = (_, _, refl, ap kept_by is)
-head_kept (is_above state operand those matched cut is at far) = (_, _, refl, ap kept_by is)
-head_kept (is_below state operand those matched cut is at within low) = (_, _, refl, ap kept_by is)
+head_kept (is_above state operand those matched cut is at from far) = (_, _, refl, ap kept_by is)
+head_kept (is_below state operand those matched cut is at low) = (_, _, refl, ap kept_by is)
 head_kept (cuts state operand those matched cut steps last ending is at from within rest) = (_, _, refl, ap kept_by is)
 
 begun_by : (style : Style) (operands : List Operand) {lines : List Line} (steps : List Step) {state : State}
-    (more : List Step) {last : State} {ending : Ending} → Runs style.suppress lines state more last ending
-    → Runs style.suppress lines (start operands) (steps ++ more) last ending
+    (more : List Step) {last : State} {ending : Ending} → Runs style lines state more last ending
+    → Runs style lines (start operands) (steps ++ more) last ending
     → Begins (draft_part (manner_of style) (draft_by style lines steps (kept_by state.operands) []))
     (settled_of style operands lines)
 begun_by style operands {lines} steps {state} more {last} {ending} rest all =
@@ -471,7 +481,7 @@ step_at cutter operand cut = step_of (state_in cutter) operand cut.matched cut.l
 
 leads_on : {cutter : CutterState} {x left : List ℕ} (at : IsAt cutter x left) (cut : CutPoint)
     (goes : CutsIn cutter x cut)
-    → Leads (suppress_in cutter) (all_lines x) cutter.operands (at.steps ++ step_at cutter goes.operand cut ∷ [])
+    → Leads cutter.style (all_lines x) cutter.operands (at.steps ++ step_at cutter goes.operand cut ∷ [])
     (state_after (suppress_in cutter) goes.operand goes.operands cutter.progress.repetition cut.matched cut.line)
 leads_on {cutter} at cut goes more last ending run =
     rw (← append_assoc at.steps (step_at cutter goes.operand cut ∷ []) more)
@@ -536,7 +546,7 @@ module _ {cutter : CutterState} {cut : CutPoint} {place n : ℕ} {left before : 
   cut_begins {x} {at = at} now =
       let state = state_after (suppress_in cutter) now.goes.operand now.goes.operands cutter.progress.repetition cut.matched cut.line in
       let some : 1 ≤ state.current = (search (rules, line_some)) in
-      let rest = runs_on cutter.style.suppress (all_lines x) state some in
+      let rest = runs_on cutter.style (all_lines x) state some in
       subst (λ draft. Begins (draft_part (manner_of cutter.style) draft) (settled_part cutter x))
       (sym (cut_draft now (kept_by state.operands)))
       (begun_by cutter.style cutter.operands _ _ rest (leads_on at cut now.goes _ _ _ rest))
@@ -612,7 +622,7 @@ module _ {told : Bool} {cutter mid : CutterState} {writer next : WriterState} {c
           counted = at.counted;
           taken = 0;
           written = [];
-          few = omega (arith, after_within (suppress_in cutter) cut.line cutter.lines will.within);
+          few = omega arith;
           written_is = search (rules, first_lines-zero);
           left_is = rest_from (suppress_in cutter) all cut.line x (omega arith) left_after skipped whole
               ∙ (search rules);

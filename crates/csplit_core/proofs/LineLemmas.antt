@@ -1,6 +1,6 @@
 -- Lines of a text as operands see them, their bytes, and what follows the last newline, where more bytes come.
 use Rattle.std.proofs.{
-  Common.{◌≡◌, inl, inr, ℕ, ◌+◌, ◌-◌, ◌<◌, ◌≤◌, List, [], ◌∷◌, ◌++◌, length, map, take, drop, refl, sym},
+  Common.{◌≡◌, inl, inr, ℕ, zero, suc, ◌+◌, ◌-◌, ◌<◌, ◌≤◌, List, [], ◌∷◌, ◌++◌, length, map, take, drop, refl, sym},
   Common.{◌∙◌, ap, arith, length-append, Bool, true, false, append_assoc, take-add, rules},
   lemmas.Bool.{cases_lt, cases_eq, eq-eqb, ne_eqb},
   lemmas.List.{take-append-drop, map-append, take-map, drop-map, length-map, length-drop, drop_all, drop-append-le},
@@ -88,13 +88,23 @@ rest_is {n} {x} end ends = search (rules, length-take-le, after_lines-is_drop)
 -- the first lines from a line on
 
 -- what follows complete lines changes nothing among them
-pub first_still : (n first : ℕ) {x : List ℕ} (t : List ℕ) → Joins x t → 1 ≤ first → first + n ≤ line_count newline x + 1
+first_within : (n first : ℕ) {x : List ℕ} (t : List ℕ) → Joins x t → 1 ≤ first → first + n ≤ line_count newline x + 1
     → first_lines newline n (text_from first (x ++ t)) ≡ first_lines newline n (text_from first x)
-first_still n first t whole some within = search (rules, length-drop, lines_of-after_lines, lines-append, drop-append-le, take-append-le)
+first_within n first t whole some within = search (rules, length-drop, lines_of-after_lines, lines-append, drop-append-le, take-append-le)
+
+pub first_still : (n first : ℕ) {x : List ℕ} (t : List ℕ) → Joins x t → 1 ≤ first
+    → n ≤ line_count newline x + 1 - first
+    → first_lines newline n (text_from first (x ++ t)) ≡ first_lines newline n (text_from first x)
+first_still zero first {x} t whole some within = first_lines-zero newline (text_from first (x ++ t)) ∙ sym (first_lines-zero newline (text_from first x))
+first_still (suc n) first t whole some within = first_within (suc n) first t whole some (omega arith)
 
 pub rest_more : (first : ℕ) {x : List ℕ} (t : List ℕ) → Joins x t → 1 ≤ first → first ≤ line_count newline x + 1
     → text_from first x ++ t ≡ text_from first (x ++ t)
 rest_more first t fact some within = search (rules, after_lines-append, whole_count, append-nil)
+
+-- past the last line nothing follows
+pub none_from : (first : ℕ) (x : List ℕ) → line_count newline x < first → text_from first x ≡ []
+none_from first x past = ap joined (drop_all (first - 1) (lines_of newline x) (omega arith))
 
 pub from_further : (first n : ℕ) (x : List ℕ) → 1 ≤ first
     → after_lines newline n (text_from first x) ≡ text_from (first + n) x

@@ -46,9 +46,10 @@ use Rattle.csplit_core.proofs.{
 use Rattle.csplit_core.specs.{
   Csplit.{settled_of, verdict_of, waiting, csplit_means, csplit_work, verdict_by},
   Input.{newline, all_lines, open_line},
-  Operand.{Operand, Line},
+  Operand.{Operand, Line, Target, Number, Search},
   Output.{Style, manner_of, opening_of, sizes_wanted},
-  Plan.{start, below, missed, above},
+  Plan.{start, below, missed, above, past_last},
+  Measure.Moves,
   Planned.{plan, Plan},
   laws.{PlanLaws.{plan_runs, plan_once}, SectionLaws.{ends_as, are_within, closed_still, ends_with as whole_grows}},
   Progress.EndsHere,
@@ -58,7 +59,7 @@ use Rattle.csplit_core.specs.{
   inner.PlanLaws.{EndsAs, AreWithin},
   Section.{is_final, whole_end, whole_sections},
   declared.progress.{Progress.Progress, Attempt.{Attempt, TheVariants.{Below, Missed, Above}}},
-  Cutter.{CutterState, most_by, pattern_by, kept_by, settled_draft, IsFit, Stands, suppress_in, state_in, IsLive},
+  Cutter.{CutterState, most_by, pattern_by, kept_by, settled_draft, IsFit, Stands, state_in, IsLive},
   Cutter.{IsPast, IsSound},
   CsplitState.{CsplitState, Holds, whole_lines, IsReady, Owns, terms, files, work},
 }
@@ -99,13 +100,18 @@ first_writes style = search (rules, first_manner)
 abbrev pub first_progress : Progress
 first_progress = record { done = 0; repetition = 0; current = 1; matched = 0 }
 
-abbrev SaysFirst : Bool → List Operand → Attempt → Type 0
-SaysFirst suppress operands attempt = (lines : List Line) → AreSeen suppress lines 0 (start operands) false →
-    AgreesWithPlan suppress lines (start operands) attempt
+abbrev SaysFirst : Style → List Operand → Attempt → Type 0
+SaysFirst style operands attempt = (lines : List Line) → AreSeen style.suppress lines 0 (start operands) false →
+    AgreesWithPlan style lines (start operands) attempt
 
-first_ends : {suppress : Bool} (operands : List Operand) {attempt : Attempt} → SaysFirst suppress operands attempt
-    → MovesOn operands 0 first_progress attempt → EndsHere suppress [] (start operands) attempt
-first_ends operands {attempt} says moves = search (rules, attempt_ends)
+no_first_cut : (style : Style) (operands : List Operand) (target : Target) (matched cut : ℕ)
+    → Moves 0 (start operands) target matched cut → 1 ≤ cut → cut ≤ past_last style target → ⊥
+no_first_cut style operands (Number n) matched cut moves some within = omega arith
+no_first_cut style operands (Search pattern kept offset) matched cut moves some within = omega arith
+
+first_ends : {style : Style} (operands : List Operand) {attempt : Attempt} → SaysFirst style operands attempt
+    → MovesOn style operands 0 first_progress attempt → EndsHere style [] (start operands) attempt
+first_ends operands {attempt} says moves = search (rules, attempt_ends, no_first_cut)
 
 -- The cutter that was opened
 
@@ -123,7 +129,7 @@ first_cutter operands style writer aim = record {
 
 first_stands : (operands : List Operand) (style : Style) {writer : WriterState} {aim : Attempt}
     → Writes (manner_of style) writer (first_draft style (kept_by operands))
-    → (ends : EndsHere style.suppress [] (start operands) aim) → (final : Bool) → is_final ends.ending ≡ final
+    → (ends : EndsHere style [] (start operands) aim) → (final : Bool) → is_final ends.ending ≡ final
     → Stands (first_cutter operands style writer aim) []
 first_stands operands style writes ends false live = inl (record {
   at = record {
@@ -146,7 +152,7 @@ first_stands operands style writes ends true past = search (rules, plan_once, fi
 pub first_opened : (told : Bool) {style : Style} {operands : List Operand} {old new : List Slot} {writer : WriterState}
     (aim : Attempt) → 2 ≤ length old
     → Goes told (writer_for style) (with_next (opening_of style (kept_by operands))) old new writer None
-    → size_of writer.current ≡ 0 → SaysFirst style.suppress operands aim → MovesOn operands 0 first_progress aim
+    → size_of writer.current ≡ 0 → SaysFirst style operands aim → MovesOn style operands 0 first_progress aim
     → Opened told style operands old new (first_cutter operands style writer aim)
 first_opened told {style} {operands} {old} {new} {writer} aim two begun none says moves =
     let ends = first_ends operands says moves in
@@ -256,9 +262,9 @@ end_short {cutter = cutter} fit all goes =
 -- The verdict with which the work ends, from where the cutter stands.
 
 of_it : {cutter : CutterState} {x : List ℕ} → IsJudged cutter x
-    → EndsAs (suppress_in cutter) (all_lines x) (state_in cutter) (plan_in cutter x).ending
+    → EndsAs cutter.style (all_lines x) (state_in cutter) (plan_in cutter x).ending
 of_it {cutter} {x} judged =
-    rw (← judged.last) at (ends_as (plan_runs (suppress_in cutter) cutter.operands (all_lines x)))
+    rw (← judged.last) at (ends_as (plan_runs cutter.style cutter.operands (all_lines x)))
 
 -- the verdict on the next operand, by what it did
 abbrev pub verdict_at : Attempt → Operand → ℕ → Option Verdict
@@ -371,10 +377,10 @@ past_end {cutter} {x} t whole past = grind (
   arith,
   common_steps,
   past_plan
-      (suppress_in cutter) cutter.operands t whole past.past,
+      cutter.style cutter.operands t whole past.past,
   all_lines-append t (inl whole),
   final_sections
-      (all_lines x) (all_lines t) (plan_in cutter x) (are_within (plan_runs (suppress_in cutter) cutter.operands
+      (all_lines x) (all_lines t) (plan_in cutter x) (are_within (plan_runs cutter.style cutter.operands
       (all_lines x)) (omega arith)).0 past.past,
 )
 
@@ -593,11 +599,11 @@ module _ (stage : CsplitState) (x : List ℕ) (holds : Holds stage x) where
 
   pub verdict_then : {next : CutterState} {old new : List Slot} {fault : Option Fault}
       → Keeps stage.cutter next old new fault
-      → verdict_of (plan (suppress_in next) next.operands (all_lines (whole_lines x ++ stage.rest))).ending
+      → verdict_of (plan next.style next.operands (all_lines (whole_lines x ++ stage.rest))).ending
       ≡ (work stage).verdict x
   verdict_then keeps =
-      same_by (λ style operands. verdict_by style.suppress operands (whole_lines x ++ stage.rest)) keeps
-      ∙ all_then (verdict_by (suppress_in stage.cutter) stage.cutter.operands)
+      same_by (λ style operands. verdict_by style operands (whole_lines x ++ stage.rest)) keeps
+      ∙ all_then (verdict_by stage.cutter.style stage.cutter.operands)
       (λ t. search (rules, past_plan, lines_whole)) (below_or_not stage.cutter.aim)
 
 module _ (told : Bool) (stage next : CsplitState) (old new : List Slot) where

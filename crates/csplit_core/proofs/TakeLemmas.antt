@@ -1,12 +1,6 @@
 -- Taking lines in, one by one and stretch by stretch, and cutting them as often as operands cut.
-use Rattle.std.proofs.{
-  lemmas.{Grind.common_steps, Bool.{false≢true, cases_lt}},
-  Common.{◌≡◌, ◌⊎◌, inl, inr, ℕ, ◌+◌, ◌-◌, ◌≤◌, Bool, true, Option, Some, None, List, [], ◌∷◌, ◌++◌, length},
-  Common.{refl, sym, ◌∙◌, ap, subst, arith, append_assoc, length-append, IfSome, Ok, Err, take, drop, eqb, Result},
-  Common.{take_all, append-nil, take-append-drop, length-drop, length-take-le, drop_at, take_at, drop-drop, is_some},
-  Common.{IfOk, rules},
-}
-use Rattle.std.proofs.{lemmas.List.drop-append-le, Math.Seq.take-append-add}
+use Rattle.std.proofs.{lemmas.{Grind.common_steps, Bool.{false≢true, cases_lt}}, Common.{◌≡◌, ◌⊎◌, inl, inr, ℕ, ◌+◌, ◌-◌, ◌≤◌, Bool, true, Option, Some, None, List, [], ◌∷◌, ◌++◌, length}, Common.{refl, sym, ◌∙◌, ap, subst, arith, append_assoc, length-append, IfSome, Ok, Err, take, drop, eqb, Result}, Common.{take_all, append-nil, take-append-drop, length-drop, length-take-le, drop_at, take_at, drop-drop, is_some}, Common.{IfOk, rules}}
+use Rattle.std.proofs.{lemmas.List.{drop-append-le, drop_all}, Math.Seq.take-append-add}
 use Rattle.seg_core.{
   specs.{Line.{line_count, delimiters, ends_with}, Window.Window},
   proofs.EndLines.line_count-grows,
@@ -27,24 +21,25 @@ use Rattle.ports_core.{
 }
 use Rattle.csplit_core.specs.{
   Input.{newline, all_lines, without_newline},
-  Operand.Operand,
-  Plan.CutsAt,
+  Operand.{Line, Number, Operand, Search, Target},
+  Plan.{State, Ending, used_up, missed, above, below, CutsAt, search_line, past_last},
+  inner.PlanLaws.EndsAs,
   Output.{Style, manner_of},
   Planned.{Plan, plan},
   laws.{PlanLaws.plan_runs, SectionLaws.{ends_as, cuts_from, grows}},
   inner.Cutter.{CutsIn, bare, IsFound, settled_part, part_at, IsWhole, IsLine, Joins, Arrives, Held, HoldsLines},
   inner.Cutter.{CutsNow, CutsAll, WillCut, TriesNext, Takes, IsNextFound, Stretches, IsEnd, Tries, IsAfter, CutAt},
-  inner.Cutter.{Spreading, Spread, PassesOver, Starts, StopsAt, CutsOn, PassesThenHolds},
+  inner.Cutter.{Spreading, Spread, WillSkip, PassesOver, Starts, StopsAt, CutsOn, PassesThenHolds},
   Section.{is_final, most_waiting, settled_end},
   declared.{line_cutter.{CutPoint.CutPoint, Passed.Passed}, progress.Attempt.{Attempt, TheVariants.Below}},
-  Cutter.{CutterState, suppress_in, state_in, settled_draft, draft_by, IsFit, IsSound, IsAt, IsLive, IsPast, Stands},
+  Cutter.{CutterState, state_in, text_from, settled_draft, draft_by, IsFit, IsSound, IsAt, IsLive, IsPast, Stands},
   Cutter.{EndsNow, kept_by},
 }
 use Rattle.csplit_core.proofs.{
-  CutterLemmas.{at_more, part_more, live_part, left_count, few_taken, live_taken, settled_part_is, most_is, draft_is},
+  CutterLemmas.{at_more, part_more, all_left, live_part, left_count, few_taken, live_taken, settled_part_is, most_is, draft_is},
   CutterLemmas.{final_count, ended_still, keeps_on, reaches_then, settled_same},
   LineLemmas.{all_lines-append, all_lines-line, length-all_lines, count-line, whole_count, whole_from, whole-append},
-  LineLemmas.{whole_drop, rest_all},
+  LineLemmas.{whole_drop, rest_all, none_from, rest_more},
   TryLemmas.stays,
 }
 
@@ -52,10 +47,10 @@ use Rattle.csplit_core.proofs.{
 
 live_before : {cutter : CutterState} {x : List ℕ} (t : List ℕ) (live : IsLive cutter x) {operand : Operand}
     {operands : List Operand} (matched cut : ℕ) → (state_in cutter).operands ≡ operand ∷ operands
-    → CutsAt (suppress_in cutter) (all_lines x ++ all_lines t) (state_in cutter) operand operand.target matched cut
+    → CutsAt cutter.style (all_lines x ++ all_lines t) (state_in cutter) operand operand.target matched cut
     → settled_end (line_count newline x) live.ends.ending ≤ cut
 live_before {cutter} {x} t live matched cut are at =
-    let so = cuts_from (suppress_in cutter) (all_lines x) (all_lines t) (state_in cutter) live.ends.ending (ends_as live.ends.runs) are in
+    let so = cuts_from cutter.style (all_lines x) (all_lines t) (state_in cutter) live.ends.ending (ends_as live.ends.runs) are in
     rw (length-all_lines x) at (so.1 matched cut at)
 
 place_before : {cutter : CutterState} {x : List ℕ} (t : List ℕ) (cut : CutPoint) (live : IsLive cutter x) → IsWhole x
@@ -88,15 +83,25 @@ pub record Reached (low : Part) (cutter : CutterState) (x left : List ℕ) : Typ
   pub arrives : Arrives cutter at
   pub same : low ≡ part_at at
 
-pub took_held : {told : Bool} {cutter next : CutterState} {lines : ℕ} {aim : Attempt} {t : List ℕ} {old new : List Slot}
-    {fault : Option Fault} → IsSound (more_lines cutter lines aim) → IsFit cutter → (cutter.aim ≡ Below → ⊥)
-    → lines ≤ cutter.lines + length t
+low_taken : {cutter : CutterState} {x : List ℕ} (t : List ℕ) (live : IsLive cutter x) → IsWhole x → (ending : Ending)
+    → EndsAs cutter.style (all_lines (x ++ t)) (state_in cutter) ending → is_final ending ≡ true → live.at.taken ≡ 0
+low_taken t live whole used_up ends final = absurd (false≢true final)
+low_taken t live whole (missed operand repetition) ends final = absurd (false≢true final)
+low_taken t live whole (above operand repetition matched cut) ends final = absurd (false≢true final)
+low_taken t live whole (below operand repetition) (operands, matched, cut, are, at, low, often) final =
+    omega (arith, live_taken live, live_before t live matched cut are (rw (all_lines-append t (inl whole)) at at))
+
+pub took_held : {told : Bool} {cutter next : CutterState} {lines : ℕ} {aim : Attempt} {t : List ℕ} (more : List ℕ)
+    {old new : List Slot} {fault : Option Fault} → IsSound (more_lines cutter lines aim) → IsFit cutter → (cutter.aim ≡ Below → ⊥)
+    → lines ≤ cutter.lines + length t → length more ≤ length t
+    → ((x : List ℕ) → IsWhole x → (live : IsLive cutter x)
+    → cutter.window.held ++ more ≡ text_from (cutter.progress.current + live.at.taken) (x ++ t))
     → ((x : List ℕ) → IsWhole x → IsLive cutter x
     → (lines ≡ line_count newline (x ++ t)) × EndsNow (more_lines cutter lines aim) (x ++ t))
-    → HoldsLines told (more_lines cutter lines aim) (cutter.window.held ++ t) old new next fault
+    → HoldsLines told (more_lines cutter lines aim) (cutter.window.held ++ more) old new next fault
     → Takes told cutter t old new next fault
 unfolding at_more
-took_held {cutter = cutter} {next} {lines} {aim} {t} {fault = fault} sound fit differs few ends held = record {
+took_held {cutter = cutter} {next} {lines} {aim} {t} more {fault = fault} sound fit differs few short left ends held = record {
   keeps = held.keeps;
   reaches = λ x whole stands. let there = reached x whole stands in reaches_as there.same refl (held.reaches (x ++ t) there.at there.arrives);
   went = where_well fault held.went (λ went. record {
@@ -106,24 +111,39 @@ took_held {cutter = cutter} {next} {lines} {aim} {t} {fault = fault} sound fit d
   });
 } where
   reached : (x : List ℕ) → IsWhole x → Stands cutter x
-      → Reached (settled_part cutter x) (more_lines cutter lines aim) (x ++ t) (cutter.window.held ++ t)
+      → Reached (settled_part cutter x) (more_lines cutter lines aim) (x ++ t) (cutter.window.held ++ more)
   reached x whole stands =
       let live = live_of differs stands in
       let there = ends x whole live in
       let few = few_taken live.at in
       let most : cutter.window.most ≡ most_waiting live.ends.ending = search (rules, most_is, ends_as) in
       let either : (live.at.taken ≡ 0) ⊎ (most_waiting live.ends.ending ≤ line_count newline cutter.window.held) =
-      (grind (arith, common_steps, cases_lt, fit.fits.some, few, live.settled, (left_count live.at))) in record {
-        at = at_more t (inl whole) fit.fits.some live.at live.ends there.0;
+      (let settled = live.settled in let some = fit.fits.some in
+      elim (cases_lt (most_waiting live.ends.ending) (cutter.lines + 1 - cutter.progress.current)) [
+        | inl some' ↦ inr (omega (arith, left_count live.at))
+        | inr none ↦ inl (omega arith)
+      ]) in record {
+        at = at_more t more (inl whole) fit.fits.some live.at live.ends there.0 (left x whole live);
         arrives = record {
           ends = there.1;
-          low = grind (arith, common_steps, ends_as, live_before, all_lines-append, live_taken, false≢true);
+          low = low_taken t live whole there.1.ending (ends_as there.1.runs);
           enough = search (rules, either, most, line_count-grows);
         };
-        same = sym (live_part live) ∙ part_more t (inl whole) fit.fits.some live.at live.ends there.0;
+        same = sym (live_part live) ∙ part_more t more (inl whole) fit.fits.some live.at live.ends there.0 (left x whole live);
       }
 
 -- Once a line came that is cut.
+
+-- it isn't left out
+search_from : (suppress : Bool) (state : State) → state.current ≤ search_line suppress state
+search_from suppress state = search rules
+
+cut_near : (style : Style) (lines : List Line) (state : State) (operand : Operand) (target : Target) (matched cut : ℕ)
+    → CutsAt style lines state operand target matched cut → state.current ≤ cut
+    → cut ≤ length lines + past_last style target → state.current ≤ length lines
+cut_near style lines state operand (Number n) matched cut at from within = omega arith
+cut_near style lines state operand (Search pattern kept offset) matched cut at from within =
+    let first = at.0 in omega (arith, first.not_before, first.within, search_from style.suppress state)
 
 line_has : (line : List ℕ) → IsLine line → 1 ≤ length line
 line_has line one = grind (arith, common_steps)
@@ -158,6 +178,10 @@ take_cut {told} {cutter} {mid} {next} line more {cut} {old} {new} {fault} fit di
       let live = live_of differs stands in
       let cuts = tries x whole live in
       let count : cutter.lines + 1 ≡ line_count newline (x ++ line) = search (rules, count-line) in
+      let near : cutter.progress.current ≤ cutter.lines + 1 =
+      (let e = cut_near cutter.style (all_lines (x ++ line)) (state_in cutter) cuts.0.operand cuts.0.operand.target cut.matched cut.line cuts.0.cuts cuts.0.from cuts.0.within in
+      omega (arith, length-all_lines (x ++ line))) in
+      let left_is = all_left line (inl whole) fit.fits.some live.at (λ skips. absurd (omega arith)) in
       let place : cutter.lines + 1 - delimiters newline cutter.window.held ≡ cutter.progress.current + live.at.taken =
       (let s = fit.fits.some in omega (
         arith,
@@ -166,7 +190,7 @@ take_cut {told} {cutter} {mid} {next} line more {cut} {old} {new} {fault} fit di
             (subst IsWhole (sym live.at.left_is) (search (rules, whole_from))),
         few_taken live.at,
       )) in (
-        at_more line (inl whole) fit.fits.some live.at live.ends count,
+        at_more line line (inl whole) fit.fits.some live.at live.ends count left_is,
         record {
           last = (search (rules, all_lines-line, whole-append));
           near = search rules;
@@ -174,31 +198,31 @@ take_cut {told} {cutter} {mid} {next} line more {cut} {old} {new} {fault} fit di
           before = omega (arith, place_before line cut live whole cuts.0 (rw is at will).from);
           goes = cuts.0;
         },
-        sym (live_part live) ∙ part_more line (inl whole) fit.fits.some live.at live.ends count,
+        sym (live_part live) ∙ part_more line line (inl whole) fit.fits.some live.at live.ends count left_is,
       )
 
 -- Where the cut is below the current line, later lines go nowhere.
 
-pub past_plan : (suppress : Bool) (operands : List Operand) {x : List ℕ} (t : List ℕ) → IsWhole x
-    → is_final (plan suppress operands (all_lines x)).ending ≡ true
-    → plan suppress operands (all_lines (x ++ t)) ≡ plan suppress operands (all_lines x)
-past_plan suppress operands t whole final = search (rules, all_lines-append, stays)
+pub past_plan : (style : Style) (operands : List Operand) {x : List ℕ} (t : List ℕ) → IsWhole x
+    → is_final (plan style operands (all_lines x)).ending ≡ true
+    → plan style operands (all_lines (x ++ t)) ≡ plan style operands (all_lines x)
+past_plan style operands t whole final = search (rules, all_lines-append, stays)
 
 final_draft : (style : Style) (operands : List Operand) (x : List ℕ)
-    → is_final (plan style.suppress operands (all_lines x)).ending ≡ true
-    → draft_by style (all_lines x) (plan style.suppress operands (all_lines x)).steps
-    (kept_by (plan style.suppress operands (all_lines x)).last.operands) [] ≡ settled_draft style operands (all_lines x)
+    → is_final (plan style operands (all_lines x)).ending ≡ true
+    → draft_by style (all_lines x) (plan style operands (all_lines x)).steps
+    (kept_by (plan style operands (all_lines x)).last.operands) [] ≡ settled_draft style operands (all_lines x)
 final_draft style operands x final =
-    draft_is settled_end style operands x 0 (plan_runs style.suppress operands (all_lines x)) (search (rules, final_count)) refl
+    draft_is settled_end style operands x 0 (plan_runs style operands (all_lines x)) (search (rules, final_count)) refl
 
 past_draft : (style : Style) (operands : List Operand) {x : List ℕ} (t : List ℕ) → IsWhole x
-    → is_final (plan style.suppress operands (all_lines x)).ending ≡ true
+    → is_final (plan style operands (all_lines x)).ending ≡ true
     → settled_draft style operands (all_lines x) ≡ settled_draft style operands (all_lines (x ++ t))
 past_draft style operands {x} t whole final =
-    let same = past_plan style.suppress operands t whole final in
+    let same = past_plan style operands t whole final in
     sym (final_draft style operands x final)
-    ∙ ended_still style operands t (kept_by (plan style.suppress operands (all_lines x)).last.operands)
-    [] (inl whole) (plan_runs style.suppress operands (all_lines x))
+    ∙ ended_still style operands t (kept_by (plan style operands (all_lines x)).last.operands)
+    [] (inl whole) (plan_runs style operands (all_lines x))
     ∙ ap (λ (p : Plan). draft_by style (all_lines (x ++ t)) p.steps (kept_by p.last.operands) []) (sym same)
     ∙ final_draft style operands (x ++ t) (ap (λ (p : Plan). is_final p.ending) same ∙ final)
 
@@ -478,8 +502,10 @@ spread_passes {told} {cutter} {mid} {end} {next} {cut} {place} {waiting} {line} 
           let after = spread.so_far.after x at here in
           let whole = joins_by n complete here.last.2 in
           let ends : EndsNow (record spread.now { aim = mid.aim }) x = search rules in
-          let both = over_now.ends x whole after.now.counted ends in record {
-            at = at_more (take n rest) whole spread.so_far.fit.fits.some after.now ends both.0;
+          let both = over_now.ends x whole after.now.counted ends in
+          let left_is = all_left (take n rest) whole spread.so_far.fit.fits.some after.now
+          (λ skips. ap (λ k. take k rest) (over_now.none skips)) in record {
+            at = at_more (take n rest) (take n rest) whole spread.so_far.fit.fits.some after.now ends both.0 left_is;
             arrives = search (rules, over_now);
             same = search (rules, part_more);
           }
@@ -495,6 +521,7 @@ spread_held {left = left} spread held = spread_passes {rest = []} {n = 0} spread
   within = omega arith;
   whole = inl refl;
   few = omega arith;
+  none = λ skips. refl;
   sound = record { fit = spread_fit spread.is spread.so_far.fit; aim = spread.aim };
   ends = search (rules, append-nil);
 }) (rw (append-nil left) held)
@@ -506,25 +533,56 @@ pub from_left : (text left : List ℕ) (size : ℕ) → size ≤ length text →
     → drop (size - length left) (take size text) ≡ left
 from_left text left size within (front, is) = grind (arith, common_steps, drop_at, length-append, length-take-le)
 
+-- The first line isn't cut: all of it and of the lines after it is left, or all but that line, where it is left out.
+
+left_after : {cutter : CutterState} {x : List ℕ} (first : ℕ) (line more : List ℕ) → IsFit cutter → IsLine line
+    → (WillSkip cutter → first ≡ length line) → ((WillSkip cutter → ⊥) → first ≡ 0)
+    → Joins (x ++ line) more → IsWhole x → (live : IsLive cutter x)
+    → cutter.window.held ++ (drop first line ++ more)
+    ≡ text_from (cutter.progress.current + live.at.taken) (x ++ (line ++ more))
+left_after {cutter} {x} first line more fit one skips keeps joins whole live = elim (cases_lt (cutter.lines + 1) cutter.progress.current) [
+  | inl skipped ↦
+      let current : cutter.progress.current ≡ cutter.lines + 2 = omega (arith, skipped, fit.fits.current) in
+      let taken : live.at.taken ≡ 0 = omega (arith, few_taken live.at) in
+      let n : cutter.progress.current + live.at.taken ≡ cutter.lines + 2 = omega arith in
+      let count : line_count newline (x ++ line) ≡ cutter.lines + 1 = search (rules, count-line) in
+      let counted = live.at.counted in
+      let held : cutter.window.held ≡ [] = live.at.left_is ∙ none_from (cutter.progress.current + live.at.taken) x (omega arith) in
+      let before : text_from (cutter.lines + 2) (x ++ line) ≡ [] = none_from (cutter.lines + 2) (x ++ line) (omega arith) in
+      let none : drop first line ≡ [] = drop_all first line (let e = skips skipped in omega arith) in
+      let rest : more ≡ text_from (cutter.lines + 2) ((x ++ line) ++ more) =
+      rw before at (rest_more (cutter.lines + 2) more joins (omega arith) (omega arith)) in
+      rw (held, none, n, ← append_assoc x line more) rest
+  | inr near ↦
+      let none : first ≡ 0 = keeps (λ skipped. absurd (omega arith)) in
+      rw none (all_left (line ++ more) (inl whole) fit.fits.some live.at (λ skipped. absurd (omega arith)))
+]
+
 -- What `stretch` owes. The first line isn't cut.
 
 module _ {told : Bool} {cutter mid next : CutterState} {text : List ℕ} {size : ℕ} {old new : List Slot}
     (result : Result Passed Fault) (fit : IsFit cutter) (differs : cutter.aim ≡ Below → ⊥) (start : Starts text size)
     (mid_is : mid ≡ record cutter { lines = cutter.lines + 1; aim = mid.aim }) where
-  pub stretch_on : TriesNext cutter (take size text) mid None
-      → PassesThenHolds told mid (take size text) text size old new next result
+  pub stretch_on : (first : ℕ) → (WillSkip cutter → first ≡ size) → ((WillSkip cutter → ⊥) → first ≡ 0)
+      → TriesNext cutter (take size text) mid None
+      → PassesThenHolds told mid (drop first (take size text)) text size old new next result
       → Stretches told cutter text size old new next result
-  stretch_on tries gone =
+  stretch_on first skips keeps tries gone =
       let end = gone.mid in
       let line = take size text in
+      let more = take gone.on.n (drop size text) in
       let end_is : end ≡ more_lines cutter end.lines mid.aim = search rules in
       record {
         on = gone.on;
-        took = took_held (subst IsSound end_is gone.over.sound) fit differs
+        took = took_held (drop first line ++ more) (subst IsSound end_is gone.over.sound) fit differs
             (search (rules, length-append, length-take-le, line_has))
+            (omega (arith, length-append (drop first line) more, length-append line more, length-drop first line))
+            (λ x whole live. left_after first line more fit start.line
+            (λ skipped. skips skipped ∙ sym (length-take-le size text start.within)) keeps
+            (joins_by gone.on.n start.complete (λ ends. whole-append line whole (inr ends))) whole live)
             (λ x whole live.
             let both = gone.over.ends (x ++ line)
-            (search (rules, joins_by, whole-append))
+            (joins_by gone.on.n start.complete (λ ends. whole-append line whole (inr ends)))
             (ap (λ (c : CutterState). c.lines) mid_is ∙ ap (λ k. k + 1) live.at.counted ∙ sym (count-line line whole start.line))
             (tries x whole live) in
             let is = append_assoc x line (take gone.on.n (drop size text)) in (search rules)) (rw end_is at gone.held);

@@ -11,25 +11,27 @@ use Rattle.std.proofs.{
 }
 use Rattle.csplit_core.specs.{
   Operand.{Target, Number, Search, Operand, Line, unmarked, is_match, Offset, moved, has_more},
-  Plan.{State, Step, Ending, missed, above, search_line, MatchesNone, line_after, Runs, is_used_up, misses, is_above},
-  Plan.{is_below, cuts, below, CutsAt, state_after},
+  Plan.{State, Step, Ending, used_up, missed, above, search_line, MatchesNone, line_after, Runs, is_used_up, misses, is_above},
+  Plan.{is_below, cuts, below, CutsAt, state_after, past_last},
+  Output.Style,
   Planned.plan,
   laws.{
-    PlanLaws.{cuts_still, goes_on, plan_runs, plan_once, line_some, fewer_left, fewer_moves},
+    PlanLaws.{cuts_still, goes_on, plan_runs, plan_once, line_some, past_near, fewer_left, fewer_moves},
     SectionLaws.ends_as,
   },
   Progress.{state_of, EndsHere, AimsAt},
-  inner.Cutter.{AreSeen, AgreesWithPlan, FallsAt, GoesPast, WillCut, PassesOn, PassesCut, IsWhole, IsLine, Joins},
+  inner.Cutter.{AreSeen, AgreesWithPlan, FallsAt, GoesPast, WillCut, WillSkip, PassesOn, PassesCut, IsWhole, IsLine},
+  inner.Cutter.{Joins, past_in, search_after},
   inner.Cutter.{Looked, IsFound, IsNoCut, StaysNear, Tries, TriesNext, AreClear, IsNextFound, Lacks, equipped},
   inner.Cutter.{PassesClear, PassesOver, StopsAt},
   inner.PlanLaws.{needed, EndsAs},
   declared.{
-    progress.{Attempt.{Attempt, TheVariants.{Missed, Above, Below, Cuts}}, Progress.Progress},
+    progress.{Attempt.{Attempt, TheVariants.{UsedUp, Missed, Above, Below, Cuts}}, Progress.Progress},
     line_cutter.{CutPoint.CutPoint, Passed.Passed},
   },
   Measure.{Moves, IsRepeatedBy, Fits},
   Input.{newline, without_newline, marked, all_lines, is_match_of},
-  Cutter.{CutterState, state_in, suppress_in, IsFit, pattern_in, IsLive, EndsNow, IsSound},
+  Cutter.{CutterState, state_in, suppress_in, IsFit, pattern_by, pattern_in, past_by, IsLive, EndsNow, IsSound},
 }
 use Rattle.csplit_core.proofs.{
   WholeLemmas.after_within,
@@ -63,29 +65,29 @@ looks_past operand lines from looked none line from_on within = search rules
 -- What stays as it is while more lines come
 
 -- what more lines have to be, so that the plan still ends there
-abbrev pub EndsStill : Bool → (count : ℕ) → List Line → (total : ℕ) → State → Ending → Type 0
-EndsStill suppress count b total last (missed operand repetition) =
-    (operand : Operand) (operands : List Operand) → last.operands ≡ operand ∷ operands → NoneFrom operand count b (search_line suppress last)
-EndsStill suppress count b total last (above operand repetition matched cut) = total < cut
-EndsStill suppress count b total last ending = Unit {0}
+abbrev pub EndsStill : Style → (count : ℕ) → List Line → (total : ℕ) → State → Ending → Type 0
+EndsStill style count b total last (missed operand repetition) =
+    (operand : Operand) (operands : List Operand) → last.operands ≡ operand ∷ operands → NoneFrom operand count b (search_line style.suppress last)
+EndsStill style count b total last (above operand repetition matched cut) = total + past_last style operand.target < cut
+EndsStill style count b total last ending = Unit {0}
 
-pub ends_still : {suppress : Bool} {a : List Line} (b : List Line) {first : State} {steps : List Step} {last : State}
-    {ending : Ending} → Runs suppress a first steps last ending
-    → EndsStill suppress (length a) b (length (a ++ b)) last ending
-    → Runs suppress (a ++ b) last [] last ending
+pub ends_still : {style : Style} {a : List Line} (b : List Line) {first : State} {steps : List Step} {last : State}
+    {ending : Ending} → Runs style a first steps last ending
+    → EndsStill style (length a) b (length (a ++ b)) last ending
+    → Runs style (a ++ b) last [] last ending
 ends_still b (is_used_up state none) still = is_used_up state none
 ends_still b (misses state operand operands is none) still =
     misses state operand operands is ((grind (arith, common_steps, none, (still operand operands is))))
-ends_still {suppress} {a} b (is_above state operand operands matched cut is at far) still = search (rules, is_above, cuts_still)
-ends_still {suppress} {a} b (is_below state operand operands matched cut is at within low) still =
-    is_below state operand operands matched cut is (cuts_still _ a b state operand _ matched cut at) (omega (arith, length-append a b)) low
+ends_still {style} {a} b (is_above state operand operands matched cut is at from far) still = search (rules, is_above, cuts_still)
+ends_still {style} {a} b (is_below state operand operands matched cut is at low) still =
+    is_below state operand operands matched cut is (cuts_still style a b state operand operand.target matched cut at) low
 ends_still b (cuts state operand operands matched cut steps' last' ending' is at from within rest) still = ends_still b rest still
 
-pub stays : (suppress : Bool) (operands : List Operand) (a b : List Line)
-    → EndsStill suppress (length a) b (length (a ++ b)) (plan suppress operands a).last
-    (plan suppress operands a).ending → plan suppress operands (a ++ b) ≡ plan suppress operands a
-stays suppress operands a b so =
-    let here = plan_runs suppress operands a in
+pub stays : (style : Style) (operands : List Operand) (a b : List Line)
+    → EndsStill style (length a) b (length (a ++ b)) (plan style operands a).last
+    (plan style operands a).ending → plan style operands (a ++ b) ≡ plan style operands a
+stays style operands a b so =
+    let here = plan_runs style operands a in
     search (rules, plan_once, (goes_on b _ _ here (ends_still b here so)), append-nil)
 
 -- What an attempt says of the plan.
@@ -94,34 +96,36 @@ stays suppress operands a b so =
 pub capped : (real cap most total : ℕ) → most ≡ min real cap → most ≤ total → total < cap → most ≡ real
 capped real cap most total is within low = search rules
 
-module _ {suppress : Bool} (all : List Line) {total : ℕ} {state : State} {found : Bool} {operand : Operand}
+module _ (style : Style) (all : List Line) {total : ℕ} {state : State} {found : Bool} {operand : Operand}
     {operands : List Operand} (are : state.operands ≡ operand ∷ operands)
-    (seen : AreSeen suppress all total state found) where
-  pub falls : (matched real : ℕ) {most : ℕ} → CutsAt suppress all state operand operand.target matched real
-      → most ≡ min real (2 ^ 64 - 1) → total < 2 ^ 64 - 1 → (attempt : Attempt)
-      → FallsAt total state.current matched most attempt → AgreesWithPlan suppress all state attempt
-  falls matched real {most} at_cut is few (Above line cap) at = record {
+    (seen : AreSeen style.suppress all total state found) where
+  pub falls : (matched real : ℕ) {most last : ℕ} → CutsAt style all state operand operand.target matched real
+      → most ≡ min real (2 ^ 64 - 1) → last ≡ total + past_last style operand.target → last < 2 ^ 64 - 1
+      → state.current < 2 ^ 64 - 1 → (attempt : Attempt)
+      → FallsAt last state.current matched most attempt → AgreesWithPlan style all state attempt
+  falls matched real {most} at_cut is last_is few low (Above line most') at = record {
     ending = above operand state.repetition matched real;
-    runs = is_above state operand operands matched real are at_cut (search rules);
+    runs = is_above state operand operands matched real are at_cut (let c = seen.count in omega arith) (let c = seen.count in omega arith);
     aims = (at.0, at.1 ∙ is);
   }
-  falls matched real {most} at_cut is few Below at =
-      let same : most ≡ real = capped real (2 ^ 64 - 1) most total is at.0 few in
-      record { ending = below operand state.repetition; runs = is_below state operand operands matched real are at_cut (omega arith) (omega arith); aims = tt }
-  falls matched real at_cut is few (Cuts line cut) at = (search (rules, seen.count))
-  falls matched real at_cut is few attempt at = absurd at
+  falls matched real {most} at_cut is last_is few low Below at =
+      let same : most ≡ real = capped real (2 ^ 64 - 1) most state.current is (omega arith) low in
+      record { ending = below operand state.repetition; runs = is_below state operand operands matched real are at_cut (omega arith); aims = tt }
+  falls matched real at_cut is last_is few low (Cuts line cut) at = (search (rules, seen.count))
+  falls matched real at_cut is last_is few low attempt at = absurd at
 
   -- where the last line has the operand's pattern, its search ends there
-  pub falls_search : {pattern : Pattern} {kept : Bool} (offset : Offset) {most : ℕ}
-      → operand.target ≡ Search pattern kept offset → search_line suppress state ≤ total → found ≡ true
-      → most ≡ min (moved offset total) (2 ^ 64 - 1) → total < 2 ^ 64 - 1 → (attempt : Attempt)
-      → FallsAt total state.current total most attempt → AgreesWithPlan suppress all state attempt
+  pub falls_search : {pattern : Pattern} {kept : Bool} (offset : Offset) {most last : ℕ}
+      → operand.target ≡ Search pattern kept offset → search_line style.suppress state ≤ total → found ≡ true
+      → most ≡ min (moved offset total) (2 ^ 64 - 1) → last ≡ total + past_last style operand.target
+      → last < 2 ^ 64 - 1 → state.current < 2 ^ 64 - 1 → (attempt : Attempt)
+      → FallsAt last state.current total most attempt → AgreesWithPlan style all state attempt
   falls_search offset target near is_found = falls total (moved offset total)
       (search rules)
 
   -- and where it has not, or the search begins after it, no line matches
   pub misses_search : {pattern : Pattern} {kept : Bool} {offset : Offset} → operand.target ≡ Search pattern kept offset
-      → (search_line suppress state ≤ total → found ≡ false) → EndsHere suppress all state Missed
+      → (search_line style.suppress state ≤ total → found ≡ false) → EndsHere style all state Missed
   misses_search target none = record {
     ending = missed operand state.repetition;
     runs = misses state operand operands are (search (rules, looks_past));
@@ -148,20 +152,20 @@ passes_on suppress operands at repetition matched cut are none is on = search (r
 
 -- A cut moves on, and the numbers stay small.
 
-repeated_again : (total : ℕ) (state next : State) (target : Target) {matched : ℕ} (cut : ℕ)
-    → Moves total state target matched cut → 1 ≤ cut → cut ≤ total → next.repetition ≡ state.repetition + 1
-    → next.matched ≡ matched
+repeated_again : (style : Style) (total : ℕ) (state next : State) (target : Target) {matched : ℕ} (cut : ℕ)
+    → Moves total state target matched cut → 1 ≤ cut → cut ≤ total + past_last style target
+    → next.repetition ≡ state.repetition + 1 → next.matched ≡ matched
     → IsRepeatedBy total state target → IsRepeatedBy total next target
-repeated_again total state next (Number n) cut at some within again same few =
-    omega (arith, fewer_left total state next (Number n) cut at some within again same)
-repeated_again total state next (Search pattern kept offset) cut at some within again same few = omega arith
+repeated_again style total state next (Number n) cut at some within again same few =
+    omega (arith, fewer_left style total state next (Number n) cut at some within again same)
+repeated_again style total state next (Search pattern kept offset) cut at some within again same few = omega arith
 
-fits_after : (suppress : Bool) {total : ℕ} {state : State} {operand : Operand} {operands : List Operand}
+fits_after : (style : Style) {total : ℕ} {state : State} {operand : Operand} {operands : List Operand}
     (matched cut : ℕ) → Fits total state → state.operands ≡ operand ∷ operands
-    → Moves total state operand.target matched cut → matched ≤ total → state.current ≤ cut → cut ≤ total
-    → Fits total (state_after suppress operand operands state.repetition matched cut)
-fits_after suppress {total} {state} {operand} {operands} matched cut fits are at few least within = search
-    (rules, line_some, after_within, repeated_again)
+    → Moves total state operand.target matched cut → matched ≤ total → state.current ≤ cut
+    → cut ≤ total + past_last style operand.target → Fits total (state_after style.suppress operand operands state.repetition matched cut)
+fits_after style {total} {state} {operand} {operands} matched cut fits are at few least within = search
+    (rules, line_some, after_within, past_near, repeated_again)
 
 -- Going on after a cut
 
@@ -178,11 +182,12 @@ module _ {cutter : CutterState} {cut : CutPoint} {operand : Operand} (progress :
   at = grind (arith, common_steps)
 
   fits : Fits cutter.lines (state_of cutter.operands progress)
-  fits = rw (next cutter.operands _ are) (fits_after suppress cut.matched cut.line fit.fits are at will.matched will.from will.within)
+  fits = rw (next cutter.operands _ are, by) (fits_after cutter.style cut.matched cut.line fit.fits are at will.matched will.from
+      (search (rules, are)))
 
   fewer : needed cutter.lines (state_of cutter.operands progress) < needed cutter.lines (state_in cutter)
   fewer = subst (λ state. needed cutter.lines state < needed cutter.lines (state_in cutter)) (sym (next cutter.operands _ are))
-      (fewer_moves suppress cutter.lines (state_in cutter) cut.matched cut.line are at (omega arith) will.within)
+      (rw (← by) at (fewer_moves cutter.style cutter.lines (state_in cutter) cut.matched cut.line are at (omega arith) (search (rules, are))))
 
   state : PassesOn cutter cut (record cutter { progress = progress })
   state one more is = grind (arith, common_steps)
@@ -206,24 +211,26 @@ pub found_is : {cutter : CutterState} (line : List ℕ) {text : List ℕ} (numbe
     → search_line (suppress_in cutter) (state_in cutter) ≤ number → is_match_of line target ≡ found
 found_is line number target is sought says near = search rules
 
-pub attempt_ends : {suppress : Bool} {lines : List Line} {state : State} (attempt : Attempt) → IsNoCut attempt
-    → AgreesWithPlan suppress lines state attempt → EndsHere suppress lines state attempt
+pub attempt_ends : {style : Style} {lines : List Line} {state : State} (attempt : Attempt) → IsNoCut attempt
+    → AgreesWithPlan style lines state attempt → EndsHere style lines state attempt
 attempt_ends attempt no_cut ends = search rules
 
--- a search after a cut begins at the cut or after it, and after the line that was matched last
+-- a search after a cut begins at the cut or after it
+pub search_past : (suppress : Bool) (cut : CutPoint) → cut.line ≤ search_after suppress cut
+search_past suppress cut = search rules
 
 -- what `try_last` owes
 
 module _ {cutter : CutterState} (line : List ℕ) {found : Bool} (attempt : Attempt) (fit : IsFit cutter)
     (says : IsFound cutter (without_newline line) cutter.lines found)
     (turns : (lines : List Line) → AreSeen (suppress_in cutter) lines cutter.lines (state_in cutter) found
-    → AgreesWithPlan (suppress_in cutter) lines (state_in cutter) attempt) (x : List ℕ)
+    → AgreesWithPlan cutter.style lines (state_in cutter) attempt) (x : List ℕ)
     (looked : Looked cutter x line) where
-  agrees : AgreesWithPlan (suppress_in cutter) (all_lines x) (state_in cutter) attempt
+  agrees : AgreesWithPlan cutter.style (all_lines x) (state_in cutter) attempt
   agrees = turns (all_lines x) (grind (arith, common_steps))
 
   pub tries_cut : (cut : CutPoint) → attempt ≡ Cuts cut.matched cut.line
-      → GoesPast (suppress_in cutter) (all_lines x) (state_in cutter) cut.matched cut.line × StaysNear cutter cut
+      → GoesPast cutter.style (all_lines x) (state_in cutter) cut.matched cut.line × StaysNear cutter cut
   tries_cut cut is = search (rules, agrees)
 
   pub tries_none : IsNoCut attempt → EndsNow (record cutter { aim = attempt }) x
@@ -235,15 +242,38 @@ module _ {cutter : CutterState} (line : List ℕ) {found : Bool} (attempt : Atte
 abbrev pub StaysOver : CutterState → (text : List ℕ) (lines : ℕ) → Attempt → Type 0
 StaysOver cutter text lines Missed = (operand : Operand) → cutter.sought ≡ pattern_in operand.target → NoneFrom operand cutter.lines
     (all_lines text) (search_line (suppress_in cutter) (state_in cutter))
-StaysOver cutter text lines (Above matched line) = lines < line
+StaysOver cutter text lines (Above matched line) = lines + past_in cutter < line
 StaysOver cutter text lines attempt = Unit {0}
+
+still_over : {cutter : CutterState} (lines : ℕ) (text : List ℕ) → IsFit cutter → (x : List ℕ)
+    → lines ≡ cutter.lines + line_count newline text → cutter.lines ≡ line_count newline x → (aim : Attempt)
+    (ending : Ending) → EndsAs cutter.style (all_lines x) (state_in cutter) ending → AimsAt aim ending
+    → StaysOver cutter text lines aim
+    → EndsStill cutter.style (length (all_lines x)) (all_lines text) (length (all_lines x ++ all_lines text)) (state_in cutter) ending
+still_over lines text fit x count counted UsedUp used_up ends aims stays = tt
+still_over {cutter} lines text fit x count counted Missed (missed operand repetition) ends aims stays = λ one more are.
+    rw (length-all_lines x, ← counted) (stays one (fit.sought ∙ ap pattern_by are))
+still_over {cutter} lines text fit x count counted (Above last line) (above operand repetition matched cut) (operands, are, at, from, far, often) aims stays =
+    let past : past_in cutter ≡ past_last cutter.style operand.target = ap (past_by cutter.style) are in
+    let same : line ≡ min cut (2 ^ 64 - 1) = aims.1 in
+    omega (arith, length-append (all_lines x) (all_lines text), length-all_lines x, length-all_lines text)
+still_over lines text fit x count counted Below (below operand repetition) ends aims stays = tt
+still_over lines text fit x count counted aim ending ends aims stays = absurd aims
 
 -- what passing over a text leaves of the plan
 pub ends_over : {cutter : CutterState} {lines : ℕ} (text : List ℕ) → IsFit cutter
     → lines ≡ cutter.lines + line_count newline text → StaysOver cutter text lines cutter.aim → (x : List ℕ)
     → Joins x text → cutter.lines ≡ line_count newline x → EndsNow cutter x
     → (lines ≡ line_count newline (x ++ text)) × EndsNow (record cutter { lines = lines }) (x ++ text)
-ends_over text fit count stays x before counted ends = search (rules, length-all_lines, length-append, count-append, all_lines-append, ends_still)
+ends_over {cutter} {lines} text fit count stays x before counted ends = (
+  omega (arith, count-append text before),
+  record {
+    ending = ends.ending;
+    runs = rw (all_lines-append text before) (ends_still (all_lines text) ends.runs
+        (still_over lines text fit x count counted cutter.aim ends.ending (ends_as ends.runs) ends.aims stays));
+    aims = ends.aims;
+  },
+)
 
 pub next_stays : {cutter : CutterState} {x : List ℕ} (line : List ℕ) {attempt : Attempt} → IsFit cutter
     → IsLive cutter x
@@ -258,11 +288,24 @@ pub lines_are : {cutter : CutterState} {x : List ℕ} (live : IsLive cutter x) �
 lines_are live = grind (arith, common_steps)
 
 -- the line of a cut that was above the last one came in
-pub above_cuts : {suppress : Bool} (lines : List Line) (line : Line) {state : State} {total matched at : ℕ}
-    (ending : Ending) → length lines ≡ total → state.current ≤ total + 1 → EndsAs suppress lines state ending
-    → AimsAt (Above matched at) ending → at ≤ total + 1 → total + 1 < 2 ^ 64 - 1
-    → GoesPast suppress (lines ++ line ∷ []) state matched at × (at ≡ total + 1)
-above_cuts lines line ending count within ends aims near few = grind (arith, common_steps)
+pub above_cuts : {style : Style} (lines : List Line) (line : Line) {state : State} {total matched at : ℕ}
+    (ending : Ending) → length lines ≡ total → EndsAs style lines state ending
+    → AimsAt (Above matched at) ending → at ≤ total + 1 + past_by style state.operands → total + 1 < 2 ^ 64 - 2
+    → GoesPast style (lines ++ line ∷ []) state matched at × (total + 1 ≤ at)
+above_cuts {style} lines line {total = total} {at = at} (above operand repetition matched cut) count (operands, are, cuts_at, from, far, often) aims near few =
+    let past : past_by style _ ≡ past_last style operand.target = ap (past_by style) are in
+    let same : at ≡ cut = search (rules, aims, past, past_near style operand.target) in (
+      record {
+        operand = operand;
+        operands = operands;
+        are = are;
+        cuts = search (rules, cuts_still);
+        from = omega arith;
+        within = omega (arith, length-append lines (line ∷ []));
+      },
+      omega arith,
+    )
+above_cuts lines line ending count ends aims near few = absurd aims
 
 -- where a pattern matched no line so far
 
@@ -292,13 +335,14 @@ next_tries next line (Some cut) fit one aim counted tries = λ x whole live.
 
 pub passes : {cutter : CutterState} {text : List ℕ} {lines n : ℕ} → IsSound cutter → n ≤ length text
     → IsWhole (take n text) → lines ≡ cutter.lines + line_count newline (take n text)
-    → StaysOver cutter (take n text) lines cutter.aim
+    → StaysOver cutter (take n text) lines cutter.aim → (WillSkip cutter → ⊥)
     → PassesOver cutter text (record cutter { lines = lines }) n
-passes {text = text} {n = n} sound within whole count stays = record {
+passes {text = text} {n = n} sound within whole count stays near = record {
   same = refl;
   within = within;
   whole = whole;
   few = omega (arith, line_count-le-length newline (take n text), length-take-le n text within);
+  none = λ skips. absurd (near skips);
   sound = search rules;
   ends = ends_over (take n text) sound.fit count stays;
 }
@@ -306,28 +350,38 @@ passes {text = text} {n = n} sound within whole count stays = record {
 -- All lines of a text
 
 pub passes_all : {cutter : CutterState} {text : List ℕ} {n : ℕ} → IsSound cutter → IsWhole text
-    → n ≡ delimiters newline text → StaysOver cutter text (cutter.lines + n) cutter.aim
+    → n ≡ delimiters newline text → StaysOver cutter text (cutter.lines + n) cutter.aim → (WillSkip cutter → ⊥)
     → PassesOver cutter text (record cutter { lines = cutter.lines + n }) (length text)
-passes_all {text = text} sound whole count stays =
+passes_all {text = text} sound whole count stays near =
     let all : text ≡ take (length text) text = sym (take_all (length text) text (omega arith)) in
-    passes sound (omega arith) (subst IsWhole all whole) (omega (arith, whole_count whole, ap (line_count newline) all)) (rw all at stays)
+    passes sound (omega arith) (subst IsWhole all whole) (omega (arith, whole_count whole, ap (line_count newline) all)) (rw all at stays) near
 
 -- Lines before the line of a cut
 
-pub passes_below : {cutter : CutterState} {text : List ℕ} (line end : ℕ) → IsSound cutter
-    → (matched : ℕ) × (cutter.aim ≡ Above matched line) → EndsAt newline (line - 1 - cutter.lines) text end
-    → PassesOver cutter text (record cutter { lines = line - 1 }) end
-passes_below {cutter} {text} line end sound (matched, aim) ends =
-    let less : cutter.lines < line = search rules in
-    let count : line_count newline (take end text) ≡ line - 1 - cutter.lines =
+-- the line with which the cut is there did not come in yet
+pub not_yet : {cutter : CutterState} {matched line : ℕ} → IsSound cutter → cutter.aim ≡ Above matched line
+    → cutter.lines + past_in cutter < line
+not_yet {cutter} sound aim =
+    let moves = rw aim at sound.aim in
+    rw moves.left moves.above
+
+pub passes_below : {cutter : CutterState} {text : List ℕ} (line last past end : ℕ) → IsSound cutter
+    → (matched : ℕ) × (cutter.aim ≡ Above matched line) → (WillSkip cutter → ⊥) → past ≡ past_in cutter
+    → last ≡ line - past - 1 → EndsAt newline (last - cutter.lines) text end
+    → PassesOver cutter text (record cutter { lines = last }) end
+passes_below {cutter} {text} line last past end sound (matched, aim) near past_is last_is ends =
+    let less : cutter.lines + past_in cutter < line = not_yet sound aim in
+    let count : line_count newline (take end text) ≡ last - cutter.lines =
     (grind (arith, common_steps, EndsAt-enough, line_count_near, lines_of-first_lines, length-take-le, ends)) in
     passes sound ends.within (whole_by (take end text) _ refl (omega arith)) (omega arith)
-    (search rules)
+    (rw aim (omega arith)) near
 
-pub passes_short : {cutter : CutterState} {text : List ℕ} (line : ℕ) {count : ℕ} → IsSound cutter → IsWhole text
-    → (matched : ℕ) × (cutter.aim ≡ Above matched line) → FallsShort newline (line - 1 - cutter.lines) text count
+pub passes_short : {cutter : CutterState} {text : List ℕ} (line last past : ℕ) {count : ℕ} → IsSound cutter
+    → IsWhole text → (matched : ℕ) × (cutter.aim ≡ Above matched line) → (WillSkip cutter → ⊥)
+    → past ≡ past_in cutter → last ≡ line - past - 1 → FallsShort newline (last - cutter.lines) text count
     → PassesOver cutter text (record cutter { lines = cutter.lines + count }) (length text)
-passes_short line sound whole (matched, aim) short = search (rules, passes_all, StaysOver)
+passes_short line last past sound whole (matched, aim) near past_is last_is short =
+    let less = not_yet sound aim in search (rules, passes_all, StaysOver)
 
 -- Lines without the pattern that is searched for
 
@@ -422,14 +476,14 @@ few_counted so = grind (arith, common_steps, line_count-le-length)
 
 -- all that were looked at are passed over
 pub all_passed_at : {cutter : CutterState} {text left : List ℕ} {next now : CutterState} → IsSound cutter
-    → cutter.aim ≡ Missed → Unmatched cutter text left next → now ≡ next
+    → (WillSkip cutter → ⊥) → cutter.aim ≡ Missed → Unmatched cutter text left next → now ≡ next
     → PassesOver cutter text now (length text - length left)
-all_passed_at {cutter} {text} {left} sound aim so is =
+all_passed_at {cutter} {text} {left} sound near aim so is =
     let count : length so.front ≡ length text - length left = omega (arith, ap length so.all ∙ length-append so.front left) in
     let front_is : so.front ≡ take (length text - length left) text = search (rules, take_at) in
     rw (← (is ∙ so.same)) at (passes sound (omega arith) (rw front_is at so.whole)
     (so.count ∙ ap (λ those. cutter.lines + line_count newline those) front_is)
-    (rw (aim, ← front_is) so.none))
+    (rw (aim, ← front_is) so.none) near)
 
 -- Lines that are seen to have no match
 

@@ -4,6 +4,7 @@ use Rattle.std.proofs.{
   Common.{map, ◌∙◌, ap, append_assoc, append-nil, take-append-drop, drop-drop},
   lemmas.Grind.common_steps,
 }
+use Rattle.operand_core.specs.Style.{Style}
 use Rattle.csplit_core.specs.{
   Plan.{line_after, Ending, State, Step, Runs, cuts},
   Operand.{Operand, Line},
@@ -12,7 +13,7 @@ use Rattle.csplit_core.specs.{
   laws.{PlanLaws.plan_runs, SectionLaws.are_within},
 }
 
--- the current line is at most one past the last
+-- the current line is at most one past the cut
 pub after_within : (suppress : Bool) (cut total : ℕ) → cut ≤ total → line_after suppress cut ≤ suc total
 after_within suppress cut total within = search rules
 
@@ -33,22 +34,22 @@ between_rest first cut lines some least =
     (drop-drop (cut - first) (first - 1) lines))
     ∙ take-append-drop (cut - first) (drop (first - 1) lines)
 
-steps_and_rest : {lines : List Line} {first : State} {steps : List Step} {last : State} {ending : Ending}
-    → Runs false lines first steps last ending → 1 ≤ first.current
+steps_and_rest : {style : Style} {lines : List Line} {first : State} {steps : List Step} {last : State} {ending : Ending}
+    → Runs style lines first steps last ending → style.suppress ≡ false → 1 ≤ first.current
     → lines_in (map (section_of lines) steps) ++ drop (last.current - 1) lines ≡ drop (first.current - 1) lines
-steps_and_rest {lines} (cuts state operand operands matched cut steps' last' ending' is at from within rest) some =
-    search (rules, append_assoc, between_rest, steps_and_rest rest)
-steps_and_rest run some = refl
+steps_and_rest {lines} (cuts state operand operands matched cut steps' last' ending' is at from within rest) whole some =
+    search (rules, append_assoc, between_rest, whole, steps_and_rest rest whole)
+steps_and_rest run whole some = refl
 
 -- the steps' sections, then these lines, where they are what is left
-pub all_with : (closed : Bool) (operands : List Operand) {x : List Line} (end rest : List Line)
-    → end ++ rest ≡ drop ((plan false operands x).last.current - 1) x
-    → lines_in (map (section_of x) (plan false operands x).steps
-    ++ section (is_last_kept (plan false operands x).ending) closed end ∷ []) ++ rest ≡ x
-all_with closed operands {x} end rest is =
+pub all_with : (style : Style) → style.suppress ≡ false → (closed : Bool) (operands : List Operand) {x : List Line} (end rest : List Line)
+    → end ++ rest ≡ drop ((plan style operands x).last.current - 1) x
+    → lines_in (map (section_of x) (plan style operands x).steps
+    ++ section (is_last_kept (plan style operands x).ending) closed end ∷ []) ++ rest ≡ x
+all_with style whole closed operands {x} end rest is =
     ap (λ those. those ++ rest) (search (rules, lines_in-append, append-nil))
     ∙ append_assoc _ end rest
-    ∙ ap (λ those. lines_in (map (section_of x) (plan false operands x).steps) ++ those) is ∙ steps_and_rest (plan_runs false operands x) (omega arith)
+    ∙ ap (λ those. lines_in (map (section_of x) (plan style operands x).steps) ++ those) is ∙ steps_and_rest (plan_runs style operands x) whole (omega arith)
 
 pub ends_after_all : (total : ℕ) (ending : Ending) → is_final ending ≡ false → whole_end total ending ≡ suc total
 ends_after_all total ending live = search rules
@@ -57,10 +58,10 @@ pub rest_is_all : (x : List Line) (current : ℕ) → 1 ≤ current
     → lines_between current (suc (length x)) x ≡ drop (current - 1) x
 rest_is_all x current some = grind (arith, common_steps)
 
-pub none_lost_at_end : (operands : List Operand) (x : List Line) → is_final (plan false operands x).ending ≡ false
-    → lines_in (whole_sections x (plan false operands x)) ≡ x
-none_lost_at_end operands x live =
-    let plan' = plan false operands x in
-    let some = (are_within (plan_runs false operands x) (omega arith)).1 in
-    sym (search (rules, append-nil)) ∙ all_with true operands (lines_between plan'.last.current (whole_end (length x) plan'.ending) x) []
+pub none_lost_at_end : (style : Style) → style.suppress ≡ false → (operands : List Operand) (x : List Line) → is_final (plan style operands x).ending ≡ false
+    → lines_in (whole_sections x (plan style operands x)) ≡ x
+none_lost_at_end style whole operands x live =
+    let plan' = plan style operands x in
+    let some = (are_within (plan_runs style operands x) (omega arith)).1 in
+    sym (search (rules, append-nil)) ∙ all_with style whole true operands (lines_between plan'.last.current (whole_end (length x) plan'.ending) x) []
     (search (rules, append-nil, ends_after_all, rest_is_all))

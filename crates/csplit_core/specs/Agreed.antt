@@ -1,8 +1,9 @@
 -- What all continuations agree on. A continuation is what may still come: complete lines, perhaps none. Lines bear
 -- marks, one for each operand: those of the lines that came in are given, and the lines that follow may have any.
-use Rattle.std.specs.Prelude.{◌<◌, Bool, List, [], ◌∷◌, All, if◌then◌else◌}
+use Rattle.std.specs.Prelude.{◌<◌, List, [], ◌∷◌, All, if◌then◌else◌}
 use Rattle.seg_core.specs.Line.{IsComplete}
 use Rattle.ports_core.specs.{Agreed.AgreeOn, Part.IsBeginning}
+use Rattle.operand_core.specs.Style.{Style}
 use Rattle.csplit_core.specs.{
   Input.newline,
   Operand.{Operand, Line},
@@ -20,11 +21,11 @@ kept_lines [] = []
 kept_lines (section ∷ sections) = if section.is_kept then section.lines ∷ kept_lines sections else kept_lines sections
 
 -- the outputs where the input ends after these lines, and what is written where more may follow
-abbrev pub whole_outputs : Bool → List Operand → List Line → List (List Line)
-whole_outputs suppress operands lines = kept_lines (whole_sections lines (plan suppress operands lines))
+abbrev pub whole_outputs : Style → List Operand → List Line → List (List Line)
+whole_outputs style operands lines = kept_lines (whole_sections lines (plan style operands lines))
 
-abbrev pub settled_outputs : Bool → List Operand → List Line → List (List Line)
-settled_outputs suppress operands lines = kept_lines (settled_sections lines (plan suppress operands lines))
+abbrev pub settled_outputs : Style → List Operand → List Line → List (List Line)
+settled_outputs style operands lines = kept_lines (settled_sections lines (plan style operands lines))
 
 -- each output begins with the lines at its place, and there may be more outputs
 abbrev pub AreFronts : List (List Line) → List (List Line) → Type 0

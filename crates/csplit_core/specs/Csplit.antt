@@ -1,5 +1,5 @@
 -- What `csplit` makes of an input (POSIX.1-2017, XCU csplit).
-use Rattle.std.specs.Prelude.{ℕ, Bool, true, false, not, ◌&&◌, List, [], ◌++◌, Option, Some, None, if◌then◌else◌}
+use Rattle.std.specs.Prelude.{ℕ, true, false, not, ◌&&◌, List, [], ◌++◌, Option, Some, None, if◌then◌else◌}
 use Rattle.ports_core.specs.{
   Part.Part,
   Work.{Work, Means},
@@ -16,10 +16,10 @@ use Rattle.csplit_core.specs.{
 
 -- what is written of complete lines, where more may follow, and of all lines
 abbrev pub settled_of : Style → List Operand → List Line → Part
-settled_of style operands lines = part_of style (settled_sections lines (plan style.suppress operands lines))
+settled_of style operands lines = part_of style (settled_sections lines (plan style operands lines))
 
 abbrev pub whole_of : Style → List Operand → List Line → Part
-whole_of style operands lines = part_of style (whole_sections lines (plan style.suppress operands lines))
+whole_of style operands lines = part_of style (whole_sections lines (plan style operands lines))
 
 abbrev pub settled_by : Style → List Operand → List ℕ → Part
 settled_by style operands x = settled_of style operands (complete_lines x)
@@ -37,8 +37,8 @@ verdict_of (above operand repetition matched cut) = if is_endless operand.times 
     else Some (Range operand.index repetition)
 verdict_of (below operand repetition) = Some (Range operand.index repetition)
 
-abbrev pub verdict_by : Bool → List Operand → List ℕ → Option Verdict
-verdict_by suppress operands x = verdict_of (plan suppress operands (all_lines x)).ending
+abbrev pub verdict_by : Style → List Operand → List ℕ → Option Verdict
+verdict_by style operands x = verdict_of (plan style operands (all_lines x)).ending
 
 -- It writes sizes to standard output unless they are not wanted. As it takes in a piece it may open files, and may want
 -- memory for their names and for bytes that wait. So it may at the end: a last line that lacks its newline is one more
@@ -56,7 +56,7 @@ abbrev pub waiting_of : List Line → Plan → List ℕ → List ℕ
 waiting_of lines plan rest = if is_final plan.ending then [] else bytes_of (waiting_lines lines plan) ++ rest
 
 abbrev pub waiting : Style → List Operand → List ℕ → List ℕ
-waiting style operands x = waiting_of (complete_lines x) (plan style.suppress operands (complete_lines x)) (open_line x)
+waiting style operands x = waiting_of (complete_lines x) (plan style operands (complete_lines x)) (open_line x)
 
 -- What `csplit` makes of an input. It is never complete before the end, where the last size is written.
 abbrev pub csplit_work : Style → List Operand → Work
@@ -65,7 +65,7 @@ csplit_work style operands = record {
   whole = whole_by style operands;
   waiting = waiting style operands;
   is_complete = λ x. false;
-  verdict = verdict_by style.suppress operands;
+  verdict = verdict_by style operands;
   clears = not style.keep;
   means = csplit_means style;
   ahead = 0;

@@ -12,7 +12,7 @@ use Rattle.csplit_core.specs.{
   Measure.Fits,
   Operand.{Target, Number, Search, Operand, Line, is_kept, most_held},
   Output.{Style, manner_of, opening_of, file_in},
-  Plan.{State, start, Step, Ending, Runs},
+  Plan.{State, start, Step, Ending, Runs, past_last},
   Planned.plan,
   Progress.{state_of, EndsHere, WillMove},
   Section.{section_of, lines_between, is_last_kept, settled_end, is_final, most_waiting, bytes_of},
@@ -61,7 +61,7 @@ pattern_in (Number n) = None
 pattern_in (Search pattern kept offset) = Some pattern
 
 -- What the next operand says, if one is left: how many lines may wait, which pattern is searched for, whether the
--- section is kept.
+-- section is kept, how many lines past the last one its cut may stand.
 abbrev pub most_next : Option Operand → ℕ
 most_next None = 0
 most_next (Some operand) = most_held operand.target
@@ -74,6 +74,10 @@ abbrev pub kept_next : Option Operand → Bool
 kept_next None = true
 kept_next (Some operand) = is_kept operand.target
 
+abbrev pub past_next : Style → Option Operand → ℕ
+past_next style None = 0
+past_next style (Some operand) = past_last style operand.target
+
 abbrev pub next_of : List Operand → Option Operand
 next_of [] = None
 next_of (operand ∷ operands) = Some operand
@@ -84,16 +88,19 @@ most_by operands = most_next (next_of operands)
 abbrev pub pattern_by : List Operand → Option Pattern
 pattern_by operands = pattern_next (next_of operands)
 
+abbrev pub past_by : Style → List Operand → ℕ
+past_by style operands = past_next style (next_of operands)
+
 abbrev pub kept_by : List Operand → Bool
 kept_by operands = kept_next (next_of operands)
 
 -- what was found of the next operand stays so
-abbrev pub AimHolds : List Operand → (lines : ℕ) → Progress → Attempt → Type 0
-AimHolds operands lines progress UsedUp = Unit {0}
-AimHolds operands lines progress Missed = Unit {0}
-AimHolds operands lines progress (Above matched line) = WillMove operands lines progress matched line
-AimHolds operands lines progress Below = Unit {0}
-AimHolds operands lines progress (Cuts matched line) = ⊥
+abbrev pub AimHolds : Style → List Operand → (lines : ℕ) → Progress → Attempt → Type 0
+AimHolds style operands lines progress UsedUp = Unit {0}
+AimHolds style operands lines progress Missed = Unit {0}
+AimHolds style operands lines progress (Above matched line) = WillMove style operands lines progress matched line
+AimHolds style operands lines progress Below = Unit {0}
+AimHolds style operands lines progress (Cuts matched line) = ⊥
 
 -- its numbers are small, and it has what the next operand needs
 pub record IsFit (cutter : CutterState) : Type 0 where
@@ -104,7 +111,7 @@ pub record IsFit (cutter : CutterState) : Type 0 where
 
 pub record IsSound (cutter : CutterState) : Type 0 where
   pub fit : IsFit cutter
-  pub aim : AimHolds cutter.operands cutter.lines cutter.progress cutter.aim
+  pub aim : AimHolds cutter.style cutter.operands cutter.lines cutter.progress cutter.aim
 
 -- how many bytes and lines it has to count
 abbrev pub load : CutterState → ℕ
@@ -115,9 +122,9 @@ abbrev pub text_from : ℕ → List ℕ → List ℕ
 text_from line x = after_lines newline (line - 1) x
 
 -- a plan from this state on is the rest of one from the start
-abbrev pub Leads : Bool → List Line → List Operand → List Step → State → Type 0
-Leads suppress lines operands steps state = (more : List Step) (last : State) (ending : Ending)
-    → Runs suppress lines state more last ending → Runs suppress lines (start operands) (steps ++ more) last ending
+abbrev pub Leads : Style → List Line → List Operand → List Step → State → Type 0
+Leads style lines operands steps state = (more : List Step) (last : State) (ending : Ending)
+    → Runs style lines state more last ending → Runs style lines (start operands) (steps ++ more) last ending
 
 -- the sections of these steps, and an open one with these bytes
 abbrev pub draft_by : Style → List Line → List Step → Bool → List ℕ → Draft
@@ -129,19 +136,19 @@ draft_by style lines steps kept bytes = record {
 
 -- what is settled of complete lines
 abbrev pub settled_draft : Style → List Operand → List Line → Draft
-settled_draft style operands lines = let p = plan style.suppress operands lines in
+settled_draft style operands lines = let p = plan style operands lines in
     draft_by style lines p.steps (is_last_kept p.ending)
     (bytes_of (lines_between p.last.current (settled_end (length lines) p.ending) lines))
 
 -- The lines x came in. Of those from the current line on, the first ones are written, and these are left.
 pub record IsAt (cutter : CutterState) (x left : List ℕ) : Type 0 where
   pub steps : List Step
-  pub leads : Leads (suppress_in cutter) (all_lines x) cutter.operands steps (state_in cutter)
+  pub leads : Leads cutter.style (all_lines x) cutter.operands steps (state_in cutter)
   pub counted : cutter.lines ≡ line_count newline x
   -- how many lines of the open section are written, and their bytes
   pub taken : ℕ
   pub written : List ℕ
-  pub few : cutter.progress.current + taken ≤ line_count newline x + 1
+  pub few : taken ≤ line_count newline x + 1 - cutter.progress.current
   pub written_is : written ≡ first_lines newline taken (text_from cutter.progress.current x)
   pub left_is : left ≡ text_from (cutter.progress.current + taken) x
   pub writes : Writes (manner_of cutter.style) cutter.writer
@@ -149,7 +156,7 @@ pub record IsAt (cutter : CutterState) (x left : List ℕ) : Type 0 where
 
 -- the plan ends where the cutter stands, as its aim says
 abbrev pub EndsNow : CutterState → List ℕ → Type 0
-EndsNow cutter x = EndsHere (suppress_in cutter) (all_lines x) (state_in cutter) cutter.aim
+EndsNow cutter x = EndsHere cutter.style (all_lines x) (state_in cutter) cutter.aim
 
 -- it can have been given the lines x, and what waits of them is what it holds
 pub record IsLive (cutter : CutterState) (x : List ℕ) : Type 0 where
@@ -162,8 +169,8 @@ pub record IsLive (cutter : CutterState) (x : List ℕ) : Type 0 where
 -- it was given the lines x, and what follows them goes nowhere
 pub record IsPast (cutter : CutterState) (x : List ℕ) : Type 0 where
   pub aim : cutter.aim ≡ Below
-  pub past : is_final (plan (suppress_in cutter) cutter.operands (all_lines x)).ending ≡ true
-  pub last : state_in cutter ≡ (plan (suppress_in cutter) cutter.operands (all_lines x)).last
+  pub past : is_final (plan cutter.style cutter.operands (all_lines x)).ending ≡ true
+  pub last : state_in cutter ≡ (plan cutter.style cutter.operands (all_lines x)).last
   pub none : cutter.window.held ≡ []
   pub writes : Writes (manner_of cutter.style) cutter.writer
       (settled_draft cutter.style cutter.operands (all_lines x))

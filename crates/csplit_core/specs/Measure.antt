@@ -19,6 +19,6 @@ IsRepeated total state (operand ∷ operands) = IsRepeatedBy total state operand
 -- the numbers of a state lie within the lines that came in
 pub record Fits (total : ℕ) (state : State) : Type 0 where
   pub some : 1 ≤ state.current
-  pub current : state.current ≤ total + 1
+  pub current : state.current ≤ total + 2
   pub matched : state.matched ≤ total
   pub repeated : IsRepeated total state state.operands

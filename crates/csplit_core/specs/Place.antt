@@ -4,6 +4,7 @@ use Rattle.std.specs.{
   Prelude.if◌then◌else◌,
 }
 use Rattle.ports_core.specs.Agreed.{DifferOn}
+use Rattle.operand_core.specs.Style.{Style}
 use Rattle.csplit_core.specs.{
   Agreed.CanCome,
   Operand.{Operand, Line},
@@ -29,9 +30,9 @@ place_from suppress total index (step ∷ steps) ending line =
     else place_from suppress total (index + 1) steps ending line
 
 -- the place of the line of a number, where the input ends after these lines
-abbrev pub place_of : Bool → List Operand → List Line → ℕ → Place
-place_of suppress operands lines line =
-    place_from suppress (length lines) 0 (plan suppress operands lines).steps (plan suppress operands lines).ending line
+abbrev pub place_of : Style → List Operand → List Line → ℕ → Place
+place_of style operands lines line =
+    place_from style.suppress (length lines) 0 (plan style operands lines).steps (plan style operands lines).ending line
 
 -- The lines that wait are the last of x, and exactly those on which continuations differ. `places x line` says where
 -- the line of a number goes where the input is x.

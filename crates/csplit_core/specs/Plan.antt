@@ -5,6 +5,7 @@ use Rattle.std.specs.{
   Prelude.{◌≡◌, ℕ, ◌+◌, ◌-◌, ◌*◌, ◌<◌, ◌≤◌, suc, max, eqb, ◌&&◌, Bool, true, false, List, [], ◌∷◌, length},
   Prelude.if◌then◌else◌,
 }
+use Rattle.operand_core.specs.Style.{Style}
 use Rattle.csplit_core.specs.Operand.{Target, Number, Search, Operand, Line, is_match, moved, has_more}
 
 -- where a run stands
@@ -37,7 +38,7 @@ pub data Ending : Type 0 where
   used_up : Ending
   -- the pattern of this operand, at this repetition, matches no line from its search line on
   missed : Operand → ℕ → Ending
-  -- the cut is above the last line
+  -- the cut is further than an operand may cut
   above : Operand → ℕ → (matched cut : ℕ) → Ending
   -- the cut is below the current line
   below : Operand → ℕ → Ending
@@ -65,17 +66,23 @@ MatchesNone operand lines from = (line : ℕ) → from ≤ line → line ≤ len
 
 -- The operand cuts at a line, and then this line is the last that was matched. A line number cuts at its multiples, one
 -- after another; a pattern at an offset from the first match.
-abbrev pub CutsAt : Bool → List Line → State → Operand → Target → (matched cut : ℕ) → Type 0
-CutsAt suppress lines state operand (Number n) matched cut = (matched ≡ state.matched)
+abbrev pub CutsAt : Style → List Line → State → Operand → Target → (matched cut : ℕ) → Type 0
+CutsAt style lines state operand (Number n) matched cut = (matched ≡ state.matched)
     × (cut ≡ n * (state.repetition + 1))
-CutsAt suppress lines state operand (Search pattern kept offset) matched cut =
-    IsFirst operand lines (search_line suppress state) matched × (cut ≡ moved offset matched)
+CutsAt style lines state operand (Search pattern kept offset) matched cut =
+    IsFirst operand lines (search_line style.suppress state) matched × (cut ≡ moved offset matched)
+
+-- How many lines past the last one a cut may stand: one, with `one_past` and of a pattern. Then the section after the
+-- cut is empty, as long as no more lines come.
+abbrev pub past_last : Style → Target → ℕ
+past_last style (Number n) = 0
+past_last style (Search pattern kept offset) = if style.one_past then 1 else 0
 
 -- the operand is a pattern, and no line matches it
-abbrev pub Misses : Bool → List Line → State → Operand → Target → Type 0
-Misses suppress lines state operand (Number n) = ⊥
-Misses suppress lines state operand (Search pattern kept offset) =
-    MatchesNone operand lines (search_line suppress state)
+abbrev pub Misses : Style → List Line → State → Operand → Target → Type 0
+Misses style lines state operand (Number n) = ⊥
+Misses style lines state operand (Search pattern kept offset) =
+    MatchesNone operand lines (search_line style.suppress state)
 
 -- the current line after a cut
 abbrev pub line_after : Bool → ℕ → ℕ
@@ -112,22 +119,24 @@ step_of state operand matched cut = record {
 
 -- The plan from a state on: each operand cuts in its turn, and as often as it is to be performed, until one can't. Then
 -- it says where the run stands, and why it ends there.
-pub data Runs (suppress : Bool) (lines : List Line) : State → List Step → State → Ending → Type 0 where
-  is_used_up : (state : State) → state.operands ≡ [] → Runs suppress lines state [] state used_up
+pub data Runs (style : Style) (lines : List Line) : State → List Step → State → Ending → Type 0 where
+  is_used_up : (state : State) → state.operands ≡ [] → Runs style lines state [] state used_up
   misses : (state : State) (operand : Operand) (operands : List Operand) → state.operands ≡ operand ∷ operands
-      → Misses suppress lines state operand operand.target
-      → Runs suppress lines state [] state (missed operand state.repetition)
+      → Misses style lines state operand operand.target
+      → Runs style lines state [] state (missed operand state.repetition)
   is_above : (state : State) (operand : Operand) (operands : List Operand) (matched cut : ℕ)
       → state.operands ≡ operand ∷ operands
-      → CutsAt suppress lines state operand operand.target matched cut → length lines < cut
-      → Runs suppress lines state [] state (above operand state.repetition matched cut)
+      → CutsAt style lines state operand operand.target matched cut → state.current ≤ cut
+      → length lines + past_last style operand.target < cut
+      → Runs style lines state [] state (above operand state.repetition matched cut)
   is_below : (state : State) (operand : Operand) (operands : List Operand) (matched cut : ℕ)
       → state.operands ≡ operand ∷ operands
-      → CutsAt suppress lines state operand operand.target matched cut → cut ≤ length lines → cut < state.current
-      → Runs suppress lines state [] state (below operand state.repetition)
+      → CutsAt style lines state operand operand.target matched cut → cut < state.current
+      → Runs style lines state [] state (below operand state.repetition)
   cuts : (state : State) (operand : Operand) (operands : List Operand) (matched cut : ℕ) (steps : List Step)
       (last : State) (ending : Ending)
       → state.operands ≡ operand ∷ operands
-      → CutsAt suppress lines state operand operand.target matched cut → state.current ≤ cut → cut ≤ length lines
-      → Runs suppress lines (state_after suppress operand operands state.repetition matched cut) steps last ending
-      → Runs suppress lines state (step_of state operand matched cut ∷ steps) last ending
+      → CutsAt style lines state operand operand.target matched cut → state.current ≤ cut
+      → cut ≤ length lines + past_last style operand.target
+      → Runs style lines (state_after style.suppress operand operands state.repetition matched cut) steps last ending
+      → Runs style lines state (step_of state operand matched cut ∷ steps) last ending

@@ -1,10 +1,9 @@
 -- The plan of a run, computed.
-use Rattle.std.specs.{
-  Prelude.{ℕ, ◌+◌, ◌-◌, ◌*◌, zero, suc, nat_lt, Bool, List, [], ◌∷◌, length, drop, Option, Some, None, if◌then◌else◌},
-}
+use Rattle.std.specs.{Prelude.{ℕ, ◌+◌, ◌-◌, ◌*◌, zero, suc, nat_lt, List, [], ◌∷◌, length, drop, Option, Some, None, if◌then◌else◌}}
+use Rattle.operand_core.specs.Style.{Style}
 use Rattle.csplit_core.specs.{
   Operand.{Offset, Target, Number, Search, Operand, Line, moved},
-  Plan.{State, start, Step, Ending, used_up, missed, above, below, search_line, state_after, step_of},
+  Plan.{State, start, Step, Ending, used_up, missed, above, below, search_line, state_after, step_of, past_last},
 }
 
 pub record Plan : Type 0 where
@@ -29,30 +28,30 @@ pub data PlannedAttempt : Type 0 where
   goes : Step → State → PlannedAttempt
 
 -- the attempt of an operand whose cut is known, where there are `total` lines
-abbrev pub attempt_at : Bool → (total : ℕ) → State → Operand → List Operand → (matched cut : ℕ) → PlannedAttempt
-attempt_at suppress total state operand operands matched cut =
-    if nat_lt total cut then ends (above operand state.repetition matched cut)
-    else if nat_lt cut state.current then ends (below operand state.repetition)
-    else goes (step_of state operand matched cut) (state_after suppress operand operands state.repetition matched cut)
+abbrev pub attempt_at : Style → (total : ℕ) → State → Operand → List Operand → (matched cut : ℕ) → PlannedAttempt
+attempt_at style total state operand operands matched cut =
+    if nat_lt cut state.current then ends (below operand state.repetition)
+    else if nat_lt (total + past_last style operand.target) cut then ends (above operand state.repetition matched cut)
+    else goes (step_of state operand matched cut) (state_after style.suppress operand operands state.repetition matched cut)
 
-abbrev pub attempt_from : Bool → (total : ℕ) → State → Operand → List Operand → Offset → Option ℕ → PlannedAttempt
-attempt_from suppress total state operand operands offset None = ends (missed operand state.repetition)
-attempt_from suppress total state operand operands offset (Some line) =
-    attempt_at suppress total state operand operands line (moved offset line)
+abbrev pub attempt_from : Style → (total : ℕ) → State → Operand → List Operand → Offset → Option ℕ → PlannedAttempt
+attempt_from style total state operand operands offset None = ends (missed operand state.repetition)
+attempt_from style total state operand operands offset (Some line) =
+    attempt_at style total state operand operands line (moved offset line)
 
-abbrev pub attempt_to : Bool → List Line → State → Operand → List Operand → Target → PlannedAttempt
-attempt_to suppress lines state operand operands (Number n) =
-    attempt_at suppress (length lines) state operand operands state.matched (n * (state.repetition + 1))
-attempt_to suppress lines state operand operands (Search pattern kept offset) =
-    attempt_from suppress (length lines) state operand operands offset
-    (first_match operand lines (search_line suppress state))
+abbrev pub attempt_to : Style → List Line → State → Operand → List Operand → Target → PlannedAttempt
+attempt_to style lines state operand operands (Number n) =
+    attempt_at style (length lines) state operand operands state.matched (n * (state.repetition + 1))
+attempt_to style lines state operand operands (Search pattern kept offset) =
+    attempt_from style (length lines) state operand operands offset
+    (first_match operand lines (search_line style.suppress state))
 
-abbrev pub attempt_of : Bool → List Line → State → List Operand → PlannedAttempt
-attempt_of suppress lines state [] = ends used_up
-attempt_of suppress lines state (operand ∷ operands) = attempt_to suppress lines state operand operands operand.target
+abbrev pub attempt_of : Style → List Line → State → List Operand → PlannedAttempt
+attempt_of style lines state [] = ends used_up
+attempt_of style lines state (operand ∷ operands) = attempt_to style lines state operand operands operand.target
 
-abbrev pub attempt : Bool → List Line → State → PlannedAttempt
-attempt suppress lines state = attempt_of suppress lines state state.operands
+abbrev pub attempt : Style → List Line → State → PlannedAttempt
+attempt style lines state = attempt_of style lines state state.operands
 
 abbrev pub ended : State → Ending → Plan
 ended state ending = record { steps = []; last = state; ending = ending }
@@ -61,14 +60,14 @@ abbrev pub with_step : Step → Plan → Plan
 with_step step plan = record { steps = step ∷ plan.steps; last = plan.last; ending = plan.ending }
 
 -- the plan from a state on, of at most this many steps
-abbrev pub plan_within : ℕ → Bool → List Line → State → Plan
-plan_within zero suppress lines state = ended state used_up
-plan_within (suc bound) suppress lines state = elim (attempt suppress lines state) [
+abbrev pub plan_within : ℕ → Style → List Line → State → Plan
+plan_within zero style lines state = ended state used_up
+plan_within (suc bound) style lines state = elim (attempt style lines state) [
   | ends ending ↦ ended state ending
-  | goes step next ↦ with_step step (plan_within bound suppress lines next)
+  | goes step next ↦ with_step step (plan_within bound style lines next)
 ]
 
 -- The plan of these operands over these lines. An operand is performed at most once for each line and once more, so the
 -- bound is never met.
-abbrev pub plan : Bool → List Operand → List Line → Plan
-plan suppress operands lines = plan_within (length operands * (length lines + 1)) suppress lines (start operands)
+abbrev pub plan : Style → List Operand → List Line → Plan
+plan style operands lines = plan_within (length operands * (length lines + 1)) style lines (start operands)

@@ -1,8 +1,9 @@
 -- What contracts see of where a run stands, and of what the next operand does.
-use Rattle.std.specs.Prelude.{◌≡◌, ℕ, ◌-◌, ◌<◌, ◌≤◌, ◌^◌, min, Bool, List, [], ◌∷◌, length, drop}
+use Rattle.std.specs.Prelude.{◌≡◌, ℕ, ◌-◌, ◌<◌, ◌≤◌, ◌+◌, ◌^◌, min, List, [], ◌∷◌, length, drop}
+use Rattle.operand_core.specs.Style.{Style}
 use Rattle.csplit_core.specs.{
   Operand.{Operand, Line},
-  Plan.{State, Ending, used_up, missed, above, below, Runs},
+  Plan.{State, Ending, used_up, missed, above, below, Runs, past_last},
   Measure.Moves,
   declared.progress.{Progress.Progress, Attempt.{Attempt, TheVariants.{UsedUp, Missed, Above, Below}}},
 }
@@ -16,7 +17,7 @@ state_of operands progress = record {
 }
 
 -- the cut that is above the last line will move on once that line is there
-pub record WillMove (operands : List Operand) (total : ℕ) (progress : Progress) (matched line : ℕ) : Type 0 where
+pub record WillMove (style : Style) (operands : List Operand) (total : ℕ) (progress : Progress) (matched line : ℕ) : Type 0 where
   pub operand : Operand
   pub rest : List Operand
   pub within : progress.done < length operands
@@ -25,7 +26,8 @@ pub record WillMove (operands : List Operand) (total : ℕ) (progress : Progress
   pub moves : Moves total (state_of operands progress) operand.target matched cut
   pub line_is : line ≡ min cut (2 ^ 64 - 1)
   pub matched_within : matched ≤ total
-  pub above : total < line
+  pub from : progress.current ≤ line
+  pub above : total + past_last style operand.target < line
 
 -- how the plan ends where an attempt cuts nothing
 abbrev pub AimsAt : Attempt → Ending → Type 0
@@ -36,7 +38,7 @@ AimsAt Below (below operand repetition) = Unit {0}
 AimsAt attempt ending = ⊥
 
 -- The plan ends here, as the attempt says.
-pub record EndsHere (suppress : Bool) (lines : List Line) (state : State) (attempt : Attempt) : Type 0 where
+pub record EndsHere (style : Style) (lines : List Line) (state : State) (attempt : Attempt) : Type 0 where
   pub ending : Ending
-  pub runs : Runs suppress lines state [] state ending
+  pub runs : Runs style lines state [] state ending
   pub aims : AimsAt attempt ending

@@ -1,5 +1,5 @@
 //! Laws of the definitions, with no code: each stands on the contract of a function whose body is empty.
-ghost use Rattle.std.specs.Prelude.{◌≡◌, ◌≤◌, ◌++◌, Bool, List, false, length, ℕ};
+ghost use Rattle.std.specs.Prelude.{◌≡◌, ◌≤◌, ◌++◌, List, false, length, ℕ};
 ghost use Rattle.csplit_core.specs.{
   Agreed.{IsAgreed, settled_outputs, whole_outputs},
   Csplit.{settled_by, whole_by},
@@ -16,12 +16,12 @@ ghost use Rattle.ports_core.specs.Part.{Begins, lines_for};
 /// For any operands and lines there is one plan: the one that is computed is a plan, and no other is (POSIX.1-2017, XCU
 /// csplit).
 pub fn one_plan()
-    ensures is { (suppress : Bool) (operands : List Operand) (lines : List Line)
-        → Runs suppress lines (start operands) (plan suppress operands lines).steps (plan suppress operands lines).last
-        (plan suppress operands lines).ending }
-    ensures only { (suppress : Bool) (operands : List Operand) (lines : List Line) (steps : List Step) (last : State)
-        (ending : Ending) → Runs suppress lines (start operands) steps last ending
-        → plan suppress operands lines ≡ record { steps = steps; last = last; ending = ending } }
+    ensures is { (style : Style) (operands : List Operand) (lines : List Line)
+        → Runs style lines (start operands) (plan style operands lines).steps (plan style operands lines).last
+        (plan style operands lines).ending }
+    ensures only { (style : Style) (operands : List Operand) (lines : List Line) (steps : List Step) (last : State)
+        (ending : Ending) → Runs style lines (start operands) steps last ending
+        → plan style operands lines ≡ record { steps = steps; last = last; ending = ending } }
 {}
 
 /// What is settled only grows as more comes in, and what is written in the end begins with it.
@@ -45,16 +45,17 @@ pub fn sizes_are_of_closed_files()
 /// the lines that came in, in their order; and at the end the sections alone. The exception is a cut below the current
 /// line, after which lines belong to no section.
 pub fn no_line_is_lost()
-    ensures settled { (operands : List Operand) (x : List Line) → is_final (plan false operands x).ending ≡ false
-        → lines_in (settled_sections x (plan false operands x)) ++ waiting_lines x (plan false operands x) ≡ x }
-    ensures whole { (operands : List Operand) (x : List Line) → is_final (plan false operands x).ending ≡ false
-        → lines_in (whole_sections x (plan false operands x)) ≡ x }
+    ensures settled { (style : Style) (operands : List Operand) (x : List Line) → style.suppress ≡ false
+        → is_final (plan style operands x).ending ≡ false
+        → lines_in (settled_sections x (plan style operands x)) ++ waiting_lines x (plan style operands x) ≡ x }
+    ensures whole { (style : Style) (operands : List Operand) (x : List Line) → style.suppress ≡ false
+        → is_final (plan style operands x).ending ≡ false → lines_in (whole_sections x (plan style operands x)) ≡ x }
 {}
 
 /// No more complete lines wait than an offset goes back.
 pub fn few_lines_wait()
-    ensures { (suppress : Bool) (operands : List Operand) (x : List Line)
-        → length (waiting_lines x (plan suppress operands x)) ≤ most_waiting (plan suppress operands x).ending }
+    ensures { (style : Style) (operands : List Operand) (x : List Line)
+        → length (waiting_lines x (plan style operands x)) ≤ most_waiting (plan style operands x).ending }
 {}
 
 /// What is settled is what all continuations agree on, and the lines that wait are those that two continuations put into
@@ -62,10 +63,10 @@ pub fn few_lines_wait()
 /// at a cut may be left out or not. Places are right: each section, a skipped one too, has in their order the lines that
 /// go into it, and no others.
 pub fn agreed_is_settled()
-    ensures outputs { (suppress : Bool) (operands : List Operand) (x : List Line)
-        → IsAgreed (whole_outputs suppress operands) x (settled_outputs suppress operands x) }
-    ensures waits { (suppress : Bool) (operands : List Operand) (x : List Line)
-        → IsUndecided (place_of suppress operands) x (waiting_lines x (plan suppress operands x)) }
-    ensures placed { (suppress : Bool) (operands : List Operand) (x : List Line)
-        → ArePlaced (place_of suppress operands x) suppress (plan suppress operands x) x }
+    ensures outputs { (style : Style) (operands : List Operand) (x : List Line)
+        → IsAgreed (whole_outputs style operands) x (settled_outputs style operands x) }
+    ensures waits { (style : Style) (operands : List Operand) (x : List Line)
+        → IsUndecided (place_of style operands) x (waiting_lines x (plan style operands x)) }
+    ensures placed { (style : Style) (operands : List Operand) (x : List Line)
+        → ArePlaced (place_of style operands x) style.suppress (plan style operands x) x }
 {}

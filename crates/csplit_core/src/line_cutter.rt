@@ -12,7 +12,7 @@ ghost use Rattle.csplit_core.specs.{
   Cutter.{IsFit, IsSound, load, seen},
   inner.Cutter.{AreClear, Clears, CutAt, CutsAll, CutsOn, EndsAll, PassesThenHolds, Judges, Opens, HoldsLines, IsAimed, IsFound},
   inner.Cutter.{IsLine, IsNoCut, IsWhole, Lacks, PassesClear, PassesCut, PassesOver, Spread, Starts, StopsAt},
-  inner.Cutter.{Stretches, Takes, Tries, TriesNext, WillCut, equipped},
+  inner.Cutter.{Stretches, Takes, Tries, TriesNext, WillCut, WillSkip, equipped, past_in},
   Input.{newline, without_newline},
 };
 ghost use Rattle.csplit_core.specs.declared.progress.Attempt.TheVariants as attempt_is;
@@ -21,7 +21,7 @@ use crate::files::{opening_of, writer_of};
 use crate::holding::{drain, hold_last, write_front};
 use crate::lines::{skip_line, split_lines};
 use crate::matcher::{Matcher, text_of};
-use crate::next_operand::{find_matcher, find_window, is_kept, next_operand};
+use crate::next_operand::{find_matcher, find_window, is_kept, next_operand, past_next};
 use crate::progress::{Attempt, Progress};
 use crate::{Operand, Style, Target, Times};
 use memchr::memchr;
@@ -90,7 +90,7 @@ impl<'o> LineCutter<'o> {
         let mut writer = writer_of(alloc, &style)?;
         writer.begin(opening_of(&style, is_kept(next)), outs)?;
         let progress = Progress::start();
-        let aim = progress.attempt(style.suppress, operands, 0, false);
+        let aim = progress.attempt(&style, operands, 0, false);
         Ok(LineCutter {
             alloc,
             operands,
@@ -214,9 +214,10 @@ impl<'o> LineCutter<'o> {
         if self.is_past() {
             return Ok(unfound(text.len()));
         }
+        let from = self.left_out(size);
         let line = &text[..size];
         let Some(cut) = self.try_line(line, is_found) else {
-            return self.go_on(text, 0, size, outs);
+            return self.go_on(text, from, size, outs);
         };
         if self.window.is_empty() {
             return self.cut_on(cut, text, size, outs);
@@ -280,6 +281,25 @@ impl<'o> LineCutter<'o> {
         })
     }
 
+    /// How many of the next line's bytes are left out, of which it has `size`: all or none.
+    fn left_out(&self, size: usize) -> usize
+        requires { self.now.lines < 2 ^ 64 - 1 }
+        ensures all { WillSkip (seen self.now) → result ≡ size }
+        ensures none { (WillSkip (seen self.now) → ⊥) → result ≡ 0 }
+        ensures within { result ≤ size }
+    {
+        if self.will_skip() { size } else { 0 }
+    }
+
+    /// Whether the next line is left out, since the last cut stands there.
+    fn will_skip(&self) -> bool
+        requires { self.now.lines < 2 ^ 64 - 1 }
+        ensures yes { result ≡ true → WillSkip (seen self.now) }
+        ensures no { result ≡ false → WillSkip (seen self.now) → ⊥ }
+    {
+        self.lines + 1 < self.progress.current
+    }
+
     /// Takes in one line, which may lack its newline.
     pub(crate) fn take_line<O: Outs>(&mut self, line: &[u8], outs: &mut O) -> Result<(), Fault>
         requires line { IsLine line.now }
@@ -300,6 +320,9 @@ impl<'o> LineCutter<'o> {
         requires sound { IsSound (seen self.old) }
         ensures { StopsAt (seen self.old) text.now (seen self.new) result }
     {
+        if self.will_skip() {
+            return unfound(0);
+        }
         match self.aim {
             Attempt::Above(_, line) => unfound(self.pass_below(line, text)),
             Attempt::Missed => self.pass_unmatched(text),
@@ -311,17 +334,19 @@ impl<'o> LineCutter<'o> {
         }
     }
 
-    /// Counts the lines of a text before the line of this number.
+    /// Counts the lines of a text before the one with which the next operand cuts at the line of this number.
     fn pass_below(&mut self, line: u64, text: &[u8]) -> usize
         requires whole { IsWhole text.now }
         requires fits { self.old.lines + length text.now < 2 ^ 63 }
         requires sound { IsSound (seen self.old) }
         requires aim { (matched : ℕ) × (self.old.aim ≡ attempt_is.Above matched line) }
+        requires near { WillSkip (seen self.old) → ⊥ }
         ensures { PassesOver (seen self.old) text.now (seen self.new) result }
     {
-        let count = match reach(text, line - 1 - self.lines, NEWLINE) {
+        let last = line - self.past_last() - 1;
+        let count = match reach(text, last - self.lines, NEWLINE) {
             Reach::Ends(end) => {
-                self.lines = line - 1;
+                self.lines = last;
                 return end;
             }
             Reach::Short(count) => count,
@@ -330,12 +355,20 @@ impl<'o> LineCutter<'o> {
         text.len()
     }
 
+    /// How many lines past the last one the cut of the next operand may stand.
+    fn past_last(&self) -> u64
+        ensures { result ≡ past_in (seen self.now) }
+    {
+        past_next(&self.style, next_operand(self.operands, self.progress.done))
+    }
+
     /// Counts the lines of a text before the first one with the pattern that is searched for.
     fn pass_unmatched(&mut self, text: &[u8]) -> Passed
         requires whole { IsWhole text.now }
         requires fits { self.old.lines + length text.now < 2 ^ 63 }
         requires sound { IsSound (seen self.old) }
         requires aim { self.old.aim ≡ attempt_is.Missed }
+        requires near { WillSkip (seen self.old) → ⊥ }
         ensures { StopsAt (seen self.old) text.now (seen self.new) result }
     {
         let clear = self.pass_clear(text);
@@ -401,7 +434,7 @@ impl<'o> LineCutter<'o> {
         self.lines += 1;
         match self.aim {
             Attempt::Above(matched, line) => {
-                if self.lines < line {
+                if self.lines + self.past_last() < line {
                     return None;
                 }
                 Some(CutPoint { matched, line })
@@ -442,10 +475,9 @@ impl<'o> LineCutter<'o> {
         ensures tries { (line : List ℕ) → IsFound (seen self.old) (without_newline line) self.old.lines found
             → Tries (seen self.old) line (seen self.new) result }
     {
-        let suppress = self.style().suppress;
         let attempt = self
             .progress
-            .attempt(suppress, self.operands, self.lines, found);
+            .attempt(&self.style, self.operands, self.lines, found);
         match cut_of(attempt) {
             Some(cut) => Some(cut),
             None => {

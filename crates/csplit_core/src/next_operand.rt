@@ -1,9 +1,10 @@
 //! What the next operand needs.
 ghost use Rattle.std.specs.Prelude.{◌≡◌, [], drop, IfOk, IfErr, option_map};
-ghost use Rattle.csplit_core.specs.{Cutter.{kept_next, most_next, next_of, pattern_next}, Input.newline};
+ghost use Rattle.csplit_core.specs.{Cutter.{kept_next, most_next, next_of, past_next, pattern_next}, Input.newline};
 
 use crate::matcher::Matcher;
-use crate::{Offset, Operand, Target};
+use crate::progress::past_last;
+use crate::{Offset, Operand, Style, Target};
 use ports_core::Fault;
 use seg_core::line::NEWLINE;
 use seg_core::line_window::LineWindow;
@@ -27,6 +28,16 @@ pub(crate) fn is_kept(next: Option<&Operand>) -> bool
         Target::Number(_) => true,
         Target::Search { is_kept, .. } => *is_kept,
     }
+}
+
+/// How many lines past the last one its cut may stand.
+pub(crate) fn past_next(style: &Style, next: Option<&Operand>) -> u64
+    ensures { result ≡ past_next style.now (option_map (λ operand. operand.now) next.entry) }
+{
+    let Some(operand) = next else {
+        return 0;
+    };
+    past_last(style, &operand.target)
 }
 
 /// What matching with its pattern needs, if it has one.

@@ -2,13 +2,13 @@
 ghost use Rattle.std.specs.Prelude.{◌≡◌, ◌<◌, ◌≤◌, ◌-◌, ◌^◌, ◌∷◌, drop, min, List};
 ghost use Rattle.csplit_core.specs.{
   Operand.{Line, has_more, moved},
-  Plan.{line_after, search_line, state_after},
+  Plan.{line_after, past_last, search_line, state_after},
   inner.Cutter.{AreSeen, FallsAt, MovesOn, AgreesWithPlan},
   Progress.state_of,
 };
 ghost use Rattle.operand_core.specs.declared.operand.Operand.{Operand};
 
-use crate::{Offset, Operand, Target, Times};
+use crate::{Offset, Operand, Style, Target, Times};
 
 /// What the next operand does.
 #[derive(Clone, Copy)]
@@ -17,7 +17,7 @@ pub enum Attempt {
     UsedUp,
     /// Its pattern matches no line.
     Missed,
-    /// It cuts above the last line: the line that the last pattern matched, and the line of the cut, or the last number
+    /// It cuts further than it may: the line that the last pattern matched, and the line of the cut, or the last number
     /// that there is where that line is further.
     Above(u64, u64),
     /// It cuts below the current line.
@@ -69,31 +69,32 @@ impl Progress {
 
     /// What the next operand does where there are `total` lines. `found` says whether the last of them has its pattern;
     /// the lines before that one don't have it, from the beginning of its search on.
-    pub fn attempt(&self, suppress: bool, operands: &[Operand], total: u64, found: bool) -> Attempt
+    pub fn attempt(&self, style: &Style, operands: &[Operand], total: u64, found: bool) -> Attempt
         requires current { self.now.current < 2 ^ 64 - 1 }
         requires matched { self.now.matched < 2 ^ 64 - 1 }
         requires repetition { self.now.repetition < 2 ^ 64 - 1 }
-        requires few { total < 2 ^ 64 - 1 }
-        ensures says { (lines : List Line) → AreSeen suppress lines total (state_of operands.now self.now) found
-            → AgreesWithPlan suppress lines (state_of operands.now self.now) result }
-        ensures moves { self.now.matched ≤ total → MovesOn operands.now total self.now result }
+        requires few { total < 2 ^ 64 - 2 }
+        ensures says { (lines : List Line) → AreSeen style.now.suppress lines total (state_of operands.now self.now) found
+            → AgreesWithPlan style.now lines (state_of operands.now self.now) result }
+        ensures moves { self.now.matched ≤ total → MovesOn style.now operands.now total self.now result }
     {
         let Some(operand) = operands.get(self.done) else {
             return Attempt::UsedUp;
         };
+        let most = total + past_last(style, &operand.target);
         match &operand.target {
             Target::Number(number) => {
                 let cut = number.saturating_mul(self.repetition + 1);
-                fall(total, self.current, self.matched, cut)
+                fall(most, self.current, self.matched, cut)
             }
             Target::Search { offset, .. } => {
-                if total < self.search_line(suppress) {
+                if total < self.search_line(style.suppress) {
                     return Attempt::Missed;
                 }
                 if !found {
                     return Attempt::Missed;
                 }
-                fall(total, self.current, total, line_at(*offset, total))
+                fall(most, self.current, total, line_at(*offset, total))
             }
         }
     }
@@ -138,14 +139,24 @@ fn has_more(times: Times, repetition: u64) -> bool
     }
 }
 
-/// Where a cut falls among `total` lines.
-fn fall(total: u64, current: u64, matched: u64, cut: u64) -> Attempt
-    ensures { FallsAt total current matched cut result }
+/// How many lines past the last one the cut of an operand may stand.
+pub(crate) fn past_last(style: &Style, target: &Target) -> u64
+    ensures { result ≡ past_last style.now target.now }
 {
-    if total < cut {
-        Attempt::Above(matched, cut)
-    } else if cut < current {
+    match target {
+        Target::Number(_) => 0,
+        Target::Search { .. } => u64::from(style.one_past),
+    }
+}
+
+/// Where a cut falls, which may stand at the line `most` at most.
+fn fall(most: u64, current: u64, matched: u64, cut: u64) -> Attempt
+    ensures { FallsAt most current matched cut result }
+{
+    if cut < current {
         Attempt::Below
+    } else if most < cut {
+        Attempt::Above(matched, cut)
     } else {
         Attempt::Cuts(matched, cut)
     }

@@ -30,6 +30,7 @@ pub(crate) fn plain<'a>(
         text,
         elide: style.elide,
         suppress: style.suppress,
+        past: u64::from(style.one_past),
         current: 1,
         last_cut: 0,
         last_match: 0,
@@ -66,6 +67,8 @@ struct Cutting<'a> {
     text: &'a [u8],
     elide: bool,
     suppress: bool,
+    /// How many lines past the last one the cut of a pattern may stand.
+    past: u64,
     /// The first line of the next section.
     current: u64,
     /// The line of the last cut, 0 where there was none.
@@ -104,11 +107,12 @@ impl<'a> Cutting<'a> {
         match &operand.target {
             Target::Number(number) => {
                 let line = number.saturating_mul(repetition.saturating_add(1));
-                if is_endless && line > lines_in(self.text) {
+                if is_endless && line > lines_in(self.text) && line >= self.current {
                     self.put(true, u64::MAX)?;
                     return Ok(Next::End(None));
                 }
-                self.cut(true, line, Verdict::Range(operand.index, repetition))
+                let range = Verdict::Range(operand.index, repetition);
+                self.cut(true, line, lines_in(self.text), range)
             }
             Target::Search {
                 pattern,
@@ -122,14 +126,21 @@ impl<'a> Cutting<'a> {
                 };
                 self.last_match = line;
                 let range = Verdict::Range(operand.index, repetition);
-                self.cut(*is_kept, line_at(line, *offset), range)
+                let most = lines_in(self.text).saturating_add(self.past);
+                self.cut(*is_kept, line_at(line, *offset), most, range)
             }
         }
     }
 
-    /// Cuts at a line, unless it is above the last one or below the current one.
-    fn cut(&mut self, is_kept: bool, line: u64, range: Verdict) -> Result<Next, Fault> {
-        if line > lines_in(self.text) {
+    /// Cuts at a line, unless it is above the last one where this may be or below the current one.
+    fn cut(
+        &mut self,
+        is_kept: bool,
+        line: u64,
+        most: u64,
+        range: Verdict,
+    ) -> Result<Next, Fault> {
+        if line > most {
             self.put(is_kept, u64::MAX)?;
             return Ok(Next::End(Some(range)));
         }

@@ -167,7 +167,8 @@ fn lines_of(number: u32) -> [u8; 12] {
     text
 }
 
-/// Whether both agree on a text, with and without empty files, with and without the lines at cuts.
+/// Whether both agree on a text, with and without empty files, with and without the lines at cuts. Where files are kept, the
+/// cut of a pattern may stand one line past the last, too.
 fn agrees_on_text(
     alloc: Global,
     operands: &Operands,
@@ -183,6 +184,7 @@ fn agrees_on_text(
             quiet: false,
             elide: options / 2 % 2 == 1,
             suppress: options / 4 == 1,
+            one_past: options % 2 == 1,
         };
         if !agrees_under(alloc, operands, &style, text, cuttings)? {
             return Ok(false);

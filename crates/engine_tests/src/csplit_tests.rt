@@ -20,6 +20,9 @@ pub(crate) enum Options {
     Elide,
     Suppress,
     SuppressElide,
+    Past,
+    PastSuppress,
+    PastElide,
 }
 
 /// Options, operands, an input, the fault with which it ends, the sizes that are written, and the files that are left.
@@ -324,6 +327,127 @@ fn holds_what_an_offset_may_take_back(rt: HostRuntime) -> Result<(), Fail> {
     Ok(())
 }
 
+/// The cut of a pattern one line past the last is made at once.
+#[test]
+fn cuts_one_line_past_the_last(rt: HostRuntime) -> Result<(), Fail> {
+    check_rows(&rt, rt.alloc(), &PAST)
+}
+
+const PAST: [Row<'static>; 14] = [
+    (
+        Options::Past,
+        &["/b/+1"],
+        b"a\nb\n",
+        None,
+        b"4\n0\n",
+        &[b"a\nb\n", b""],
+    ),
+    (
+        Options::Plain,
+        &["/b/+1"],
+        b"a\nb\n",
+        Some(Fault::Verdict(Verdict::Range(0, 0))),
+        b"4\n",
+        &[],
+    ),
+    (
+        Options::Past,
+        &["/b/+1", "{*}"],
+        b"a\nb\nc\nb",
+        None,
+        b"4\n3\n0\n",
+        &[b"a\nb\n", b"c\nb", b""],
+    ),
+    (
+        Options::PastElide,
+        &["/b/+1", "{*}"],
+        b"a\nb\nc\nb\n",
+        None,
+        b"4\n4\n",
+        &[b"a\nb\n", b"c\nb\n"],
+    ),
+    (
+        Options::PastSuppress,
+        &["/b/+1", "{*}"],
+        b"a\nb\nc\nd\nb\n",
+        None,
+        b"4\n4\n0\n",
+        &[b"a\nb\n", b"d\nb\n", b""],
+    ),
+    (
+        Options::PastSuppress,
+        &["/b/+1"],
+        b"b\nc\nd\n",
+        None,
+        b"2\n2\n",
+        &[b"b\n", b"d\n"],
+    ),
+    (
+        Options::Past,
+        &["%b%+1"],
+        b"a\nb\n",
+        None,
+        b"0\n",
+        &[b""],
+    ),
+    (
+        Options::Past,
+        &["/b/+2"],
+        b"a\nb\n",
+        Some(Fault::Verdict(Verdict::Range(0, 0))),
+        b"4\n",
+        &[],
+    ),
+    (
+        Options::Past,
+        &["/b/+2"],
+        b"a\nb\nc\n",
+        None,
+        b"6\n0\n",
+        &[b"a\nb\nc\n", b""],
+    ),
+    (
+        Options::Past,
+        &["3"],
+        b"a\nb\n",
+        Some(Fault::Verdict(Verdict::Range(0, 0))),
+        b"4\n",
+        &[],
+    ),
+    (
+        Options::Past,
+        &["/b/+1", "3"],
+        b"a\nb\n",
+        Some(Fault::Verdict(Verdict::Range(1, 0))),
+        b"4\n0\n",
+        &[],
+    ),
+    (
+        Options::Past,
+        &["/b/+1", "/b/"],
+        b"a\nb\n",
+        Some(Fault::Verdict(Verdict::NoMatch(1, 0))),
+        b"4\n0\n",
+        &[],
+    ),
+    (
+        Options::PastSuppress,
+        &["/b/+1", "3"],
+        b"a\nb\nc\nd\n",
+        Some(Fault::Verdict(Verdict::Range(1, 0))),
+        b"4\n0\n",
+        &[],
+    ),
+    (
+        Options::Past,
+        &["/b/+1", "{*}"],
+        b"",
+        None,
+        b"0\n",
+        &[b""],
+    ),
+];
+
 const WAITS: &[Wait<'static>] = &[
     (&["/c/-1"], b"a\nb\n", 2, b"a\n"),
     (&["/c/-1"], b"a\nb\nc", 3, b"a\n"),
@@ -401,8 +525,9 @@ pub(crate) fn style_of(alloc: Global, options: Options) -> Result<Style, AllocEr
         ending: String::new(alloc),
         keep: matches!(options, Options::Keep),
         quiet: matches!(options, Options::Quiet),
-        elide: matches!(options, Options::Elide | Options::SuppressElide),
-        suppress: matches!(options, Options::Suppress | Options::SuppressElide),
+        elide: matches!(options, Options::Elide | Options::SuppressElide | Options::PastElide),
+        suppress: matches!(options, Options::Suppress | Options::SuppressElide | Options::PastSuppress),
+        one_past: matches!(options, Options::Past | Options::PastSuppress | Options::PastElide),
     })
 }
 

@@ -1,8 +1,9 @@
--- How `csplit` makes files of sections (POSIX.1-2017, XCU csplit, OPTIONS; `-b`, `elide` and `suppress` are GNU's).
+-- How `csplit` makes files of sections (POSIX.1-2017, XCU csplit, OPTIONS; `-b`, `elide`, `suppress` and `one_past` are
+-- GNU's).
 use Rattle.std.specs.Prelude.{ℕ, Bool, List}
 use Rattle.ports_core.specs.declared.form.Form.{Form}
 
--- how files are made
+-- how it cuts, and how files are made
 pub record Style : Type 0 where
   -- what a file's name has before its number and after it, and how the number is written
   pub prefix : List ℕ
@@ -16,3 +17,5 @@ pub record Style : Type 0 where
   pub elide : Bool
   -- the line at a cut is left out
   pub suppress : Bool
+  -- the cut of a pattern may stand one line past the last
+  pub one_past : Bool

@@ -5,7 +5,8 @@ use ports_core::Form;
 use std::alloc::{AllocError, Global};
 use std::marker::Model;
 
-/// How `csplit` makes files (POSIX.1-2017, XCU csplit, OPTIONS; `-b`, `elide` and `suppress` are GNU's).
+/// How `csplit` makes files (POSIX.1-2017, XCU csplit, OPTIONS; `-b`, `elide`, `suppress` and `one_past` are
+/// GNU's).
 #[derive(Drop)]
 pub struct Style {
     /// What a file's name has before its number (`-f`, `-b`).
@@ -22,6 +23,8 @@ pub struct Style {
     pub elide: bool,
     /// The line at a cut is left out (`--suppress-matched`).
     pub suppress: bool,
+    /// The cut of a pattern may stand one line past the last.
+    pub one_past: bool,
 }
 
 impl Model for Style {
@@ -38,6 +41,7 @@ impl Model for Style {
       quiet = s.quiet;
       elide = s.elide;
       suppress = s.suppress;
+      one_past = s.one_past;
     } };
 }
 
@@ -58,6 +62,7 @@ impl Style {
             quiet: self.quiet,
             elide: self.elide,
             suppress: self.suppress,
+            one_past: self.one_past,
         })
     }
 }

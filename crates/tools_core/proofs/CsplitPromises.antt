@@ -1,14 +1,5 @@
 -- What `csplit` leaves of its input.
-use Rattle.std.{
-  proofs.lemmas.{
-    Grind.common_steps,
-    Bool.{cond_both, false≢true, lt-ltb},
-    List.{append-nil, Elements.{All-append, All-cons, All-map, All-nil}},
-  },
-  proofs.Common.{suc, ◌≡◌, ℕ, ◌+◌, drop, Bool, true, false, eqb, List, [], ◌∷◌, Option, Some, None, refl, ◌∙◌, ◌-◌},
-  proofs.Common.{◌≤◌, ◌++◌, length, map, sym, ap, subst, arith, cond},
-  specs.List.flat_map,
-}
+use Rattle.std.{proofs.lemmas.{Grind.common_steps, Bool.{cond_both, false≢true, lt-ltb}, List.{append-nil, Elements.{All-append, All-cons, All-map, All-nil}}}, proofs.Common.{suc, ◌≡◌, ℕ, ◌+◌, drop, Bool, true, false, eqb, List, [], ◌∷◌, Option, Some, None, refl, ◌∙◌, ◌-◌}, proofs.Common.{◌≤◌, ◌++◌, length, map, sym, ap, arith, cond}, specs.List.flat_map}
 use Rattle.operand_core.specs.{
   declared.operand.{Operand.Operand, Target.{Target, TheVariants.{Number, Search}}, Times.{Times, TheVariants.Count}},
   Reading.{Aim, line, match, Spelled, Aimed, aims, fails, Words, AreRead, Asks, IsTarget, aim_of, failed},
@@ -155,15 +146,15 @@ record Kept (lines : List Line) (steps : List Step) (ending : Ending) : Type 0 w
   pub sections : AllKept (map (section_of lines) steps)
   pub final : is_last_kept ending ≡ true
 
-runs_keep : {suppress : Bool} {lines : List Line} {state : State} {steps : List Step} {last : State} {ending : Ending}
-    → Runs suppress lines state steps last ending → KeepTargets state.operands → Kept lines steps ending
+runs_keep : {style : Style} {lines : List Line} {state : State} {steps : List Step} {last : State} {ending : Ending}
+    → Runs style lines state steps last ending → KeepTargets state.operands → Kept lines steps ending
 runs_keep (cuts state operand operands matched cut steps last ending is at from within rest) keep =
     let these = rw is at keep in
     let past = runs_keep rest (kept_after (has_more operand.times state.repetition) operand operands these) in
     record { sections = (these.0, past.sections); final = past.final }
 runs_keep (misses state operand operands is none) keep = grind (arith, common_steps)
-runs_keep (is_above state operand operands matched cut is at far) keep = grind (arith, common_steps)
-runs_keep (is_below state operand operands matched cut is at within low) keep = grind (arith, common_steps)
+runs_keep (is_above state operand operands matched cut is at from far) keep = grind (arith, common_steps)
+runs_keep (is_below state operand operands matched cut is at low) keep = grind (arith, common_steps)
 runs_keep run keep = record { sections = tt; final = refl }
 
 -- The files of sections that are kept are joined their lines.
@@ -209,13 +200,13 @@ ends_well ending well = refl
 pub record IsCsplit (run : Run) (asked : CsplitAsked) (input : List ℕ) : Type 0 where
   pub operands : List Operand
   pub asks : Asks asked.calling asked.operands operands
-  pub well : is_final (plan asked.style.suppress operands (all_lines input)).ending ≡ false
+  pub well : is_final (plan asked.style operands (all_lines input)).ending ≡ false
   pub files : files_of run ≡ map slot_of
       (files_from (manner_of asked.style) 0
       (shares_in asked.style
-      (whole_sections (all_lines input) (plan asked.style.suppress operands (all_lines input)))))
+      (whole_sections (all_lines input) (plan asked.style operands (all_lines input)))))
   pub contents : contents_of run ≡ flat_map (file_in asked.style)
-      (whole_sections (all_lines input) (plan asked.style.suppress operands (all_lines input)))
+      (whole_sections (all_lines input) (plan asked.style operands (all_lines input)))
 
 pub is_csplit : {run : Run} {asked : CsplitAsked} {input : List ℕ} → Does run (Csplit asked) → HasInput run input
     → IsCsplit run asked input
@@ -223,7 +214,7 @@ is_csplit {run} {asked} {input} does has =
     let one = did_one does has in
     let (task, (operands, asks, is), made_is) = one.makes in
     let made = one_made one (csplit_task Cutters asked operands) (operands, asks, refl) in
-    let sections = whole_sections (all_lines input) (plan asked.style.suppress operands (all_lines input)) in
+    let sections = whole_sections (all_lines input) (plan asked.style operands (all_lines input)) in
     let files : files_of run ≡ map slot_of (files_from (manner_of asked.style) 0 (shares_in asked.style sections)) = ap (drop 2) made.slots in
     record {
       operands = operands;
@@ -239,8 +230,8 @@ pub are_numbered : (run : Run) (asked : CsplitAsked) (input : List ℕ) → Does
 are_numbered run asked input does has =
     let split = is_csplit does has in
     let lines = all_lines input in
-    let sections = whole_sections lines (plan asked.style.suppress split.operands lines) in
-    let steps = (plan asked.style.suppress split.operands lines).steps in
+    let sections = whole_sections lines (plan asked.style split.operands lines) in
+    let steps = (plan asked.style split.operands lines).steps in
     let IsClosed = λ (section : Section). state_in section ≡ Closed in
     let naming = naming_of asked.style in
     let made = are_made (manner_of asked.style) (shares_in asked.style sections) (each_section (λ state. state ≡ Closed) asked.style sections
@@ -262,18 +253,13 @@ none_is_lost run asked input does has whole none =
     let split = is_csplit does has in
     let lines = all_lines input in
     let keep = read_keep (words_of asked.calling asked.operands).operands split.operands (all_keep asked.calling asked.operands none) split.asks.read in
-    let kept = runs_keep (plan_runs asked.style.suppress split.operands lines) keep in
+    let kept = runs_keep (plan_runs asked.style split.operands lines) keep in
     rw (
       split.contents,
-      files_joined asked.style (whole_sections lines (plan asked.style.suppress split.operands lines))
-          (kept_then (map (section_of lines) (plan asked.style.suppress split.operands lines).steps) _ kept.sections kept.final),
+      files_joined asked.style (whole_sections lines (plan asked.style split.operands lines))
+          (kept_then (map (section_of lines) (plan asked.style split.operands lines).steps) _ kept.sections kept.final),
     )
-    (ap (λ suppress. bytes_of (lines_in (whole_sections lines (plan suppress split.operands lines)))) whole
-    ∙ rw (
-      none_lost_at_end split.operands lines
-          (subst (λ suppress. is_final (plan suppress split.operands lines).ending ≡ false) whole split.well),
-      all_bytes (lines_of newline input),
-    )
+    (rw (none_lost_at_end asked.style whole split.operands lines split.well, all_bytes (lines_of newline input))
     (joined-lines_of newline input))
 
 -- Each line in its turn
@@ -287,24 +273,24 @@ past_cut : (suppress : Bool) {cut : ℕ} → 1 ≤ cut → 1 ≤ line_after supp
 past_cut true some = omega (arith, some)
 past_cut false some = some
 
-all_in_turn : {suppress : Bool} {lines : List Line} {first : State} {steps : List Step} {last : State} {ending : Ending}
-    → Runs suppress lines first steps last ending → 1 ≤ first.current
-    → in_turn suppress lines steps (drop (last.current - 1) lines) ≡ drop (first.current - 1) lines
-all_in_turn {suppress} {lines} (cuts state operand operands matched cut steps' last' ending' is at from within rest) some =
+all_in_turn : {style : Style} {lines : List Line} {first : State} {steps : List Step} {last : State} {ending : Ending}
+    → Runs style lines first steps last ending → 1 ≤ first.current
+    → in_turn style.suppress lines steps (drop (last.current - 1) lines) ≡ drop (first.current - 1) lines
+all_in_turn {style} {lines} (cuts state operand operands matched cut steps' last' ending' is at from within rest) some =
     let low : 1 ≤ cut = omega (arith, some, from) in
     let step = step_of state operand matched cut in
-    rw (all_in_turn rest (past_cut suppress low), cut_rest suppress lines step low)
+    rw (all_in_turn rest (past_cut style.suppress low), cut_rest style.suppress lines step low)
     (between_rest state.current cut lines some from)
 all_in_turn run some = refl
 
-pub none_missing : (suppress : Bool) (operands : List Operand) {lines : List Line}
-    → is_final (plan suppress operands lines).ending ≡ false
-    → in_turn suppress lines (plan suppress operands lines).steps (last_section lines (plan suppress operands lines))
+pub none_missing : (style : Style) (operands : List Operand) {lines : List Line}
+    → is_final (plan style operands lines).ending ≡ false
+    → in_turn style.suppress lines (plan style operands lines).steps (last_section lines (plan style operands lines))
     ≡ lines
-none_missing suppress operands {lines} live =
-    let plan' = plan suppress operands lines in
-    let runs = plan_runs suppress operands lines in
+none_missing style operands {lines} live =
+    let plan' = plan style operands lines in
+    let runs = plan_runs style operands lines in
     let some = (are_within runs (omega arith)).1 in
-    ap (in_turn suppress lines plan'.steps)
+    ap (in_turn style.suppress lines plan'.steps)
     (ap (λ end. lines_between plan'.last.current end lines) (ends_after_all (length lines) plan'.ending live) ∙ rest_is_all lines _ some)
     ∙ all_in_turn runs (omega arith)

@@ -347,10 +347,10 @@ last_section lines plan = lines_between plan.last.current (whole_end (length lin
 -- one where empty files are left out.
 pub record AreSections (style : Style) (operands : List Operand) (input : List ℕ)
     (contents : List (List ℕ)) : Type 0 where
-  pub all : in_turn style.suppress (all_lines input) (plan style.suppress operands (all_lines input)).steps
-      (last_section (all_lines input) (plan style.suppress operands (all_lines input))) ≡ all_lines input
+  pub all : in_turn style.suppress (all_lines input) (plan style operands (all_lines input)).steps
+      (last_section (all_lines input) (plan style operands (all_lines input))) ≡ all_lines input
   pub files : contents ≡ flat_map (file_in style)
-      (whole_sections (all_lines input) (plan style.suppress operands (all_lines input)))
+      (whole_sections (all_lines input) (plan style operands (all_lines input)))
 
 -- The files are numbered in their order: each has its place's name, from 0 on, and no two have one name. Where there are
 -- at most `ordered_count` files (as many numbers have one count of digits, and no `#` marks them), this is the order of

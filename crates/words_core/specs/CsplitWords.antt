@@ -11,7 +11,7 @@ use Rattle.operand_core.specs.{
 }
 pub use Rattle.ports_core.specs.Name.{decimal_form}
 use Rattle.ports_core.specs.declared.{
-  calling.Calling.Calling,
+  calling.Calling.{Calling, TheVariants.{Cutters, OwnName}},
   fault.{
     Fault.{Fault, TheVariants.{Memory, Usage}},
     UsageKind.{UsageKind, TheVariants.{MissingOperand, BadOperand, BadPattern, PatternTooLarge}},
@@ -82,6 +82,7 @@ style_with asked format = record {
   quiet = asked.quiet;
   elide = asked.elide;
   suppress = asked.suppress;
+  one_past = false;
 }
 
 abbrev pub style_by : CsplitOptions → Style
@@ -90,10 +91,15 @@ style_by asked = style_with asked (format_or asked.digits asked.format)
 abbrev pub style_of : List Chosen → Style
 style_of options = style_by (chosen_by options)
 
+-- The style of this call: by the tool's own name the cut of a pattern may stand one line past the last.
+abbrev pub style_in : Calling → Style → Style
+style_in Cutters style = style
+style_in OwnName style = record style { one_past = true }
+
 abbrev pub asked_with : Calling → Style → List ℕ → List GivenOperand → CsplitAsked
 asked_with calling style input rest = record {
   calling = calling;
-  style = style;
+  style = style_in calling style;
   input = input;
   operands = texts_of rest;
   places = places_of rest;

@@ -27,7 +27,7 @@ use Rattle.words_core.specs.{
   declared.spelling.State.{State, TheVariants.Reading},
   declared.value.Followed.TheVariants.Descriptor,
   declared.tail_words.TailSettings.TailSettings,
-  CsplitWords.style_of,
+  CsplitWords.{style_in, style_of},
   EndsWords.{EndsAsked, ten_lines},
   SplitWords.{SplitAsked, no_options},
   Given.{Given, GivenOperand, one_option},
@@ -250,7 +250,7 @@ MeanTheSame words = settings_of OwnName words ≡ settings_of Cutters words
 
 -- the settings of `csplit`, called by its own name
 abbrev pub by_own_name : Result Settings Fault → Result Settings Fault
-by_own_name (Ok (Csplit asked)) = Ok (Csplit (record asked { calling = OwnName }))
+by_own_name (Ok (Csplit asked)) = Ok (Csplit (record asked { calling = OwnName; style = style_in OwnName asked.style }))
 by_own_name other = other
 
 -- the first of these words of `tail` says where it begins (43 is a `+`)
@@ -330,7 +330,7 @@ abbrev pub CsplitAsks : List (List ℕ) → Style → Type 0
 CsplitAsks words style = (calling : Calling)
     → settings_of calling (codes "csplit" ∷ words ++ codes "-" ∷ codes "1" ∷ []) ≡ Ok (Csplit (record {
       calling = calling;
-      style = style;
+      style = style_in calling style;
       input = codes "-";
       operands = codes "1" ∷ [];
       places = (length words + 2) ∷ [];

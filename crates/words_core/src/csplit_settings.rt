@@ -2,7 +2,7 @@
 ghost use Rattle.std.specs.Prelude.{◌≡◌, ◌⊎◌, [], map, slice_index_or, IfOk, IfErr};
 ghost use Rattle.operand_core.specs.Reading.{Asks};
 ghost use Rattle.words_core.specs.{
-  CsplitWords.{HasBadOperand, HasRead, asked_with, operand_fault, pattern_kind},
+  CsplitWords.{HasBadOperand, HasRead, asked_with, operand_fault, pattern_kind, style_in},
   Given.operand_seen,
 };
 
@@ -15,7 +15,7 @@ use std::marker::Model;
 /// What `csplit` is to do with its input. Its operands are those that their words spell.
 #[derive(Drop)]
 pub struct CsplitSettings<'a> {
-    /// How the program is called: by the tool's own name patterns may be in GNU's spelling.
+    /// How the program is called: by the tool's own name patterns may be in GNU's spelling, and cut one line past the last.
     pub calling: Calling,
     /// How files are made.
     pub style: Style,
@@ -80,6 +80,7 @@ pub fn read_settings<'a>(
         (λ fault. (fault ≡ Fault.Memory)
         ⊎ HasBadOperand (asked_with calling style input.now (map operand_seen operands.now)) fault) }
 {
+    let style = style_in(calling, style);
     let words = texts_of(alloc, operands)?;
     let places = places_of(alloc, operands)?;
     match read_operands(alloc, calling, &words) {
@@ -93,6 +94,17 @@ pub fn read_settings<'a>(
         }),
         Err(fault) => Err(operand_fault(&places, &fault)),
     }
+}
+
+/// How files are made by this call: by the tool's own name the cut of a pattern may stand one line past the last.
+fn style_in(calling: Calling, mut style: Style) -> Style
+    ensures { result ≡ style_in calling style }
+{
+    match calling {
+        Calling::Cutters => {}
+        Calling::OwnName => style.one_past = true,
+    }
+    style
 }
 
 /// The fault that tells what is wrong with an operand, whose word stands at the place of its index.

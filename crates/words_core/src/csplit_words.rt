@@ -137,6 +137,7 @@ fn choose_style(alloc: Global, options: &[Chosen<'_>]) -> Result<Style, Fault>
         quiet: asked.quiet,
         elide: asked.elide,
         suppress: asked.suppress,
+        one_past: false,
     })
 }
 

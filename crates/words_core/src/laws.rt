@@ -350,9 +350,9 @@ pub fn letters_ask()
         }))) }
 {}
 
-/// What words mean doesn't depend on how the program is called, but for three things: a first word of `tail` that is a `+` and
-/// what may follow it, how patterns of `csplit` may be spelled, and what `tee` does once an output is broken where no option
-/// says it.
+/// What words mean doesn't depend on how the program is called, but for four things: a first word of `tail` that is a `+` and
+/// what may follow it, how patterns of `csplit` may be spelled and whether they may cut one line past the last, and what `tee`
+/// does once an output is broken where no option says it.
 #[tactic(auto, unfolding(crate::specs::Spelling::foremost, crate::specs::Table::tools))]
 pub fn callings_mean_the_same()
     ensures none { MeanTheSame [] }
@@ -530,6 +530,7 @@ pub fn csplit_options_ask()
       quiet = false;
       elide = false;
       suppress = false;
+      one_past = false;
     }) }
     ensures prefix { (text : List ℕ) → CsplitAsks (codes "-f" ∷ text ∷ []) (record plain_style { prefix = text }) }
     ensures digits { (value : List ℕ) (digits : ℕ) → up_to 255 (digits_of value) ≡ Ok digits

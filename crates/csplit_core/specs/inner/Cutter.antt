@@ -5,7 +5,7 @@ use Rattle.std.specs.{
 }
 use Rattle.csplit_core.specs.{
   Operand.{Operand, Line, is_match},
-  Plan.{State, CutsAt, search_line, line_after, state_after},
+  Plan.{State, CutsAt, search_line, line_after, state_after, past_last},
   Measure.Moves,
   declared.{
     progress.{Progress.Progress, Attempt.{Attempt, TheVariants.{UsedUp, Missed, Above, Below, Cuts}}},
@@ -18,7 +18,7 @@ use Rattle.csplit_core.specs.{
   Planned.{Plan, plan},
   inner.PlanLaws.needed,
   Section.is_final,
-  Cutter.{CutterState, AimHolds, most_by, pattern_by, seen, suppress_in, state_in, kept_by, IsFit, IsSound, load},
+  Cutter.{CutterState, AimHolds, most_by, pattern_by, seen, suppress_in, state_in, kept_by, past_by, IsFit, IsSound, load},
   Cutter.{draft_by, IsAt, EndsNow, IsLive, Stands},
   CsplitState.{CsplitState, terms, whole_lines},
 }
@@ -50,38 +50,38 @@ pub record AreSeen (suppress : Bool) (lines : List Line) (total : ℕ) (state : 
   pub others : (operand : Operand) (operands : List Operand) → state.operands ≡ operand ∷ operands → (other : ℕ)
       → search_line suppress state ≤ other → other < total → is_match operand lines other ≡ false
 
--- the next operand cuts at this line, which is among those that are there
-pub record GoesPast (suppress : Bool) (lines : List Line) (state : State) (matched cut : ℕ) : Type 0 where
+-- the next operand cuts at this line, which is no further than it may cut
+pub record GoesPast (style : Style) (lines : List Line) (state : State) (matched cut : ℕ) : Type 0 where
   pub operand : Operand
   pub operands : List Operand
   pub are : state.operands ≡ operand ∷ operands
-  pub cuts : CutsAt suppress lines state operand operand.target matched cut
+  pub cuts : CutsAt style lines state operand operand.target matched cut
   pub from : state.current ≤ cut
-  pub within : cut ≤ length lines
+  pub within : cut ≤ length lines + past_last style operand.target
 
 -- an attempt agrees with the plan: it ends here, or has one more step
-abbrev pub AgreesWithPlan : Bool → List Line → State → Attempt → Type 0
-AgreesWithPlan suppress lines state (Cuts matched line) = GoesPast suppress lines state matched line
-AgreesWithPlan suppress lines state attempt = EndsHere suppress lines state attempt
+abbrev pub AgreesWithPlan : Style → List Line → State → Attempt → Type 0
+AgreesWithPlan style lines state (Cuts matched line) = GoesPast style lines state matched line
+AgreesWithPlan style lines state attempt = EndsHere style lines state attempt
 
--- where a cut falls
-abbrev pub FallsAt : (total current matched cut : ℕ) → Attempt → Type 0
-FallsAt total current matched cut UsedUp = ⊥
-FallsAt total current matched cut Missed = ⊥
-FallsAt total current matched cut (Above last line) = (last ≡ matched) × (line ≡ cut) × (total < cut)
-FallsAt total current matched cut Below = (cut ≤ total) × (cut < current)
-FallsAt total current matched cut (Cuts last line) = (last ≡ matched) × (line ≡ cut) × (current ≤ cut) × (cut ≤ total)
+-- where a cut falls, which may stand at the line `most` at most
+abbrev pub FallsAt : (most current matched cut : ℕ) → Attempt → Type 0
+FallsAt most current matched cut UsedUp = ⊥
+FallsAt most current matched cut Missed = ⊥
+FallsAt most current matched cut (Above last line) = (last ≡ matched) × (line ≡ cut) × (current ≤ cut) × (most < cut)
+FallsAt most current matched cut Below = cut < current
+FallsAt most current matched cut (Cuts last line) = (last ≡ matched) × (line ≡ cut) × (current ≤ cut) × (cut ≤ most)
 
 -- a cut moves on: so a run makes no more steps than `needed` says
-abbrev pub MovesOn : List Operand → (total : ℕ) → Progress → Attempt → Type 0
-MovesOn operands total progress UsedUp = Unit {0}
-MovesOn operands total progress Missed = Unit {0}
-MovesOn operands total progress (Above matched line) = WillMove operands total progress matched line
-MovesOn operands total progress Below = Unit {0}
-MovesOn operands total progress (Cuts matched line) = (operand : Operand) × (rest : List Operand)
+abbrev pub MovesOn : Style → List Operand → (total : ℕ) → Progress → Attempt → Type 0
+MovesOn style operands total progress UsedUp = Unit {0}
+MovesOn style operands total progress Missed = Unit {0}
+MovesOn style operands total progress (Above matched line) = WillMove style operands total progress matched line
+MovesOn style operands total progress Below = Unit {0}
+MovesOn style operands total progress (Cuts matched line) = (operand : Operand) × (rest : List Operand)
     × (progress.done < length operands) × (drop progress.done operands ≡ operand ∷ rest)
     × Moves total (state_of operands progress) operand.target matched line × (matched ≤ total)
-    × (progress.current ≤ line) × (line ≤ total)
+    × (progress.current ≤ line) × (line ≤ total + past_last style operand.target)
 
 -- a text of complete lines
 abbrev pub IsWhole : List ℕ → Type 0
@@ -110,11 +110,11 @@ abbrev pub part_at : {cutter : CutterState} {x left : List ℕ} → IsAt cutter 
 part_at {cutter} at = draft_part (manner_of cutter.style) (draft_at at)
 
 abbrev pub plan_in : CutterState → List ℕ → Plan
-plan_in cutter x = plan (suppress_in cutter) cutter.operands (all_lines x)
+plan_in cutter x = plan cutter.style cutter.operands (all_lines x)
 
 -- the next operand cuts there, where the lines x came in
 abbrev pub CutsIn : CutterState → List ℕ → CutPoint → Type 0
-CutsIn cutter x cut = GoesPast (suppress_in cutter) (all_lines x) (state_in cutter) cut.matched cut.line
+CutsIn cutter x cut = GoesPast cutter.style (all_lines x) (state_in cutter) cut.matched cut.line
 
 -- where the plan over x ends, as far as its fault is known from it
 pub record IsJudged (cutter : CutterState) (x : List ℕ) : Type 0 where
@@ -123,7 +123,7 @@ pub record IsJudged (cutter : CutterState) (x : List ℕ) : Type 0 where
 
 -- what was found of the next operand stays so
 abbrev pub IsAimed : CutterState → Type 0
-IsAimed cutter = AimHolds cutter.operands cutter.lines cutter.progress cutter.aim
+IsAimed cutter = AimHolds cutter.style cutter.operands cutter.lines cutter.progress cutter.aim
 
 -- What any call leaves of a cutter that had these, and of its outputs.
 pub record KeepsBy (given : List Operand) (made : Style) (before : WriterState) (next : CutterState)
@@ -195,7 +195,7 @@ pub record Looked (cutter : CutterState) (x line : List ℕ) : Type 0 where
       → (other : ℕ) → search_line (suppress_in cutter) (state_in cutter) ≤ other → other < cutter.lines
       → is_match operand (all_lines x) other ≡ false
 
--- The next operand cuts at this line, which is among those that came in.
+-- The next operand cuts at this line, which is no further than it may cut.
 pub record WillCut (cutter : CutterState) (cut : CutPoint) : Type 0 where
   pub operand : Operand
   pub operands : List Operand
@@ -204,7 +204,7 @@ pub record WillCut (cutter : CutterState) (cut : CutPoint) : Type 0 where
   pub moves : Moves cutter.lines (state_in cutter) operand.target cut.matched cut.line
   pub matched : cut.matched ≤ cutter.lines
   pub from : cutter.progress.current ≤ cut.line
-  pub within : cut.line ≤ cutter.lines
+  pub within : cut.line ≤ cutter.lines + past_last cutter.style operand.target
 
 -- where a search after this cut begins
 abbrev pub search_after : Bool → CutPoint → ℕ
@@ -336,12 +336,21 @@ pub record CutsAll (told : Bool) (cutter : CutterState) (cut : CutPoint) (place 
       → Puts told cutter next (part_at at) (settled_part cutter (x ++ more)) old new fault
   pub went : IfNone fault (CutAll cutter cut place left line more next)
 
+-- how many lines past the last one the next cut may stand
+abbrev pub past_in : CutterState → ℕ
+past_in cutter = past_by cutter.style (state_in cutter).operands
+
+-- The next line is left out: the last cut stands there, and it came before that line.
+abbrev pub WillSkip : CutterState → Type 0
+WillSkip cutter = cutter.lines + 1 < cutter.progress.current
+
 -- What passing over lines says: the next operand stands as it did.
 pub record PassesOver (cutter : CutterState) (text : List ℕ) (next : CutterState) (n : ℕ) : Type 0 where
   pub same : next ≡ record cutter { lines = next.lines }
   pub within : n ≤ length text
   pub whole : IsWhole (take n text)
   pub few : next.lines ≤ cutter.lines + n
+  pub none : WillSkip cutter → n ≡ 0
   pub sound : IsSound next
   pub ends : (x : List ℕ) → Joins x (take n text) → cutter.lines ≡ line_count newline x → EndsNow cutter x
       → (next.lines ≡ line_count newline (x ++ take n text)) × EndsNow next (x ++ take n text)

@@ -3,9 +3,10 @@ use Rattle.std.specs.{
   Prelude.{◌≡◌, ℕ, suc, ◌+◌, ◌<◌, true, false, List, length, Option, Some, None, ◌-◌, ◌*◌, Bool, [], ◌∷◌, ◌≤◌},
   Prelude.◌++◌,
 }
+use Rattle.operand_core.specs.Style.{Style}
 use Rattle.csplit_core.specs.{
   Operand.{Operand, Line, Target, Number, Search, is_kept, most_held},
-  Plan.{IsFirst, MatchesNone, State, Step, Ending, Runs, used_up, missed, above, below, CutsAt, Misses},
+  Plan.{IsFirst, MatchesNone, State, Step, Ending, Runs, used_up, missed, above, below, CutsAt, Misses, past_last},
   Planned.{Plan, PlannedAttempt, ends, goes, attempt, ended, with_step, plan_within, plan},
   Section.{Section, settled_end},
 }
@@ -15,10 +16,10 @@ MatchesAs operand lines from None = MatchesNone operand lines from
 MatchesAs operand lines from (Some line) = IsFirst operand lines from line
 
 -- the steps after an attempt
-abbrev pub after : ℕ → Bool → List Line → State → PlannedAttempt → Plan
-after bound suppress lines state attempt = elim attempt [
+abbrev pub after : ℕ → Style → List Line → State → PlannedAttempt → Plan
+after bound style lines state attempt = elim attempt [
   | ends ending ↦ ended state ending
-  | goes step next ↦ with_step step (plan_within bound suppress lines next)
+  | goes step next ↦ with_step step (plan_within bound style lines next)
 ]
 
 -- how many more steps there can be
@@ -37,34 +38,34 @@ abbrev pub so : List Step → State → Ending → Plan
 so steps last ending = record { steps = steps; last = last; ending = ending }
 
 -- There is a plan
-abbrev pub RunsAs : Bool → List Line → State → Plan → Type 0
-RunsAs suppress lines state plan = Runs suppress lines state plan.steps plan.last plan.ending
+abbrev pub RunsAs : Style → List Line → State → Plan → Type 0
+RunsAs style lines state plan = Runs style lines state plan.steps plan.last plan.ending
 
 -- What stands at the end of a plan
 
-abbrev pub EndsAs : Bool → List Line → State → Ending → Type 0
-EndsAs suppress lines state used_up = state.operands ≡ []
-EndsAs suppress lines state (missed operand repetition) = (operands : List Operand)
-    × (state.operands ≡ operand ∷ operands) × Misses suppress lines state operand operand.target
+abbrev pub EndsAs : Style → List Line → State → Ending → Type 0
+EndsAs style lines state used_up = state.operands ≡ []
+EndsAs style lines state (missed operand repetition) = (operands : List Operand)
+    × (state.operands ≡ operand ∷ operands) × Misses style lines state operand operand.target
     × (repetition ≡ state.repetition)
-EndsAs suppress lines state (above operand repetition matched cut) = (operands : List Operand)
-    × (state.operands ≡ operand ∷ operands) × CutsAt suppress lines state operand operand.target matched cut
-    × (length lines < cut) × (repetition ≡ state.repetition)
-EndsAs suppress lines state (below operand repetition) = (operands : List Operand) × (matched : ℕ) × (cut : ℕ)
-    × (state.operands ≡ operand ∷ operands) × CutsAt suppress lines state operand operand.target matched cut
-    × (cut ≤ length lines) × (cut < state.current) × (repetition ≡ state.repetition)
+EndsAs style lines state (above operand repetition matched cut) = (operands : List Operand)
+    × (state.operands ≡ operand ∷ operands) × CutsAt style lines state operand operand.target matched cut
+    × (state.current ≤ cut) × (length lines + past_last style operand.target < cut) × (repetition ≡ state.repetition)
+EndsAs style lines state (below operand repetition) = (operands : List Operand) × (matched : ℕ) × (cut : ℕ)
+    × (state.operands ≡ operand ∷ operands) × CutsAt style lines state operand operand.target matched cut
+    × (cut < state.current) × (repetition ≡ state.repetition)
 
 -- what is settled stands before each cut of the next operand, and more so where it misses
-abbrev pub CutsFrom : Bool → List Line → State → ℕ → Bool → List Operand → Type 0
-CutsFrom suppress lines state past kept [] = kept ≡ true
-CutsFrom suppress lines state past kept (operand ∷ operands) = (kept ≡ is_kept operand.target)
-    × ((matched cut : ℕ) → CutsAt suppress lines state operand operand.target matched cut → past ≤ cut)
-    × (Misses suppress lines state operand operand.target → past ≤ suc (length lines) - most_held operand.target)
+abbrev pub CutsFrom : Style → List Line → State → ℕ → Bool → List Operand → Type 0
+CutsFrom style lines state past kept [] = kept ≡ true
+CutsFrom style lines state past kept (operand ∷ operands) = (kept ≡ is_kept operand.target)
+    × ((matched cut : ℕ) → CutsAt style lines state operand operand.target matched cut → past ≤ cut)
+    × (Misses style lines state operand operand.target → past ≤ suc (length lines) - most_held operand.target)
 
--- the steps lie within the lines
+-- the steps lie within the lines, but for a cut one past the last of them
 abbrev pub AreWithin : ℕ → List Step → Type 0
 AreWithin total [] = Unit {0}
-AreWithin total (step ∷ steps) = (1 ≤ step.current) × (step.current ≤ step.cut) × (step.cut ≤ total)
+AreWithin total (step ∷ steps) = (1 ≤ step.current) × (step.current ≤ step.cut) × (step.cut ≤ total + 1)
     × AreWithin total steps
 
 -- The open section goes on
@@ -93,10 +94,10 @@ pub record Grow (low high : List Section) : Type 0 where
   pub next : Next begun after
 
 -- a plan over more lines goes on from where the plan stands
-pub record GoesOn (suppress : Bool) (operands : List Operand) (a b : List Line) : Type 0 where
+pub record GoesOn (style : Style) (operands : List Operand) (a b : List Line) : Type 0 where
   pub more : List Step
   pub end : State
   pub how : Ending
-  pub rest : Runs suppress (a ++ b) (plan suppress operands a).last more end how
-  pub is : plan suppress operands (a ++ b)
-      ≡ record { steps = (plan suppress operands a).steps ++ more; last = end; ending = how }
+  pub rest : Runs style (a ++ b) (plan style operands a).last more end how
+  pub is : plan style operands (a ++ b)
+      ≡ record { steps = (plan style operands a).steps ++ more; last = end; ending = how }

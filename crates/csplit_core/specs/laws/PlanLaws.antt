@@ -9,12 +9,14 @@ use Rattle.csplit_core.specs.{
   Operand.{Operand, Line, is_match, Offset, Target, Number, Search, has_more},
   Plan.{State, search_line, start, Step, Ending, used_up, missed, above, below, CutsAt, Misses, line_after},
   Plan.{operands_after, repetition_after, state_after, step_of, Runs, is_used_up, misses, is_above, is_below, cuts},
+  Plan.past_last,
   Planned.{first_among, first_match, ends, goes, attempt, PlannedAttempt, attempt_at, attempt_from, attempt_to, attempt_of},
   Planned.{ended, with_step, plan_within, plan},
   inner.PlanLaws.{MatchesAs, after, left_of, needed_by, needed, so, RunsAs},
   Measure.Moves,
 }
 use Rattle.bre_core.specs.Pattern.{Pattern}
+use Rattle.operand_core.specs.Style.{Style}
 
 matched_on : (operand : Operand) (lines : List Line) {from : ℕ} (has : Bool) → is_match operand lines from ≡ has
     → from ≤ length lines
@@ -44,10 +46,10 @@ first_match_as operand lines from some = elim (cases_lt (length lines) (from - 1
 pub search_some : (suppress : Bool) (state : State) → 1 ≤ search_line suppress state
 search_some suppress state = search rules
 
-first_is : (suppress : Bool) (operand : Operand) (lines : List Line) (state : State) (matched : Option ℕ)
-    → MatchesAs operand lines (search_line suppress state) matched
-    → first_match operand lines (search_line suppress state) ≡ matched
-first_is suppress operand lines state matched is = search (rules, first_match_as, search_some)
+first_is : (style : Style) (operand : Operand) (lines : List Line) (state : State) (matched : Option ℕ)
+    → MatchesAs operand lines (search_line style.suppress state) matched
+    → first_match operand lines (search_line style.suppress state) ≡ matched
+first_is style operand lines state matched is = search (rules, first_match_as, search_some)
 
 pub less_test : (a b : ℕ) → a < b → nat_lt a b ≡ true
 less_test a b less = grind (arith, nat_tests, less)
@@ -63,192 +65,199 @@ from_not_less a b is = grind (arith, nat_tests, is)
 
 -- What a plan says, the computation does
 
-attempt_at_cut : (suppress : Bool) (lines : List Line) (state : State) (operand : Operand) (operands : List Operand)
+attempt_at_cut : (style : Style) (lines : List Line) (state : State) (operand : Operand) (operands : List Operand)
     (target : Target) (matched cut : ℕ)
-    → CutsAt suppress lines state operand target matched cut → attempt_to suppress lines state operand operands target
-    ≡ attempt_at suppress (length lines) state operand operands matched cut
-attempt_at_cut suppress lines state operand operands (Number n) matched cut at = search rules
-attempt_at_cut suppress lines state operand operands (Search pattern kept offset) matched cut at =
-    rw (first_is suppress operand lines state (Some matched) at.0, ← at.1) refl
+    → CutsAt style lines state operand target matched cut → attempt_to style lines state operand operands target
+    ≡ attempt_at style (length lines) state operand operands matched cut
+attempt_at_cut style lines state operand operands (Number n) matched cut at = search rules
+attempt_at_cut style lines state operand operands (Search pattern kept offset) matched cut at =
+    rw (first_is style operand lines state (Some matched) at.0, ← at.1) refl
 
-attempt_missed : (suppress : Bool) (lines : List Line) (state : State) {operand : Operand} (operands : List Operand)
+attempt_missed : (style : Style) (lines : List Line) (state : State) {operand : Operand} (operands : List Operand)
     (target : Target)
-    → Misses suppress lines state operand target
-    → attempt_to suppress lines state operand operands target ≡ ends (missed operand state.repetition)
-attempt_missed suppress lines state operands (Number n) none = absurd none
-attempt_missed suppress lines state {operand} operands (Search pattern kept offset) none =
-    rw (first_is suppress operand lines state None none) refl
+    → Misses style lines state operand target
+    → attempt_to style lines state operand operands target ≡ ends (missed operand state.repetition)
+attempt_missed style lines state operands (Number n) none = absurd none
+attempt_missed style lines state {operand} operands (Search pattern kept offset) none =
+    rw (first_is style operand lines state None none) refl
 
 fewer_operands : (total : ℕ) (state : State) (operands : List Operand)
     → needed_by total state operands < length operands * (total + 1) + 1
 fewer_operands total state [] = omega arith
 fewer_operands total state (operand ∷ operands) = search rules
 
-pub fewer_left : (total : ℕ) (state next : State) (target : Target) {matched : ℕ} (cut : ℕ)
-    → Moves total state target matched cut → 1 ≤ cut → cut ≤ total
+-- a cut stands one past the last line at most
+pub past_near : (style : Style) (target : Target) → past_last style target ≤ 1
+past_near style (Number n) = search rules
+past_near style (Search pattern kept offset) = search rules
+
+pub fewer_left : (style : Style) (total : ℕ) (state next : State) (target : Target) {matched : ℕ} (cut : ℕ)
+    → Moves total state target matched cut → 1 ≤ cut → cut ≤ total + past_last style target
     → next.repetition ≡ state.repetition + 1 → next.matched ≡ matched
     → left_of total next target < left_of total state target
-fewer_left total state next (Number zero) cut at some within again same = search rules
-fewer_left total state next (Number (suc n)) cut at some within again same = search rules
-fewer_left total state next (Search pattern kept offset) cut at some within again same = omega arith
+fewer_left style total state next (Number zero) cut at some within again same = search rules
+fewer_left style total state next (Number (suc n)) cut at some within again same = search rules
+fewer_left style total state next (Search pattern kept offset) cut at some within again same = omega arith
 
-fewer_by : (total : ℕ) (state : State) (operand : Operand) (operands : List Operand) {matched : ℕ} (cut : ℕ)
-    → Moves total state operand.target matched cut → 1 ≤ cut → cut ≤ total → (more : Bool) (next : State)
+fewer_by : (style : Style) (total : ℕ) (state : State) (operand : Operand) (operands : List Operand) {matched : ℕ} (cut : ℕ)
+    → Moves total state operand.target matched cut → 1 ≤ cut → cut ≤ total + past_last style operand.target
+    → (more : Bool) (next : State)
     → next.operands ≡ operands_after more operand operands
     → next.repetition ≡ repetition_after more state.repetition → next.matched ≡ matched
     → needed total next < needed_by total state (operand ∷ operands)
-fewer_by total state operand operands cut at some within true next left again same =
-    search (rules, fewer_left)
-fewer_by total state operand operands cut at some within false next left again same = search (rules, fewer_operands)
+fewer_by style total state operand operands cut at some within true next left again same =
+    let less = fewer_left style total state next operand.target cut at some within again same in rw left (omega arith)
+fewer_by style total state operand operands cut at some within false next left again same = search (rules, fewer_operands)
 
-pub fewer_moves : (suppress : Bool) (total : ℕ) (state : State) {operand : Operand} {operands : List Operand}
+pub fewer_moves : (style : Style) (total : ℕ) (state : State) {operand : Operand} {operands : List Operand}
     (matched cut : ℕ) → state.operands ≡ operand ∷ operands → Moves total state operand.target matched cut → 1 ≤ cut
-    → cut ≤ total
-    → needed total (state_after suppress operand operands state.repetition matched cut) < needed total state
-fewer_moves suppress total state {operand} {operands} matched cut is at some within =
-    rw is (fewer_by total state operand operands cut at some within (has_more operand.times state.repetition)
-    (state_after suppress operand operands state.repetition matched cut) refl refl refl)
+    → cut ≤ total + past_last style operand.target
+    → needed total (state_after style.suppress operand operands state.repetition matched cut) < needed total state
+fewer_moves style total state {operand} {operands} matched cut is at some within =
+    rw is (fewer_by style total state operand operands cut at some within (has_more operand.times state.repetition)
+    (state_after style.suppress operand operands state.repetition matched cut) refl refl refl)
 
-pub fewer : (suppress : Bool) (lines : List Line) (state : State) {operand : Operand} {operands : List Operand}
+pub fewer : (style : Style) (lines : List Line) (state : State) {operand : Operand} {operands : List Operand}
     (matched cut : ℕ) → state.operands ≡ operand ∷ operands
-    → CutsAt suppress lines state operand operand.target matched cut → 1 ≤ cut → cut ≤ length lines
-    → needed (length lines) (state_after suppress operand operands state.repetition matched cut)
+    → CutsAt style lines state operand operand.target matched cut → 1 ≤ cut
+    → cut ≤ length lines + past_last style operand.target → needed (length lines) (state_after style.suppress operand operands state.repetition matched cut)
     < needed (length lines) state
-fewer suppress lines state matched cut is at some within = search (rules, fewer_moves)
+fewer style lines state matched cut is at some within = search (rules, fewer_moves)
 
 pub line_some : (suppress : Bool) (cut : ℕ) → cut ≤ line_after suppress cut
 line_some suppress cut = search rules
 
-ends_within : (bound : ℕ) (suppress : Bool) (lines : List Line) (state : State) {operand : Operand}
+ends_within : (bound : ℕ) (style : Style) (lines : List Line) (state : State) {operand : Operand}
     {operands : List Operand} {ending : Ending} → state.operands ≡ operand ∷ operands
-    → attempt_to suppress lines state operand operands operand.target ≡ ends ending
-    → needed (length lines) state ≤ bound → plan_within bound suppress lines state ≡ so [] state ending
-ends_within bound suppress lines state is e enough = grind (arith, common_steps)
+    → attempt_to style lines state operand operands operand.target ≡ ends ending
+    → needed (length lines) state ≤ bound → plan_within bound style lines state ≡ so [] state ending
+ends_within bound style lines state is e enough = grind (arith, common_steps)
 
 -- A plan is the one that is computed
-pub computed : {suppress : Bool} {lines : List Line} {first : State} (all : List Step) (end : State) {how : Ending}
-    → Runs suppress lines first all end how
+pub computed : {style : Style} {lines : List Line} {first : State} (all : List Step) (end : State) {how : Ending}
+    → Runs style lines first all end how
     → (bound : ℕ) → needed (length lines) first ≤ bound → 1 ≤ first.current
-    → plan_within bound suppress lines first ≡ so all end how
+    → plan_within bound style lines first ≡ so all end how
 computed all end (is_used_up state none) zero enough some = refl
 computed all end (is_used_up state none) (suc bound) enough some = search rules
-computed {suppress} {lines} all end (misses state operand operands is none) bound enough some =
+computed {style} {lines} all end (misses state operand operands is none) bound enough some =
     search (rules, ends_within, attempt_missed)
-computed {suppress} {lines} all end (is_above state operand operands matched cut is at far) bound enough some =
-    ends_within bound suppress lines state is
+computed {style} {lines} all end (is_above state operand operands matched cut is at from far) bound enough some =
+    ends_within bound style lines state is
     (grind (
       arith,
       common_steps,
-      (attempt_at_cut suppress lines state operand operands operand.target matched cut at),
-      less_test,
-    )) enough
-computed {suppress} {lines} all end (is_below state operand operands matched cut is at within low) bound enough some =
-    ends_within bound suppress lines state is
-    (grind (
-      arith,
-      common_steps,
-      (attempt_at_cut suppress lines state operand operands operand.target matched cut at),
+      (attempt_at_cut style lines state operand operands operand.target matched cut at),
       less_test,
       not_less_test,
     )) enough
+computed {style} {lines} all end (is_below state operand operands matched cut is at low) bound enough some =
+    ends_within bound style lines state is
+    (grind (
+      arith,
+      common_steps,
+      (attempt_at_cut style lines state operand operands operand.target matched cut at),
+      less_test,
+    )) enough
 computed {lines} all end
     (cuts state operand operands matched cut steps last ending is at from within rest) zero enough some = search rules
-computed {suppress} {lines} all end (cuts state operand operands matched cut steps last ending is at from within rest)
+computed {style} {lines} all end (cuts state operand operands matched cut steps last ending is at from within rest)
     (suc bound) enough some =
     (grind (
       arith,
       common_steps,
       is,
-      (attempt_at_cut suppress lines state operand operands operand.target matched cut at),
+      (attempt_at_cut style lines state operand operands operand.target matched cut at),
       not_less_test,
     ))
     ∙ ap (with_step (step_of state operand matched cut)) (computed steps last rest bound
-    (let less : needed (length lines) (state_after suppress operand operands state.repetition matched cut) < needed
+    (let less : needed (length lines) (state_after style.suppress operand operands state.repetition matched cut) < needed
     (length lines) state = search (rules, fewer) in omega arith)
-    (omega (arith, line_some suppress cut)))
+    (omega (arith, line_some style.suppress cut)))
 
 -- An attempt agrees with the plan: it ends here, or any plan goes on after one more step, and there is less to do.
-abbrev Attempted : Bool → List Line → State → PlannedAttempt → Type 0
-Attempted suppress lines state (ends ending) = Runs suppress lines state [] state ending
-Attempted suppress lines state (goes step next) = (needed (length lines) next < needed (length lines) state)
+abbrev Attempted : Style → List Line → State → PlannedAttempt → Type 0
+Attempted style lines state (ends ending) = Runs style lines state [] state ending
+Attempted style lines state (goes step next) = (needed (length lines) next < needed (length lines) state)
     × (1 ≤ next.current) × ((steps : List Step) (last : State) (ending : Ending)
-    → Runs suppress lines next steps last ending → Runs suppress lines state (step ∷ steps) last ending)
+    → Runs style lines next steps last ending → Runs style lines state (step ∷ steps) last ending)
 
-module _ (suppress : Bool) (lines : List Line) (state : State) (some : 1 ≤ state.current) where
+module _ (style : Style) (lines : List Line) (state : State) (some : 1 ≤ state.current) where
   attempted_at : {operand : Operand} {operands : List Operand} → state.operands ≡ operand ∷ operands → (matched cut : ℕ)
-      → CutsAt suppress lines state operand operand.target matched cut → (far low : Bool)
-      → nat_lt (length lines) cut ≡ far → nat_lt cut state.current ≡ low → Attempted suppress lines state
-      (cond far (ends (above operand state.repetition matched cut)) (cond low (ends (below operand state.repetition))
-      (goes (step_of state operand matched cut) (state_after suppress operand operands state.repetition matched cut))))
-  attempted_at is matched cut at far low far_is low_is =
+      → CutsAt style lines state operand operand.target matched cut → (low far : Bool)
+      → nat_lt cut state.current ≡ low → nat_lt (length lines + past_last style operand.target) cut ≡ far
+      → Attempted style lines state
+      (cond low (ends (below operand state.repetition)) (cond far (ends (above operand state.repetition matched cut))
+      (goes (step_of state operand matched cut) (state_after style.suppress operand operands state.repetition matched cut))))
+  attempted_at is matched cut at low far low_is far_is =
       search (rules, is_above, is_below, cuts, fewer, line_some, from_less, from_not_less)
 
   attempted_from : {operand : Operand} {operands : List Operand} → state.operands ≡ operand ∷ operands
       → {pattern' : Pattern} {kept : Bool} (offset : Offset) → operand.target ≡ Search pattern' kept offset
-      → (matched : Option ℕ) → MatchesAs operand lines (search_line suppress state) matched
-      → Attempted suppress lines state (attempt_from suppress (length lines) state operand operands offset matched)
+      → (matched : Option ℕ) → MatchesAs operand lines (search_line style.suppress state) matched
+      → Attempted style lines state (attempt_from style (length lines) state operand operands offset matched)
   attempted_from is offset target None none = misses state _ _ is
       (search rules)
   attempted_from is offset target (Some matched) first = search (rules, attempted_at)
 
   attempted_to : {operand : Operand} {operands : List Operand} → state.operands ≡ operand ∷ operands → (target : Target)
       → operand.target ≡ target
-      → Attempted suppress lines state (attempt_to suppress lines state operand operands target)
+      → Attempted style lines state (attempt_to style lines state operand operands target)
   attempted_to is (Number n) target = search (rules, attempted_at)
   attempted_to is (Search pattern' kept offset) target = search (rules, attempted_from, first_match_as, search_some)
 
   attempted_of : (operands : List Operand) → state.operands ≡ operands
-      → Attempted suppress lines state (attempt_of suppress lines state operands)
+      → Attempted style lines state (attempt_of style lines state operands)
   attempted_of [] is = is_used_up state is
   attempted_of (operand ∷ operands) is = attempted_to is operand.target refl
 
-none_by : (suppress : Bool) (lines : List Line) (state : State) (operands : List Operand) → state.operands ≡ operands
-    → needed_by (length lines) state operands ≤ 0 → RunsAs suppress lines state (ended state used_up)
-none_by suppress lines state [] is enough = is_used_up state is
-none_by suppress lines state (operand ∷ operands) is enough = search rules
+none_by : (style : Style) (lines : List Line) (state : State) (operands : List Operand) → state.operands ≡ operands
+    → needed_by (length lines) state operands ≤ 0 → RunsAs style lines state (ended state used_up)
+none_by style lines state [] is enough = is_used_up state is
+none_by style lines state (operand ∷ operands) is enough = search rules
 
-runs : (bound : ℕ) (suppress : Bool) (lines : List Line) (state : State) → needed (length lines) state ≤ bound
-    → 1 ≤ state.current → RunsAs suppress lines state (plan_within bound suppress lines state)
-runs zero suppress lines state enough some = search (rules, none_by)
-runs (suc bound) suppress lines state enough some =
-    (elim (attempt suppress lines state) as (λ attempt. Attempted suppress lines state attempt
-    → RunsAs suppress lines state (after bound suppress lines state attempt)) [
+runs : (bound : ℕ) (style : Style) (lines : List Line) (state : State) → needed (length lines) state ≤ bound
+    → 1 ≤ state.current → RunsAs style lines state (plan_within bound style lines state)
+runs zero style lines state enough some = search (rules, none_by)
+runs (suc bound) style lines state enough some =
+    (elim (attempt style lines state) as (λ attempt. Attempted style lines state attempt
+    → RunsAs style lines state (after bound style lines state attempt)) [
       | ends ending ↦ λ is. is
-      | goes step next ↦ λ is. is.2 _ _ _ (runs bound suppress lines next (omega arith) is.1)
+      | goes step next ↦ λ is. is.2 _ _ _ (runs bound style lines next (omega arith) is.1)
     ]) (search (rules, attempted_of))
 
-pub runs_on : (suppress : Bool) (lines : List Line) (state : State) → 1 ≤ state.current
-    → RunsAs suppress lines state (plan_within (needed (length lines) state) suppress lines state)
-runs_on suppress lines state some = search (rules, runs)
+pub runs_on : (style : Style) (lines : List Line) (state : State) → 1 ≤ state.current
+    → RunsAs style lines state (plan_within (needed (length lines) state) style lines state)
+runs_on style lines state some = search (rules, runs)
 
 enough_at_start : (total : ℕ) (operands : List Operand) → needed total (start operands) ≤ length operands * (total + 1)
 enough_at_start total operands = omega (arith, fewer_operands total (start operands) operands)
 
-pub plan_runs : (suppress : Bool) (operands : List Operand) (lines : List Line)
-    → RunsAs suppress lines (start operands) (plan suppress operands lines)
-plan_runs suppress operands lines = search (rules, runs, enough_at_start)
+pub plan_runs : (style : Style) (operands : List Operand) (lines : List Line)
+    → RunsAs style lines (start operands) (plan style operands lines)
+plan_runs style operands lines = search (rules, runs, enough_at_start)
 
-pub plan_once : {suppress : Bool} {operands : List Operand} {lines : List Line} {steps : List Step} {last : State}
-    {ending : Ending} → Runs suppress lines (start operands) steps last ending
-    → plan suppress operands lines ≡ so steps last ending
+pub plan_once : {style : Style} {operands : List Operand} {lines : List Line} {steps : List Step} {last : State}
+    {ending : Ending} → Runs style lines (start operands) steps last ending
+    → plan style operands lines ≡ so steps last ending
 plan_once is = search (rules, computed, enough_at_start)
 
 -- What was cut off stays so
 
-pub cuts_still : (suppress : Bool) (a b : List Line) (state : State) (operand : Operand) (target : Target)
-    (matched cut : ℕ) → CutsAt suppress a state operand target matched cut
-    → CutsAt suppress (a ++ b) state operand target matched cut
-cuts_still suppress a b state operand target matched cut at = grind (arith, common_steps)
+pub cuts_still : (style : Style) (a b : List Line) (state : State) (operand : Operand) (target : Target)
+    (matched cut : ℕ) → CutsAt style a state operand target matched cut
+    → CutsAt style (a ++ b) state operand target matched cut
+cuts_still style a b state operand target matched cut at = grind (arith, common_steps)
 
-pub goes_on : {suppress : Bool} {a : List Line}
+pub goes_on : {style : Style} {a : List Line}
     (b : List Line) {first : State} {steps : List Step} {last : State} {ending : Ending}
-    (more : List Step) (end : State) {how : Ending} → Runs suppress a first steps last ending
-    → Runs suppress (a ++ b) last more end how
-    → Runs suppress (a ++ b) first (steps ++ more) end how
-goes_on {suppress} {a} b more end {how}
+    (more : List Step) (end : State) {how : Ending} → Runs style a first steps last ending
+    → Runs style (a ++ b) last more end how
+    → Runs style (a ++ b) first (steps ++ more) end how
+goes_on {style} {a} b more end {how}
     (cuts state operand operands matched cut steps' last' ending' is at from within rest') rest =
     cuts state operand operands matched cut (steps' ++ more) end how is
     (search (rules, cuts_still)) from
-    (omega (arith, length-append a b))
+    (omega (arith, within, length-append a b))
     (goes_on b more end rest' rest)
 goes_on b more end run rest = rest

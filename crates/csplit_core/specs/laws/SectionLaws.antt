@@ -21,7 +21,7 @@ use Rattle.csplit_core.specs.{
   Section.settled_sections,
   Output.{Style, manner_of, opening_of, file_in, state_in, shares_in, part_of},
   Csplit.{settled_of, whole_of},
-  laws.PlanLaws.{line_some, goes_on, runs_on, plan_runs, plan_once},
+  laws.PlanLaws.{line_some, past_near, goes_on, runs_on, plan_runs, plan_once},
   inner.PlanLaws.{EndsAs, AreWithin, Next, Covers, Grow, GoesOn, CutsFrom},
 }
 
@@ -51,19 +51,19 @@ between_grows first past more a b some within (inr less) =
       sym (search rules),
     )
 
-pub ends_as : {suppress : Bool} {lines : List Line} {first : State} {steps : List Step} {last : State} {ending : Ending}
-    → Runs suppress lines first steps last ending → EndsAs suppress lines last ending
+pub ends_as : {style : Style} {lines : List Line} {first : State} {steps : List Step} {last : State} {ending : Ending}
+    → Runs style lines first steps last ending → EndsAs style lines last ending
 ends_as (is_used_up state none) = none
 ends_as (misses state operand operands is none) = (operands, is, none, refl)
-ends_as (is_above state operand operands matched cut is at far) = (operands, is, at, far, refl)
-ends_as (is_below state operand operands matched cut is at within low) = search rules
+ends_as (is_above state operand operands matched cut is at from far) = (operands, is, at, from, far, refl)
+ends_as (is_below state operand operands matched cut is at low) = search rules
 ends_as (cuts state operand operands matched cut steps' last' ending' is at from within rest) = ends_as rest
 
-pub are_within : {suppress : Bool} {lines : List Line} {first : State} {steps : List Step} {last : State}
-    {ending : Ending} → Runs suppress lines first steps last ending → 1 ≤ first.current
+pub are_within : {style : Style} {lines : List Line} {first : State} {steps : List Step} {last : State}
+    {ending : Ending} → Runs style lines first steps last ending → 1 ≤ first.current
     → AreWithin (length lines) steps × (1 ≤ last.current)
-are_within {suppress} (cuts state operand operands matched cut steps' last' ending' is at from within rest) some =
-    search (rules, line_some, are_within rest)
+are_within {style} (cuts state operand operands matched cut steps' last' ending' is at from within rest) some =
+    search (rules, line_some, past_near, are_within rest)
 are_within run some = (tt, some)
 
 pub closed_still : (a b : List Line) (steps : List Step) → AreWithin (length a) steps
@@ -88,59 +88,59 @@ next_by a b current past more {kept} closed {other_kept} {rest} some within less
     }
 
 -- what is settled stands before what the next operand does where more lines follow
-pub cuts_from : (suppress : Bool) (a b : List Line) (state : State) (ending : Ending) {operands : List Operand}
-    → EndsAs suppress a state ending → state.operands ≡ operands
-    → CutsFrom suppress (a ++ b) state (settled_end (length a) ending) (is_last_kept ending) operands
-cuts_from suppress a b state ending ends are = grind (arith, common_steps)
+pub cuts_from : (style : Style) (a b : List Line) (state : State) (ending : Ending) {operands : List Operand}
+    → EndsAs style a state ending → state.operands ≡ operands
+    → CutsFrom style (a ++ b) state (settled_end (length a) ending) (is_last_kept ending) operands
+cuts_from style a b state ending ends are = grind (arith, common_steps)
 
 pub settled_most : (total : ℕ) (ending : Ending) → settled_end total ending ≤ total + 1
 settled_most total ending = search rules
 
-next_of : {suppress : Bool} (closed : Bool) (end_of : ℕ → Ending → ℕ) → Covers end_of
-    → (a b : List Line) {last : State} (ending : Ending) → 1 ≤ last.current → EndsAs suppress a last ending
-    → (more : List Step) (end : State) {how : Ending} → Runs suppress (a ++ b) last more end how
+next_of : {style : Style} (closed : Bool) (end_of : ℕ → Ending → ℕ) → Covers end_of
+    → (a b : List Line) {last : State} (ending : Ending) → 1 ≤ last.current → EndsAs style a last ending
+    → (more : List Step) (end : State) {how : Ending} → Runs style (a ++ b) last more end how
     → Next (section (is_last_kept ending) false (lines_between last.current (settled_end (length a) ending) a))
     (sections_by closed end_of (a ++ b) (record { steps = more; last = end; ending = how }))
 next_of closed end_of covers a b ending some ends more end (is_used_up state none) = grind
     (arith, common_steps, next_by, settled_most, cuts_from)
 next_of closed end_of covers a b ending some ends more end (misses state operand operands are none) = grind
     (arith, common_steps, cuts_from, next_by, settled_most)
-next_of {suppress} closed end_of covers a b ending some ends more end
-    (is_above state operand operands matched cut are at far) =
+next_of {style} closed end_of covers a b ending some ends more end
+    (is_above state operand operands matched cut are at from far) =
     search (rules, next_by, settled_most, length-append, cuts_from)
-next_of {suppress} closed end_of covers a b ending some ends more end
-    (is_below state operand operands matched cut are at in_lines low) =
-    let so = cuts_from suppress a b state ending ends are in
+next_of {style} closed end_of covers a b ending some ends more end
+    (is_below state operand operands matched cut are at low) =
+    let so = cuts_from style a b state ending ends are in
     next_by a b state.current (settled_end (length a) ending)
     (end_of (length (a ++ b)) (below operand state.repetition)) closed some
     (settled_most (length a) ending) (search rules) so.0
-next_of {suppress} closed end_of covers a b ending some ends more end
+next_of {style} closed end_of covers a b ending some ends more end
     (cuts state operand operands matched cut steps' last' ending' are at from in_lines rest) = search
-    (rules, next_by, settled_most, (cuts_from suppress a b state ending ends are))
+    (rules, next_by, settled_most, (cuts_from style a b state ending ends are))
 
-sections_grow : {suppress : Bool} (closed : Bool) (end_of : ℕ → Ending → ℕ) → Covers end_of
+sections_grow : {style : Style} (closed : Bool) (end_of : ℕ → Ending → ℕ) → Covers end_of
     → {a : List Line} (b : List Line) {first : State} {steps : List Step} {last : State} {ending : Ending}
     (more : List Step)
-    (end : State) {how : Ending} → 1 ≤ first.current → Runs suppress a first steps last ending
-    → Runs suppress (a ++ b) last more end how
+    (end : State) {how : Ending} → 1 ≤ first.current → Runs style a first steps last ending
+    → Runs style (a ++ b) last more end how
     → Grow (settled_sections a (record { steps = steps; last = last; ending = ending }))
     (sections_by closed end_of (a ++ b) (record { steps = steps ++ more; last = end; ending = how }))
 sections_grow closed end_of covers b more end some runs_a rest =
     grind (arith, common_steps, are_within, map-append, closed_still, next_of, ends_as)
 
-pub plan_goes_on : {suppress : Bool} (operands : List Operand) (a b : List Line) → GoesOn suppress operands a b
-plan_goes_on {suppress} operands a b =
-    let here = plan_runs suppress operands a in
-    let rest = runs_on suppress (a ++ b) (plan suppress operands a).last (are_within here (omega arith)).1 in
+pub plan_goes_on : {style : Style} (operands : List Operand) (a b : List Line) → GoesOn style operands a b
+plan_goes_on {style} operands a b =
+    let here = plan_runs style operands a in
+    let rest = runs_on style (a ++ b) (plan style operands a).last (are_within here (omega arith)).1 in
     record { more = _; end = _; how = _; rest = rest; is = plan_once (goes_on b _ _ here rest) }
 
-pub plan_grows : (suppress closed : Bool) (end_of : ℕ → Ending → ℕ) → Covers end_of
+pub plan_grows : (style : Style) (closed : Bool) (end_of : ℕ → Ending → ℕ) → Covers end_of
     → (operands : List Operand) (a b : List Line)
-    → Grow (settled_sections a (plan suppress operands a))
-    (sections_by closed end_of (a ++ b) (plan suppress operands (a ++ b)))
-plan_grows suppress closed end_of covers operands a b =
-    let goes = plan_goes_on {suppress = suppress} operands a b in
-    rw goes.is (sections_grow closed end_of covers b _ _ (omega arith) (plan_runs suppress operands a) goes.rest)
+    → Grow (settled_sections a (plan style operands a))
+    (sections_by closed end_of (a ++ b) (plan style operands (a ++ b)))
+plan_grows style closed end_of covers operands a b =
+    let goes = plan_goes_on {style = style} operands a b in
+    rw goes.is (sections_grow closed end_of covers b _ _ (omega arith) (plan_runs style operands a) goes.rest)
 
 -- What is put out grows with them
 

@@ -1,10 +1,7 @@
 use Rattle.std.proofs.lemmas.Grind.{common_steps}
 use Rattle.std.proofs.Common.{◌∙◌, ap, arith}
 use Rattle.ports_core.{proofs.HandedOn.handed_on, specs.FileWriter.WriterState}
-use Rattle.csplit_core.{
-  specs.Output.{Style},
-  proofs.StageLemmas.{begun_not, first_opened, first_part, made_goes, opened_lacks},
-}
+use Rattle.csplit_core.{proofs.StageLemmas.{begun_not, first_opened, first_part, made_goes, opened_lacks}}
 use Rattle.csplit_core.proofs.line_cutter.LineCutter.open.Goals as goal
 
 pub returns-in_err-matcher : goal.returns-in_err-matcher
@@ -33,7 +30,7 @@ returns g c =
     rw (c.start-progress.ensures, c.in_ok-window.ensures.ok, c.in_ok-matcher.ensures.ok, c.next_operand-next.ensures)
     (first_opened _ _ c.requires.streams
     (grind (arith, common_steps, made_goes))
-    c.in_ok-begin.ensures.size (rw (ap (λ (style : Style). style.suppress) c.style.view_is, c.start-progress.ensures) at c.attempt-aim.ensures.says)
+    c.in_ok-begin.ensures.size (rw c.start-progress.ensures at c.attempt-aim.ensures.says)
     (grind (arith, common_steps)))
 
 pub begin-requires : goal.begin-requires

@@ -9,5 +9,5 @@ overflow_add-self c = omega (arith, delimiters-le-length newline c.args.text.now
 pub returns-in-UsedUp : goal.returns-in-UsedUp
 returns-in-UsedUp c = stops_unfound c.unfound-in-UsedUp.result
     (passes_all c.requires.sound c.requires.whole c.count_delimiters.ensures
-    (subst (StaysOver (seen c.args.self.now) c.args.text.now _) (sym c.in-UsedUp.is) tt))
+    (subst (StaysOver (seen c.args.self.now) c.args.text.now _) (sym c.in-UsedUp.is) tt) (c.will_skip.ensures.no c.if-will_skip.false))
     c.unfound-in-UsedUp.ensures.size c.unfound-in-UsedUp.ensures.found

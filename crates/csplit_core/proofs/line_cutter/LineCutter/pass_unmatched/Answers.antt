@@ -19,13 +19,13 @@ overflow_add-result c = grind (arith, common_steps)
 
 pub returns-then-is_match : goal.returns-then-is_match
 returns-then-is_match c = record {
-  over = all_passed_at c.requires.sound c.requires.aim c.loop-end.invariant c.is_match.ensures.same;
+  over = all_passed_at c.requires.sound c.requires.near c.requires.aim c.loop-end.invariant c.is_match.ensures.same;
   found = next_found c.in-Some.end c.requires.aim c.loop-end.invariant c.is_match.ensures.same
       (first_at c.in-Some.end c.in-Some.ensures) c.is_match.ensures.found c.if-is_match.true;
 }
 
 pub returns : goal.returns
-returns c = stops_unfound c.unfound.result (all_passed_at c.requires.sound c.requires.aim c.loop-end.invariant refl) c.unfound.ensures.size c.unfound.ensures.found
+returns c = stops_unfound c.unfound.result (all_passed_at c.requires.sound c.requires.near c.requires.aim c.loop-end.invariant refl) c.unfound.ensures.size c.unfound.ensures.found
 
 pub overflow_add-self : goal.overflow_add-self
 overflow_add-self c = omega (arith, few_counted c.loop-end.invariant)

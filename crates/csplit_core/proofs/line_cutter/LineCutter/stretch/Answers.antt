@@ -14,7 +14,8 @@ go_on-requires g c = grind (arith, common_steps)
 
 pub returns-in_default : goal.returns-in_default
 returns-in_default g c = stretch_on c.go_on.result c.requires.sound.fit
-    (c.is_past.ensures.live c.if-is_past.false) c.requires.start c.try_line.ensures.same c.in_default.ensures.tries c.go_on.ensures
+    (c.is_past.ensures.live c.if-is_past.false) c.requires.start c.try_line.ensures.same c.left_out-from.result
+    c.left_out-from.ensures.all c.left_out-from.ensures.none c.in_default.ensures.tries c.go_on.ensures
 
 pub cut_on-requires : goal.cut_on-requires
 cut_on-requires g c = grind (arith, common_steps)

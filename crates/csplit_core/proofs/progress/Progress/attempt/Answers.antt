@@ -1,6 +1,6 @@
-use Rattle.std.proofs.{Common.{arith, refl, ◌+◌, ◌*◌}, lemmas.{Bool.Decides.nat_tests, List.drop_all}}
+use Rattle.std.proofs.{Common.{ap, arith, refl, ◌+◌, ◌*◌}, lemmas.{Bool.Decides.nat_tests, List.drop_all}}
 use Rattle.csplit_core.{
-  specs.Plan.{used_up, is_used_up},
+  specs.{Output.Style, Plan.{used_up, is_used_up}, laws.PlanLaws.past_near},
   proofs.TryLemmas.{left_is, falls, falls_search, misses_search},
 }
 use Rattle.csplit_core.proofs.progress.Progress.attempt.Goals as goal
@@ -16,23 +16,25 @@ returns-in_default-clause-says c lines seen =
 
 pub returns-then-total-search_line-clause-says : goal.returns-then-total-search_line-clause-says
 returns-then-total-search_line-clause-says c lines seen =
-    misses_search lines (left_is c.args.operands.now c.args.self.now.done c.in-Some.ensures.lookup.3.0 c.in-Some.ensures.lookup.1) seen c.in-Search.is
-    (λ near. absurd (omega (arith, c.search_line.ensures c.args.operands.now)))
+    misses_search c.args.style.now lines (left_is c.args.operands.now c.args.self.now.done c.in-Some.ensures.lookup.3.0 c.in-Some.ensures.lookup.1) seen c.in-Search.is
+    (λ near. absurd (omega (arith, rw (ap (λ (s : Style). s.suppress) c.style.view_is) at (c.search_line.ensures c.args.operands.now))))
 
 pub returns-then-not-found-clause-says : goal.returns-then-not-found-clause-says
 returns-then-not-found-clause-says c lines seen =
-    misses_search lines (left_is c.args.operands.now c.args.self.now.done c.in-Some.ensures.lookup.3.0
+    misses_search c.args.style.now lines (left_is c.args.operands.now c.args.self.now.done c.in-Some.ensures.lookup.3.0
     c.in-Some.ensures.lookup.1) seen c.in-Search.is (λ near. c.if-not-found.true)
 
 pub returns-in-Number-clause-says : goal.returns-in-Number-clause-says
-returns-in-Number-clause-says c lines seen = falls lines
+returns-in-Number-clause-says c lines seen = falls c.args.style.now lines
     (left_is c.args.operands.now c.args.self.now.done c.in-Some.ensures.lookup.3.0 c.in-Some.ensures.lookup.1) seen
     c.args.self.now.matched (c.in-Number.number * (c.args.self.now.repetition + 1)) (rw c.in-Number.is (refl, refl))
-    c.saturating_mul-cut.ensures c.requires.few c.fall.result c.fall.ensures
+    c.saturating_mul-cut.ensures (rw c.past_last.ensures refl)
+    (omega (arith, c.past_last.ensures, past_near c.args.style.now c.in-Some.operand.now.target)) c.requires.current c.fall.result c.fall.ensures
 
 pub returns-else-not-found-clause-says : goal.returns-else-not-found-clause-says
-returns-else-not-found-clause-says c lines seen = falls_search lines
+returns-else-not-found-clause-says c lines seen = falls_search c.args.style.now lines
     (left_is c.args.operands.now c.args.self.now.done c.in-Some.ensures.lookup.3.0 c.in-Some.ensures.lookup.1) seen
     c.in-Search.offset c.in-Search.is
-    (omega (arith, c.search_line.ensures c.args.operands.now)) c.if-not-found.false
-    c.line_at.ensures c.requires.few c.fall-in-Search.result c.fall-in-Search.ensures
+    (omega (arith, rw (ap (λ (s : Style). s.suppress) c.style.view_is) at (c.search_line.ensures c.args.operands.now))) c.if-not-found.false
+    c.line_at.ensures (rw c.past_last.ensures refl)
+    (omega (arith, c.past_last.ensures, past_near c.args.style.now c.in-Some.operand.now.target)) c.requires.current c.fall-in-Search.result c.fall-in-Search.ensures
