@@ -48,7 +48,17 @@ pub finds_forgiven : {manner : Manner} (within n : ℕ) (name : List ℕ) (findi
     → Found (latest (replicate n (files_by manner within))) name finding
 finds_forgiven {manner} within n name finding forgives = finds_any manner within n name finding (unlike forgives)
 
+pub forgives_now : {watch : DirWatchState} {names : List Watched} {turns : ℕ} {manner : Manner} {within rested : ℕ}
+    → record { turns = turns; watched = names; manner = manner; within = within; rested = rested } ≡ watch
+    → Forgives manner → Forgives watch.manner
+forgives_now is forgives = subst (λ (those : DirWatchState). Forgives those.manner) is forgives
+
 -- or what is there
+
+pub insists_now : {watch : DirWatchState} {names : List Watched} {turns : ℕ} {manner : Manner} {within rested : ℕ}
+    → record { turns = turns; watched = names; manner = manner; within = within; rested = rested } ≡ watch
+    → watch.manner ≡ Insisting → manner ≡ Insisting
+insists_now is insists = ap (λ (those : DirWatchState). those.manner) is ∙ insists
 
 pub leads_there : (found : Option Seen) → is_some found ≡ true
     → is_nowhere (leads_to (option_map (λ (file : Seen). file.id) found)) ≡ false
@@ -75,14 +85,14 @@ breaks_any manner name within (suc (suc n)) is = breaks_any manner name within (
 -- what looks show from now on
 
 pub forgives_all : (manner : Manner) (within : ℕ)
-    → (λ (n : ℕ). files_by Forgiving within) ≡ (λ (n : ℕ). forgiving (files_by manner within))
+    → ◌≡◌ {A = ℕ → Snapshot} (λ n. files_by Forgiving within) (λ n. forgiving (files_by manner within))
 forgives_all Plain within = refl
 forgives_all Forgiving within = refl
 forgives_all Clinging within = refl
 forgives_all Insisting within = refl
 
 pub insists_all : (manner : Manner) (within : ℕ)
-    → (λ (n : ℕ). files_by Insisting within) ≡ (λ (n : ℕ). insisting (files_by manner within))
+    → ◌≡◌ {A = ℕ → Snapshot} (λ n. files_by Insisting within) (λ n. insisting (files_by manner within))
 insists_all Plain within = refl
 insists_all Forgiving within = refl
 insists_all Clinging within = refl
@@ -94,7 +104,7 @@ led_nowhere zero = refl
 led_nowhere (suc n) = ap (λ led. elim led [ | None ↦ None | Some file ↦ Some file ]) (led_nowhere n)
 
 pub clings_all : (manner : Manner) (within : ℕ)
-    → (λ (n : ℕ). files_by Clinging within) ≡ clinging (λ n. files_by manner within)
+    → ◌≡◌ {A = ℕ → Snapshot} (λ n. files_by Clinging within) (clinging (λ n. files_by manner within))
 clings_all Plain within = λ i. λ n. record (files_by Clinging within) { leads = λ name. led_nowhere (suc n) i }
 clings_all Forgiving within = λ i. λ n. record (files_by Clinging within) { leads = λ name. led_nowhere (suc n) i }
 clings_all Clinging within = λ i. λ n. record (files_by Clinging within) { leads = λ name. led_nowhere (suc n) i }

@@ -1,5 +1,5 @@
 ghost use Rattle.std.specs.{
-  Prelude.{◌≡◌, ◌≤◌, ◌<◌, ◌^◌, true, length, string_bytes, IfOk, OnOk, OnErr, IfSome, IfNone, OnSome, IsTrue, is_some},
+  Prelude.{◌≡◌, ◌⊎◌, ◌≤◌, ◌<◌, ◌^◌, true, false, length, string_bytes, IfOk, OnOk, OnErr, IfSome, IfNone, OnSome, IsTrue, is_some},
 };
 ghost use Rattle.ports_core.specs.declared.reason.Reason.{Reason};
 ghost use Rattle.watch_core.specs.{Snapshot.has_zero, Watched.{Watched, added, breaks, opens}};
@@ -188,7 +188,11 @@ impl DirName {
             Some(found) => Ok(found),
             None => self.find(files),
         };
-        match there_if(insists, found) {
+        match found {
+            Ok(None) if insists => {
+                self.break_off(Broken::Look, Reason::Missing);
+                Err(io::Error::from(ErrorKind::NotFound))
+            }
             Ok(found) => {
                 self.is_gone = found.is_none();
                 self.led_to = Some(found);
@@ -309,12 +313,16 @@ impl DirName {
         self.file = None;
         self.lens = 0;
         self.pace.hurry();
-        match there_if(insists, self.find_file(alloc, files)) {
+        match self.find_file(alloc, files) {
             Ok(Some(opened)) => {
                 self.opened = Some(opened.seen.id);
                 self.led_to = Some(Some(opened.seen));
                 self.file = Some(opened.file);
                 Ok(true)
+            }
+            Ok(None) if insists => {
+                self.break_off(Broken::Open, Reason::Missing);
+                Err(io::Error::from(ErrorKind::NotFound))
             }
             Ok(None) => {
                 self.opened = None;
@@ -614,17 +622,6 @@ struct Opened {
     seen: Seen,
     file: DirFile,
     ghost bound: { seen.len < 2 ^ 63 },
-}
-
-/// What was found; if `insists` is true, an error in place of none.
-fn there_if<T: Drop>(insists: bool, found: io::Result<Option<T>>) -> io::Result<Option<T>>
-    ensures same { IfOk result (λ found_now. found.entry ≡ Ok found_now) }
-    ensures there { IsTrue insists → IfOk result (λ found_now. is_some found_now ≡ true) }
-{
-    match found {
-        Ok(None) if insists => Err(io::Error::from(ErrorKind::NotFound)),
-        found => found,
-    }
 }
 
 /// A file of which the system told this. One that is longer than a watch tells is an error.

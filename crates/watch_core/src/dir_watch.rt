@@ -1,4 +1,4 @@
-ghost use Rattle.std.specs.Prelude.{◌≡◌, ◌≤◌, ◌∷◌, ◌++◌, [], false, IsTrue};
+ghost use Rattle.std.specs.Prelude.{◌≡◌, ◌⊎◌, ◌≤◌, ◌∷◌, ◌++◌, [], false, IsTrue};
 ghost use Rattle.watch_core.specs.{
   DirWatchState.{DirWatchState, files_by, seen},
   Watched.{CanBreak, is_watchable},
@@ -110,7 +110,8 @@ impl<R: Files<File = File> + Clock + Drop> DirWatch<R> {
     /// Whether the name at this place counts as missing where it can't be opened. One that no file can have doesn't.
     fn forgives_at(&self, place: usize) -> bool
         requires { IsTrue (is_watchable self.now.watched place) }
-        ensures { result ≡ false → CanBreak (seen self.now) self.now.watched place }
+        ensures no { result ≡ false → CanBreak (seen self.now) self.now.watched place }
+        ensures yes { IsTrue result → (self.now.manner ≡ Manner.Forgiving) ⊎ (self.now.manner ≡ Manner.Clinging) }
     {
         self.manner.forgives() && !self.names[place].has_zero()
     }
