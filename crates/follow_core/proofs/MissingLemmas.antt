@@ -6,7 +6,7 @@ use Rattle.std.proofs.{
   Math.{Bool.and-false, Seq.drop-append_seam as drop_front},
 }
 use Rattle.watch_core.specs.{
-  Snapshot.{Snapshot, Finding, Found, clinging, first_led, forgiving, is_nowhere, leads_to, opens_as},
+  Snapshot.{Snapshot, Finding, Found, clinging, first_led, forgiving, is_nowhere, leads_to, opens_as, or_else},
   declared.watch.Broken.Broken,
 }
 use Rattle.follow_core.specs.{
@@ -189,7 +189,7 @@ names_go ways names looks shares (looks_more {looks = before} {look} {shares = g
 
 stays_on : (leads : ℕ → Option ℕ) (file n more : ℕ) → first_led leads n ≡ Some file → first_led leads (more + n) ≡ Some file
 stays_on leads file n zero is = is
-stays_on leads file n (suc more) is = ap (λ led. elim led [ | None ↦ leads (more + n) | Some one ↦ Some one ]) (stays_on leads file n more is)
+stays_on leads file n (suc more) is = ap (λ led. or_else led (leads (more + n))) (stays_on leads file n more is)
 
 pub stays_first : (shows : ℕ → Snapshot) (name : List ℕ) (file n later : ℕ) → n ≤ later
     → (clinging shows n).leads name ≡ Some file → (clinging shows later).leads name ≡ Some file

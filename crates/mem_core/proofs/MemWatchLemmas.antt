@@ -6,7 +6,7 @@ use Rattle.std.proofs.{
   lemmas.{Bool.cases_lt, Grind.common_steps},
 }
 use Rattle.watch_core.{
-  specs.Snapshot.{Snapshot, clinging, first_led, forgiving, insisting, is_nowhere, latest, leads_to, opens_as, waiting, Finding, Found},
+  specs.Snapshot.{Snapshot, clinging, first_led, forgiving, insisting, is_nowhere, latest, leads_to, opens_as, or_else, waiting, Finding, Found},
   specs.Edits.{World, empty_world, held_in, is_one, led_to, seen_in, shown},
   specs.Watched.{Watched, Finds, Reopens, file_seen, open_contents, opens, watched_at},
   specs.declared.watch.Seen.Seen,
@@ -219,17 +219,20 @@ pub shows_now : {watch : MemWatchState} {worlds : List World} {turns : ℕ} {nam
     {within : ℕ} {why : Reason} (now : Manner) (change : (ℕ → Snapshot) → ℕ → Snapshot)
     → record { worlds = worlds; turns = turns; watched = names; manner = manner; within = within; why = why }
     ≡ watch
-    → (λ n. waiting within (shown_in now worlds n)) ≡ change (λ n. waiting within (shown_in manner worlds n))
-    → (λ n. waiting within (shown_in now worlds n)) ≡ change (shows watch)
+    → ◌≡◌ {A = ℕ → Snapshot} (λ n. waiting within (shown_in now worlds n))
+    (change (λ n. waiting within (shown_in manner worlds n)))
+    → ◌≡◌ {A = ℕ → Snapshot} (λ n. waiting within (shown_in now worlds n)) (change (shows watch))
 shows_now now change is same = same ∙ ap (λ those. change (shows those)) is
 
 pub forgives_all : (manner : Manner) (within : ℕ) (worlds : List World)
-    → (λ n. waiting within (shown_in (record { leading = forgiven manner.leading; insists = false }) worlds n))
-    ≡ (λ n. forgiving (waiting within (shown_in manner worlds n)))
+    → ◌≡◌ {A = ℕ → Snapshot}
+    (λ n. waiting within (shown_in (record { leading = forgiven manner.leading; insists = false }) worlds n))
+    (λ n. forgiving (waiting within (shown_in manner worlds n)))
 forgives_all manner within worlds = by manner.leading manner.insists where
   by : (leading : Leading) (insists : Bool)
-      → (λ n. waiting within (shown_in (record { leading = forgiven leading; insists = false }) worlds n))
-      ≡ (λ n. forgiving (waiting within (shown_in (record { leading = leading; insists = insists }) worlds n)))
+      → ◌≡◌ {A = ℕ → Snapshot}
+      (λ n. waiting within (shown_in (record { leading = forgiven leading; insists = false }) worlds n))
+      (λ n. forgiving (waiting within (shown_in (record { leading = leading; insists = insists }) worlds n)))
   by Plain false = refl
   by Plain true = refl
   by Forgiving false = λ i. λ n. waiting within (record (forgiving (seen_in (world_at worlds (suc n)))) {
@@ -242,31 +245,36 @@ forgives_all manner within worlds = by manner.leading manner.insists where
   by Clinging true = refl
 
 pub insists_all : (manner : Manner) (within : ℕ) (worlds : List World)
-    → (λ n. waiting within (shown_in (record { leading = manner.leading; insists = true }) worlds n))
-    ≡ (λ n. insisting (waiting within (shown_in manner worlds n)))
+    → ◌≡◌ {A = ℕ → Snapshot}
+    (λ n. waiting within (shown_in (record { leading = manner.leading; insists = true }) worlds n))
+    (λ n. insisting (waiting within (shown_in manner worlds n)))
 insists_all manner within worlds = by manner.leading manner.insists where
   by : (leading : Leading) (insists : Bool)
-      → (λ n. waiting within (shown_in (record { leading = leading; insists = true }) worlds n))
-      ≡ (λ n. insisting (waiting within (shown_in (record { leading = leading; insists = insists }) worlds n)))
+      → ◌≡◌ {A = ℕ → Snapshot}
+      (λ n. waiting within (shown_in (record { leading = leading; insists = true }) worlds n))
+      (λ n. insisting (waiting within (shown_in (record { leading = leading; insists = insists }) worlds n)))
   by leading false = refl
   by leading true = refl
 
 -- the first of the files to which a name led first is the first
+or_twice : (led later : Option ℕ) → or_else led later ≡ or_else led (or_else led later)
+or_twice None later = refl
+or_twice (Some file) later = refl
+
 first_first : (leads : ℕ → Option ℕ) (n : ℕ) → first_led leads n ≡ first_led (λ look. first_led leads (suc look)) n
 first_first leads zero = refl
-first_first leads (suc n) = by (first_led leads n) refl where
-  by : (led : Option ℕ) → first_led leads n ≡ led
-      → first_led leads (suc n) ≡ first_led (λ look. first_led leads (suc look)) (suc n)
-  by None is = rw (sym (first_first leads n), is) refl
-  by (Some file) is = rw (sym (first_first leads n), is) refl
+first_first leads (suc n) = or_twice (first_led leads n) (leads n)
+    ∙ ap (λ led. or_else led (first_led leads (suc n))) (first_first leads n)
 
 pub clings_all : (manner : Manner) (within : ℕ) (worlds : List World)
-    → (λ n. waiting within (shown_in (record { leading = Clinging; insists = false }) worlds n))
-    ≡ clinging (λ n. waiting within (shown_in manner worlds n))
+    → ◌≡◌ {A = ℕ → Snapshot}
+    (λ n. waiting within (shown_in (record { leading = Clinging; insists = false }) worlds n))
+    (clinging (λ n. waiting within (shown_in manner worlds n)))
 clings_all manner within worlds = by manner.leading manner.insists where
   by : (leading : Leading) (insists : Bool)
-      → (λ n. waiting within (shown_in (record { leading = Clinging; insists = false }) worlds n))
-      ≡ clinging (λ n. waiting within (shown_in (record { leading = leading; insists = insists }) worlds n))
+      → ◌≡◌ {A = ℕ → Snapshot}
+      (λ n. waiting within (shown_in (record { leading = Clinging; insists = false }) worlds n))
+      (clinging (λ n. waiting within (shown_in (record { leading = leading; insists = insists }) worlds n)))
   by Plain false = refl
   by Plain true = refl
   by Forgiving false = λ i. λ n. record (waiting within (clinging (λ look. seen_in (world_at worlds (suc look))) n)) {

@@ -4,7 +4,7 @@ ghost use Rattle.std.specs.{
 };
 ghost use Rattle.watch_core.specs.{
   Edits.empty_world,
-  Snapshot.latest,
+  Snapshot.{latest, or_else},
   Watched.{GaveFrom, Watched, added, breaks, file_seen, is_readable, is_watchable, open_contents, opens, watched_at},
 };
 ghost use Rattle.mem_core.specs.{
@@ -239,8 +239,19 @@ impl MemWatch {
         }
     }
 
-    /// Breaks a name off by this call, for this reason.
-    fn break_off(&mut self, place: usize, how: Broken, why: Reason)
+    /// Breaks a name off by this call, for the reason that is planned.
+    fn break_off(&mut self, place: usize, how: Broken)
+        requires { IsTrue (is_watchable self.old.watched place) }
+        ensures { self.new ≡ record self.old {
+          watched = changed_at place (breaks self.old.why (λ file. how)) self.old.watched;
+        } }
+    {
+        let why = self.why;
+        self.names[place].break_off(how, why);
+    }
+
+    /// The same for another reason.
+    fn break_for(&mut self, place: usize, how: Broken, why: Reason)
         requires { IsTrue (is_watchable self.old.watched place) }
         ensures { self.new ≡ record self.old {
           watched = changed_at place (breaks why (λ file. how)) self.old.watched;
@@ -333,7 +344,7 @@ fn first_led(worlds: &[MemWorld], looks: usize, name: &str) -> Option<usize>
 
 /// The first of two files, or the one that is there.
 fn first_of(first: Option<usize>, second: Option<usize>) -> Option<usize>
-    ensures { result ≡ elim first [ | None ↦ second | Some file ↦ Some file ] }
+    ensures { result ≡ or_else first second }
 {
     match first {
         Some(file) => Some(file),
@@ -458,7 +469,7 @@ impl Watch for MemWatch {
     fn look(&mut self, place: usize) -> Result<Option<Seen>, Fault> {
         let found = self.seen_of(self.led(place));
         if let Some(why) = self.refusal(place, found.is_some()) {
-            self.break_off(place, Broken::Look, why);
+            self.break_for(place, Broken::Look, why);
             return Err(Fault::Open(place));
         }
         Ok(found)
@@ -467,7 +478,7 @@ impl Watch for MemWatch {
     fn reopen(&mut self, place: usize) -> Result<bool, Fault> {
         let file = self.led(place);
         if let Some(why) = self.refusal(place, file.is_some()) {
-            self.break_off(place, Broken::Open, why);
+            self.break_for(place, Broken::Open, why);
             return Err(Fault::Open(place));
         }
         Ok(self.names[place].open(file))
@@ -496,7 +507,7 @@ impl Watch for MemWatch {
     fn open_len(&mut self, place: usize) -> Result<u64, Fault> {
         let len = self.open_bytes(place).len() as u64;
         if self.fails() {
-            self.break_off(place, Broken::Len(self.open_id(place)), self.why);
+            self.break_off(place, Broken::Len(self.open_id(place)));
             return Err(Fault::Read(place));
         }
         Ok(len)
@@ -504,7 +515,7 @@ impl Watch for MemWatch {
 
     fn read_at(&mut self, place: usize, from: u64, buffer: &mut [u8]) -> Result<usize, Fault> {
         if self.fails() {
-            self.break_off(place, Broken::Read(self.open_id(place), from), self.why);
+            self.break_off(place, Broken::Read(self.open_id(place), from));
             return Err(Fault::Read(place));
         }
         Ok(read_from(self.open_bytes(place), from, buffer))

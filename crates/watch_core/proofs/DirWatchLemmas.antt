@@ -9,7 +9,7 @@ use Rattle.watch_core.{
   specs.{
     declared.{dir_name.Manner.{Manner, TheVariants.{Plain, Forgiving, Clinging, Insisting}}, watch.Seen.Seen},
     DirWatchState.{files_by, DirWatchState, seen},
-    Snapshot.{Snapshot, Finding, Found, clinging, first_led, forgiving, has_zero, insisting, is_nowhere, latest, leads_to, opens_as, waiting},
+    Snapshot.{Snapshot, Finding, Found, clinging, first_led, forgiving, has_zero, insisting, is_nowhere, latest, leads_to, opens_as, or_else},
     Watched.{CanBreak, Watched, Reopens, watched_at, is_watchable, opens},
   },
   proofs.NameLemmas.{name_changes, name_there, names_within},
@@ -101,7 +101,7 @@ insists_all Insisting within = refl
 -- a name that leads nowhere at each look led nowhere first
 led_nowhere : (n : ℕ) → None ≡ first_led (λ look. None) n
 led_nowhere zero = refl
-led_nowhere (suc n) = ap (λ led. elim led [ | None ↦ None | Some file ↦ Some file ]) (led_nowhere n)
+led_nowhere (suc n) = ap (λ led. or_else led None) (led_nowhere n)
 
 pub clings_all : (manner : Manner) (within : ℕ)
     → ◌≡◌ {A = ℕ → Snapshot} (λ n. files_by Clinging within) (clinging (λ n. files_by manner within))

@@ -70,13 +70,15 @@ forgiving snapshot = record snapshot {
 abbrev pub insisting : Snapshot → Snapshot
 insisting snapshot = record snapshot { breaks = λ name. true; insists = true }
 
+-- the first of these files, or the second if there is none
+abbrev pub or_else : Option ℕ → Option ℕ → Option ℕ
+or_else None second = second
+or_else (Some file) second = Some file
+
 -- the first file to which a name leads at one of the first n looks
 abbrev pub first_led : (ℕ → Option ℕ) → ℕ → Option ℕ
 first_led leads zero = None
-first_led leads (suc n) = elim (first_led leads n) [
-  | None ↦ leads n
-  | Some file ↦ Some file
-]
+first_led leads (suc n) = or_else (first_led leads n) (leads n)
 
 -- looks that forgive and cling: a name leads to the first file to which it led at one of them, and can be read then
 abbrev pub clinging : (ℕ → Snapshot) → ℕ → Snapshot
