@@ -13,7 +13,7 @@ returns-in-Ok-Looked g c =
     let slots = g.O.Outs.slots c.args.outs.now in
     let (most, are, gave) = c.make_looks.ensures.looked (rw c.in-Ok-Looked.field-0-is at c.in-Ok-Looked.is) in
     let all = gave c.args.calling ways c.args.headers names slots
-    (open_holds c.in-Ok.ensures.ok (c.treat_by.ensures.watched ∙ c.requires.unwatched)) in
+    (open_holds (rw c.is_by_name-by_name.ensures at c.in-Ok.ensures.ok) (c.treat_by.ensures.watched ∙ c.requires.unwatched)) in
     rw (← c.treat_by.ensures.shows) (ends_by c.args.limits.process most are
     (looked all.looks all.holds.shares all.observed (watched_are all.holds) all.made all.within all.over all.holds.are all.holds.found
     (record {
@@ -28,7 +28,7 @@ returns-in-Ok-Unread g c =
     let slots = g.O.Outs.slots c.args.outs.now in
     let (own, (most, are, gave)) = c.make_looks.ensures.unread (rw c.in-Ok-Unread.field-0-is at c.in-Ok-Unread.is) in
     let found = gave c.args.calling ways c.args.headers names slots
-    (open_holds c.in-Ok.ensures.ok (c.treat_by.ensures.watched ∙ c.requires.unwatched)) in
+    (open_holds (rw c.is_by_name-by_name.ensures at c.in-Ok.ensures.ok) (c.treat_by.ensures.watched ∙ c.requires.unwatched)) in
     rw (← c.treat_by.ensures.shows) (ends_by c.args.limits.process most are
     (unread found.looks found.holds.shares found.before own found.observed (watched_are found.holds) found.made found.fewer
     found.alive found.holds.are found.holds.found found.holds.shared.slots found.broke refl))
@@ -40,7 +40,7 @@ returns g c =
     let slots = g.O.Outs.slots c.args.outs.now in
     let (most, are, stops) = c.in-Err-make_looks.ensures.stopped in
     let tells = c.tell-in-Err-make_looks.ensures in
-    let holds = open_holds c.in-Ok.ensures.ok (c.treat_by.ensures.watched ∙ c.requires.unwatched) in
+    let holds = open_holds (rw c.is_by_name-by_name.ensures at c.in-Ok.ensures.ok) (c.treat_by.ensures.watched ∙ c.requires.unwatched) in
     rw (← c.treat_by.ensures.shows) (ends_by c.args.limits.process most are
     (stopped (g.O.Outs.slots c.make_looks.new.outs) c.in-Err-make_looks.fault
     (stops c.args.calling ways c.args.headers names slots holds) tells.told tells.status))
