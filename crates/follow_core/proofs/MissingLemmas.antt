@@ -27,8 +27,8 @@ never_nowhere snapshot name finding insists nowhere found =
     false≢true (sym (and-false (snapshot.finds name finding)) ∙ rw (insists, nowhere) at found)
 
 -- what is told last is so
-all_last : (Tells : Notice → Type 0) (Is : List ℕ → Type 0) (events more : List Event) → AllGive Tells Is (events ++ more)
-    → AllGive Tells Is more
+all_last : (Tells : Notice → Type 0) (Is : List ℕ → Type 0) (events more : List Event)
+    → AllGive Tells Is (events ++ more) → AllGive Tells Is more
 all_last Tells Is [] more all = all
 all_last Tells Is (notes notice ∷ events) more all = all_last Tells Is events more all.1
 all_last Tells Is (gives bytes ∷ events) more all = all_last Tells Is events more all.1
@@ -40,7 +40,8 @@ first_told : (ways : Ways) (look : Look) (place : ℕ) {name : List ℕ} {share 
     → look.snapshot.leads name ≡ None → fate_at place look ≡ sound → ⊥
 first_told ways look place found is leads fine = absurd (cc (found.failed, rw (fine, leads) at (ap (λ (those : Share). those.failure) is), fine))
 
-later_told : (ways : Ways) (look : Look) (place : ℕ) {first : Look} {looks : List Look} {file : ℕ} {name : List ℕ} {share : Share}
+later_told : (ways : Ways) (look : Look) (place : ℕ) {first : Look} {looks : List Look} {file : ℕ} {name : List ℕ}
+    {share : Share}
     → IsFound (first ∷ looks) look.snapshot name (fate_at place look) share
     → share ≡ share_of ways (first ∷ looks) look place name → is_dropped place (first ∷ looks) ≡ false
     → ways.by_name ≡ true → look.snapshot.insists ≡ true → look.snapshot.leads name ≡ None
@@ -127,6 +128,7 @@ now_dropped place looks look kept failed = by (fate_at place look) refl where
   none : (broken : Option Broken) → is_some broken ≡ false → broken ≡ None
   none None is = refl
   none (Some call) is = absurd (cc)
+
   by : (fate : Fate) → fate_at place look ≡ fate → is_dropped place (looks ++ look ∷ []) ≡ true
   by sound at = absurd (failed at)
   by unled at = ap is_some (failed_more place looks look (none _ kept) at)

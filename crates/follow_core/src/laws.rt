@@ -1,6 +1,21 @@
 //! Laws of the definitions, with no code: each stands on the contract of a function whose body is empty.
 ghost use Rattle.std.specs.Prelude.{
-  ◌≡◌, ◌≤◌, ◌<◌, ◌+◌, ◌++◌, ◌∷◌, [], ◌||◌, ℕ, List, Bool, true, None, Some, length, slice_index_or,
+  ◌≡◌,
+  ◌≤◌,
+  ◌<◌,
+  ◌+◌,
+  ◌++◌,
+  ◌∷◌,
+  [],
+  ◌||◌,
+  ℕ,
+  List,
+  Bool,
+  true,
+  None,
+  Some,
+  length,
+  slice_index_or,
 };
 ghost use Rattle.watch_core.specs.{Edits.{Edit}, Snapshot.{Snapshot, clinging}};
 ghost use Rattle.follow_core.specs.{

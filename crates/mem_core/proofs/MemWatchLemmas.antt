@@ -317,7 +317,8 @@ module _ {watch : MemWatchState} {worlds : List World} (turns : ℕ) {names : Li
   held_now file now = ap (λ (those : World). held_in those.files file) now ∙ sym (latest_holds manner within worlds turns file empty)
       ∙ ap (λ (those : MemWatchState). (latest (seen those)).holds file) is
 
-  pub tells_now : (file len : ℕ) {world : World} → world ≡ world_at worlds turns → len ≡ length (held_in world.files file)
+  pub tells_now : (file len : ℕ) {world : World} → world ≡ world_at worlds turns
+      → len ≡ length (held_in world.files file)
       → record { id = file; len = len } ≡ file_seen (latest (seen watch)) file
   tells_now file len now is_len = ap (λ n. record { id = file; len = n }) (is_len ∙ ap length (held_now file now))
 

@@ -293,7 +293,8 @@ FollowAsks words asked = (calling : Calling)
 abbrev pub RefusedBut : List (List ℕ) → Option Followed → Type 0
 RefusedBut words followed =
     (settings_of Cutters (codes "tail" ∷ words ++ codes "f" ∷ []) ≡ Err (Usage BadFollow 0))
-    × (settings_of OwnName (codes "tail" ∷ words ++ codes "f" ∷ []) ≡ Ok (Tail (record following { followed = followed })))
+    × (settings_of OwnName (codes "tail" ∷ words ++ codes "f" ∷ [])
+    ≡ Ok (Tail (record following { followed = followed })))
 
 -- of `tail` this number of the last lines or bytes of the file `f`, or all from that one on
 abbrev pub of_file : Sign → Measured → ℕ → TailSettings

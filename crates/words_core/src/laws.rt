@@ -449,7 +449,8 @@ pub fn tail_options_ask()
     ensures retry_alone { RefusedBut (codes "--retry" ∷ []) None }
     ensures retry_files { RefusedBut (codes "-f" ∷ codes "--retry" ∷ []) (Some Followed.FirstFile) }
     ensures last_files { RefusedBut (codes "-F" ∷ codes "-f" ∷ []) (Some Followed.FirstFile) }
-    ensures last_names { FollowAsks (codes "-f" ∷ codes "-F" ∷ []) (record following { followed = Some Followed.Name }) }
+    ensures last_names { FollowAsks (codes "-f" ∷ codes "-F" ∷ [])
+        (record following { followed = Some Followed.Name }) }
     ensures looks { (value : List ℕ) → is_number value ≡ true → 1 ≤ value_of value → value_of value ≤ 2 ^ 63 - 1
         → FollowAsks (codes "-f" ∷ codes "--looks" ∷ value ∷ []) (record following { looks = value_of value }) }
     ensures pause { (value : List ℕ) (pause : ℕ) → pause_in value ≡ Ok pause
