@@ -7,7 +7,7 @@ ghost use Rattle.follow_core.specs.{Followed.followed, Look.{unopened, unread}, 
 ghost use Rattle.ends_core.specs.Ends.{tail_of};
 
 use ends_core::Unit;
-use follow_core::{Follow, Limits, Start, follow_files};
+use follow_core::{Follow, Limits, Method, Start, follow_files};
 use mem_core::{Edit, MemOut, MemWatch};
 use ports_core::{Calling, Fault, Reason};
 use std::alloc::Global;
@@ -196,7 +196,7 @@ fn wait_for(rt: &impl Abort, alloc: Global, row: &Waited) -> Result<(), Fault> {
         Calling::Cutters,
         &["f"],
         LAST_LINE,
-        true,
+        Method::Name,
         false,
         limits,
         &mut watch,
@@ -206,9 +206,11 @@ fn wait_for(rt: &impl Abort, alloc: Global, row: &Waited) -> Result<(), Fault> {
     Ok(())
 }
 
-/// How `tail -F f` was called, the edits before each look, and what a run leaves: its status, and what it writes and says.
+/// How `tail` was called, how it follows `f`, the edits before each look, and what a run leaves: its status, and what it writes and
+/// says.
 struct Barred<'a> {
     calling: Calling,
+    method: Method,
     looks: &'a [&'a [Edit<'a>]],
     status: u8,
     output: &'a [u8],
@@ -235,6 +237,7 @@ const BARRED_LATER: &[&[Edit<'static>]] = &[
 const BARRED: &[Barred<'static>] = &[
     Barred {
         calling: Calling::OwnName,
+        method: Method::Name,
         looks: BARRED_AT_FIRST,
         status: 1,
         output: b"a\nb\nc\nd\n",
@@ -242,6 +245,7 @@ const BARRED: &[Barred<'static>] = &[
     },
     Barred {
         calling: Calling::Cutters,
+        method: Method::Name,
         looks: BARRED_AT_FIRST,
         status: 1,
         output: b"",
@@ -249,6 +253,7 @@ const BARRED: &[Barred<'static>] = &[
     },
     Barred {
         calling: Calling::OwnName,
+        method: Method::Name,
         looks: BARRED_LATER,
         status: 0,
         output: b"b\nc\nx\ny\n",
@@ -256,6 +261,7 @@ const BARRED: &[Barred<'static>] = &[
     },
     Barred {
         calling: Calling::Cutters,
+        method: Method::Name,
         looks: BARRED_LATER,
         status: 1,
         output: b"b\nc\n",
@@ -264,10 +270,89 @@ const BARRED: &[Barred<'static>] = &[
     // There is none at first.
     Barred {
         calling: Calling::OwnName,
+        method: Method::Name,
         looks: &[&[], &[Edit::Replace("f", b"a\n")]],
         status: 1,
         output: b"a\n",
         messages: b"tail: cannot open 'f': No such file or directory\ntail: 'f': file appeared\n",
+    },
+    // While it is there: it is dropped where it is missing at first.
+    Barred {
+        calling: Calling::OwnName,
+        method: Method::PresentName,
+        looks: &[&[], &[Edit::Replace("f", b"a\n")]],
+        status: 1,
+        output: b"",
+        messages: b"tail: cannot open 'f': No such file or directory\n",
+    },
+    // It is followed to another file, and dropped once it is removed.
+    Barred {
+        calling: Calling::OwnName,
+        method: Method::PresentName,
+        looks: &[
+            &[Edit::Replace("f", b"a\nb\n")],
+            &[Edit::Append("f", b"c\n"), Edit::Replace("f", b"x\n")],
+            &[Edit::Append("f", b"y\n"), Edit::Remove("f")],
+            &[Edit::Replace("f", b"z\n")],
+        ],
+        status: 1,
+        output: b"b\nc\nx\ny\n",
+        messages: b"tail: 'f': file replaced\ntail: cannot open 'f': No such file or directory\n",
+    },
+    // It is dropped where it can't be read.
+    Barred {
+        calling: Calling::OwnName,
+        method: Method::PresentName,
+        looks: BARRED_LATER,
+        status: 1,
+        output: b"b\nc\n",
+        messages: b"tail: cannot open 'f': Permission denied\n",
+    },
+    // The first file: it is looked for until it is there, and then followed wherever the name leads.
+    Barred {
+        calling: Calling::OwnName,
+        method: Method::FirstFile,
+        looks: &[
+            &[],
+            &[],
+            &[Edit::Replace("f", b"a\nb\n")],
+            &[Edit::Append("f", b"c\n"), Edit::Replace("f", b"x\n")],
+            &[Edit::Append("f", b"y\n"), Edit::Remove("f")],
+        ],
+        status: 1,
+        output: b"a\nb\nc\n",
+        messages: b"tail: cannot open 'f': No such file or directory\ntail: 'f': file appeared\n",
+    },
+    // One that is there at first, and is truncated.
+    Barred {
+        calling: Calling::OwnName,
+        method: Method::FirstFile,
+        looks: &[
+            &[Edit::Replace("f", b"a\nb\n")],
+            &[Edit::Truncate("f", 1)],
+            &[Edit::Append("f", b"c\n"), Edit::Remove("f")],
+            &[Edit::Replace("f", b"x\n")],
+        ],
+        status: 0,
+        output: b"b\nac\n",
+        messages: b"tail: 'f': file truncated\n",
+    },
+    // One that can't be read at first counts as missing, and later it is followed on.
+    Barred {
+        calling: Calling::OwnName,
+        method: Method::FirstFile,
+        looks: BARRED_AT_FIRST,
+        status: 1,
+        output: b"a\nb\nc\nd\n",
+        messages: b"tail: cannot open 'f': Permission denied\ntail: 'f': file appeared\n",
+    },
+    Barred {
+        calling: Calling::OwnName,
+        method: Method::FirstFile,
+        looks: BARRED_LATER,
+        status: 0,
+        output: b"b\nc\n",
+        messages: b"",
     },
 ];
 
@@ -284,7 +369,7 @@ fn forgives_by_its_own_name_alone(rt: HostRuntime) -> Result<(), Fail> {
 #[test]
 fn forgives_each_call(rt: HostRuntime) -> Result<(), Fail> {
     for row in BARRED {
-        if row.calling == Calling::OwnName {
+        if row.calling == Calling::OwnName && row.method != Method::PresentName {
             forgives_any(&rt, rt.alloc(), row)?;
         }
     }
@@ -358,7 +443,7 @@ fn tells_why(
     };
     let names = ["f", "g"];
     let status = follow_files(
-        alloc, row.0, &names, LAST_LINE, false, false, limits, &mut watch, &mut outs,
+        alloc, row.0, &names, LAST_LINE, Method::Descriptor, false, limits, &mut watch, &mut outs,
     );
     assert_eq!(rt; (status, outs.bytes(1)), (1, row.2));
     Ok(())
@@ -386,7 +471,7 @@ fn follows_barred(
         row.calling,
         &names,
         LAST_LINE,
-        true,
+        row.method,
         false,
         limits,
         &mut watch,

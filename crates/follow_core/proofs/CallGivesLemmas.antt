@@ -332,9 +332,9 @@ pub follows_from : {told : Bool} {led file : Option ℕ} (place : ℕ) (old : Li
 follows_from {file} place old new fate stop opened leads given = grind (arith, common_steps, changed_at-again)
 
 -- of an open file it says how much it was found to hold
-pub is_held : (snapshot : Snapshot) (watched : Watched) {len : ℕ}
+pub is_held : (snapshot : Snapshot) (watched : Watched) (len : ℕ)
     → Found snapshot watched.name (holds_many watched.opened len) → HoldsMany snapshot watched len
-is_held snapshot watched {len} found = grind (arith, common_steps, holds_many)
+is_held snapshot watched len found = grind (arith, common_steps, holds_many)
 
 pub held_many : (by_name : Bool) (snapshot : Snapshot) (name : List ℕ) (len : ℕ) (opened : Option ℕ)
     → is_some opened ≡ true → IsLong by_name snapshot name opened len → Found snapshot name (holds_many opened len)

@@ -9,3 +9,4 @@ pub mod CatchLemmas
 pub mod StartLemmas
 pub mod FollowLemmas
 pub mod LookedLemmas
+pub mod MissingLemmas

@@ -8,13 +8,14 @@ use Rattle.ports_core.specs.{
   Slot.{Slot, with_broken},
   Text.{message_of, status_after},
   declared.{
-    calling.Calling.{Calling, TheVariants.OwnName},
+    calling.Calling.{Calling, TheVariants.{Cutters, OwnName}},
     reason.Reason.{Reason, TheVariants.Gone},
     fault.Fault.{Fault, TheVariants.Memory},
   },
 }
-use Rattle.watch_core.specs.{Snapshot.{Snapshot, forgiving}, Watched.Watched}
+use Rattle.watch_core.specs.{Snapshot.{Snapshot, clinging, forgiving, insisting}, Watched.Watched}
 use Rattle.follow_core.specs.{
+  declared.run.Method.{Method, TheVariants.{Descriptor, Name, PresentName, FirstFile}},
   Followed.{Followed, made_of},
   FollowState.{Halted, SawOrNot, is_alive},
   Look.{Look, Ways, snapshots},
@@ -25,11 +26,22 @@ use Rattle.follow_core.specs.{
   Telling.tail_by,
 }
 
+-- names are followed to where they lead
+abbrev pub is_by_name : Method → Bool
+is_by_name Descriptor = false
+is_by_name Name = true
+is_by_name PresentName = true
+is_by_name FirstFile = true
+
 -- What each look of a run shows. Where `tail` was called by its own name and follows names, a name that is there but
--- can't be opened or read counts as missing, and no call on a name fails.
-abbrev pub shows_by : Calling → (by_name : Bool) → (ℕ → Snapshot) → ℕ → Snapshot
-shows_by OwnName true shows = λ n. forgiving (shows n)
-shows_by calling by_name shows = shows
+-- can't be opened or read counts as missing, and no call on a name fails. A name that is followed while it is there
+-- fails once it leads nowhere. Where the first file of a name is followed, the name leads to it from then on.
+abbrev pub shows_by : Calling → Method → (ℕ → Snapshot) → ℕ → Snapshot
+shows_by calling Descriptor shows = shows
+shows_by Cutters Name shows = shows
+shows_by OwnName Name shows = λ n. forgiving (shows n)
+shows_by calling PresentName shows = λ n. insisting (shows n)
+shows_by calling FirstFile shows = clinging shows
 
 -- what the first n looks see
 abbrev pub seen_first : (ℕ → Snapshot) → ℕ → List Snapshot

@@ -109,6 +109,16 @@ abbrev pub NoneBreaks : List ℕ → List Look → Type 0
 NoneBreaks name [] = Unit {0}
 NoneBreaks name (look ∷ looks) = (look.snapshot.breaks name ≡ false) × NoneBreaks name looks
 
+-- in each of these looks a call on a name that leads nowhere fails
+abbrev pub AllInsist : List Look → Type 0
+AllInsist [] = Unit {0}
+AllInsist (look ∷ looks) = (look.snapshot.insists ≡ true) × AllInsist looks
+
+-- at one of these looks this name leads nowhere
+abbrev pub LeadsNowhere : List ℕ → List Look → Type 0
+LeadsNowhere name [] = ⊥
+LeadsNowhere name (look ∷ looks) = (look.snapshot.leads name ≡ None) ⊎ LeadsNowhere name looks
+
 -- a beginning of what a look gives for a name for which no call failed
 pub record IsBegun (before : List Look) (snapshot : Snapshot) (name : List ℕ) (share : Share) : Type 0 where
   pub named : share.name ≡ name

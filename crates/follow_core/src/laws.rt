@@ -1,13 +1,30 @@
 //! Laws of the definitions, with no code: each stands on the contract of a function whose body is empty.
-ghost use Rattle.std.specs.Prelude.{◌≡◌, ◌<◌, ◌+◌, ◌++◌, ◌∷◌, [], ◌||◌, ℕ, List, Bool, None, length, slice_index_or};
-ghost use Rattle.watch_core.specs.Edits.{Edit};
+ghost use Rattle.std.specs.Prelude.{
+  ◌≡◌,
+  ◌≤◌,
+  ◌<◌,
+  ◌+◌,
+  ◌++◌,
+  ◌∷◌,
+  [],
+  ◌||◌,
+  ℕ,
+  List,
+  Bool,
+  true,
+  None,
+  Some,
+  length,
+  slice_index_or,
+};
+ghost use Rattle.watch_core.specs.{Edits.{Edit}, Snapshot.{Snapshot, clinging}};
 ghost use Rattle.follow_core.specs.{
   Version.Entry,
   Run.{AreKept, name_text},
   Gain.gains_after,
-  Look.{Look, Ways, entries_in, failed_in},
-  Reading.{AreFound, NoneBreaks},
-  Share.{Share, gain, gains_from, shares_at_look},
+  Look.{Look, Ways, entries_in, failed_in, is_dropped},
+  Reading.{AllInsist, AreFound, LeadsNowhere, NoneBreaks},
+  Share.{Share, gain, gains_from, shares_at_look, shares_of},
   Followed.{any_failed, followed, last_header, messages_of, text_from},
   Placing.Agree,
   Notice.notice_of,
@@ -56,6 +73,21 @@ pub fn forgiven_names_stay()
     ensures { (ways : Ways) (names : List (List ℕ)) (looks : List Look) (shares : List Share)
         → AreFound ways names looks shares → (place : ℕ) → place < length names
         → NoneBreaks (slice_index_or names place []) looks → failed_in (ways.first + place) looks ≡ None }
+{}
+
+/// Where names are followed while they are there, so that each look insists, a name that leads nowhere at one of them is dropped: a call
+/// on it failed.
+pub fn missing_names_are_dropped()
+    ensures { (ways : Ways) (names : List (List ℕ)) (looks : List Look) (shares : List Share)
+        → AreFound ways names looks shares → shares ≡ shares_of ways names looks → ways.by_name ≡ true
+        → AllInsist looks → (place : ℕ) → place < length names → LeadsNowhere (slice_index_or names place []) looks
+        → is_dropped (ways.first + place) looks ≡ true }
+{}
+
+/// Where looks cling, a name that led to a file leads to it at each later look.
+pub fn first_files_stay()
+    ensures { (shows : ℕ → Snapshot) (name : List ℕ) (file n later : ℕ) → n ≤ later
+        → (clinging shows n).leads name ≡ Some file → (clinging shows later).leads name ≡ Some file }
 {}
 
 /// A line that tells what a look found is never the message of a failure: so it is told whole, or following ends before it.

@@ -12,8 +12,9 @@ mod visitor;
 
 pub use follow::{Follow, Phase};
 pub use laws::{
-    forgiven_names_stay, looks_agree, notices_are_no_failures, one_look_more, text_goes_on,
+    first_files_stay, forgiven_names_stay, looks_agree, missing_names_are_dropped,
+    notices_are_no_failures, one_look_more, text_goes_on,
 };
 pub use notice::{Notice, notice_line};
-pub use run::{Limits, follow_files};
+pub use run::{Limits, Method, follow_files};
 pub use start::Start;

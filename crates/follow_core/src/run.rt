@@ -6,7 +6,7 @@ ghost use Rattle.ports_core.specs.{
 };
 ghost use Rattle.follow_core.specs.{
   Sharing.{CanPrint, HasError},
-  Ending.{AreMost, FollowEndsBy, StoppedIn, is_over, shows_by},
+  Ending.{AreMost, FollowEndsBy, StoppedIn, is_by_name, is_over, shows_by},
   inner.Visits.{LookedAll, FoundUnread},
   FollowState.{CanLook, Holds},
   Look.{Ways, ways_of},
@@ -27,6 +27,31 @@ pub struct Limits {
     pub process: Option<u32>,
 }
 
+/// How files are followed.
+#[derive(Clone, Copy, Debug, PartialEq, Eq)]
+pub enum Method {
+    /// By descriptor: the file that was opened at the first look, wherever its name leads.
+    Descriptor,
+    /// By name: the file to which it leads. A name that leads nowhere is looked for again.
+    Name,
+    /// By name, while it leads to a file. A name that leads nowhere is dropped.
+    PresentName,
+    /// The first file to which a name leads at any look, wherever it leads later.
+    FirstFile,
+}
+
+impl Method {
+    /// Whether names are followed to where they lead.
+    pub fn is_by_name(self) -> bool
+        ensures { result ≡ is_by_name self }
+    {
+        match self {
+            Method::Descriptor => false,
+            Method::Name | Method::PresentName | Method::FirstFile => true,
+        }
+    }
+}
+
 /// The output that is written.
 const STANDARD_OUTPUT: usize = 0;
 
@@ -45,7 +70,7 @@ enum End {
 /// A whole run of `tail` that follows these names (POSIX.1-2017, XCU tail, `-f`; GNU's `--follow=name` too): looks, one directly
 /// after another, up to the limits. It ends sooner where after a look no further one can give anything. Its status is 1 where a name was
 /// missing at the first look or failed, or a fault ended following, and else 0; where `tail` was called by its own name and the reader
-/// of its output is gone, 141. Called so, it asks before each look whether standard output is still read, and ends without a word
+/// of its output is gone, 141. Names that are followed while they are there end it once each is dropped. Called so, it asks before each look whether standard output is still read, and ends without a word
 /// where it isn't.
 ///
 /// Standard output has exactly what the looks saw: of each file the part that `start` says, then what it has past the length that the
@@ -58,7 +83,7 @@ pub fn follow_files<W: Watch, O: Outs>(
     calling: Calling,
     names: &[&str],
     start: Start,
-    by_name: bool,
+    method: Method,
     headers: bool,
     limits: Limits,
     watch: &mut W,
@@ -67,19 +92,20 @@ pub fn follow_files<W: Watch, O: Outs>(
     requires unseen { W.seen watch.old ≡ [] }
     requires unwatched { W.watched watch.old ≡ [] }
     requires outputs { O.slots outs.old ≡ streams }
-    ensures { FollowEndsBy limits.process W.told O.told calling (ways_of 0 by_name start) headers
-        (map (λ name. name.now) names.now) limits.looks (shows_by calling by_name (W.shows watch.old))
+    ensures { FollowEndsBy limits.process W.told O.told calling (ways_of 0 (is_by_name method) start) headers
+        (map (λ name. name.now) names.now) limits.looks (shows_by calling method (W.shows watch.old))
         (O.slots outs.old) (W.seen watch.new) (W.watched watch.new) (O.slots outs.new) result }
 {
     let speaker = Speaker {
         calling,
         tool: Tool::Tail,
     };
+    let by_name = method.is_by_name();
     let mut follow = match Follow::open_as(alloc, calling, names, start, by_name, headers) {
         Ok(follow) => follow,
         Err(fault) => return tell(alloc, speaker, &fault, outs),
     };
-    forgive_by(calling, by_name, watch);
+    treat_by(calling, method, watch);
     match make_looks(calling, &mut follow, limits, watch, outs) {
         Ok(End::Looked) => u8::from(follow.failed()),
         Ok(End::Unread) => UNREAD,
@@ -87,16 +113,18 @@ pub fn follow_files<W: Watch, O: Outs>(
     }
 }
 
-/// Has the watch forgive, where `tail` was called by its own name and follows names.
-fn forgive_by<W: Watch>(calling: Calling, by_name: bool, watch: &mut W)
+/// Has the watch forgive, insist or cling, as names are followed and `tail` was called.
+fn treat_by<W: Watch>(calling: Calling, method: Method, watch: &mut W)
     requires unseen { W.seen watch.old ≡ [] }
-    ensures shows { W.shows watch.new ≡ shows_by calling by_name (W.shows watch.old) }
+    ensures shows { W.shows watch.new ≡ shows_by calling method (W.shows watch.old) }
     ensures watched { W.watched watch.new ≡ W.watched watch.old }
     ensures seen { W.seen watch.new ≡ W.seen watch.old }
 {
-    match (calling, by_name) {
-        (Calling::OwnName, true) => watch.forgive(),
-        _ => {}
+    match (calling, method) {
+        (_, Method::Descriptor) | (Calling::Cutters, Method::Name) => {}
+        (Calling::OwnName, Method::Name) => watch.forgive(),
+        (_, Method::PresentName) => watch.insist(),
+        (_, Method::FirstFile) => watch.cling(),
     }
 }
 

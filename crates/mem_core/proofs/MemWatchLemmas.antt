@@ -2,18 +2,22 @@
 use Rattle.std.proofs.{
   Common.{◌≡◌, ℕ, ◌+◌, ◌-◌, ◌<◌, ◌≤◌, ◌⊎◌, inl, inr, min, zero, suc, Bool, true, false, List, [], ◌∷◌},
   Common.{◌++◌, Option},
-  Common.{Some, None, length, refl, if◌then◌else◌, sym, ◌∙◌, ap, subst, arith, get_or, set, length-append, is_some},
+  Common.{Some, None, length, refl, if◌then◌else◌, sym, ◌∙◌, ap, subst, arith, get_or, set, length-append, is_some, not, option_map},
   lemmas.{Bool.cases_lt, Grind.common_steps},
 }
 use Rattle.watch_core.{
-  specs.Snapshot.{Snapshot, forgiving, latest, waiting, Finding, Found},
-  specs.Edits.{World, empty_world, held_in, is_one, led_to, shown},
-  specs.Watched.{Watched, Finds, Reopens, open_contents, opens, watched_at},
+  specs.Snapshot.{Snapshot, clinging, first_led, forgiving, insisting, is_nowhere, latest, leads_to, opens_as, or_else, waiting, Finding, Found},
+  specs.Edits.{World, empty_world, held_in, is_one, led_to, seen_in, shown},
+  specs.Watched.{Watched, Finds, Reopens, file_seen, open_contents, opens, watched_at},
   specs.declared.watch.Seen.Seen,
   proofs.NameLemmas.{latest-last, name_changes, name_there},
 }
 use Rattle.ports_core.specs.declared.reason.Reason.{Reason}
-use Rattle.mem_core.specs.MemWatchState.{MemWatchState, world_at, seen_by, seen, shows}
+use Rattle.mem_core.specs.{
+  MemWatchState.{MemWatchState, world_at, seen_by, seen, shown_by, shown_in, shows},
+  declared.mem_watch.{Leading.{Leading, TheVariants.{Plain, Forgiving, Clinging}}, Manner.Manner},
+  inner.Leading.{CanFail, forgiven, led_at},
+}
 
 pub world_there : (worlds : List World) (n : ℕ) (world : World) → n < length worlds
     → world_at worlds n ≡ get_or worlds n world
@@ -53,152 +57,296 @@ world_again (first ∷ next ∷ worlds) (suc n) = world_again (next ∷ worlds) 
 abbrev pub SameWorlds : List World → List World → Type 0
 SameWorlds new old = (n : ℕ) → world_at new n ≡ world_at old n
 
-seen_same : (forgives : Bool) (within : ℕ) (new old : List World) (n : ℕ) → SameWorlds new old
-    → seen_by forgives within new n ≡ seen_by forgives within old n
-seen_same forgives within new old zero same = refl
-seen_same forgives within new old (suc n) same = ap (λ before. before ++ waiting within (shown forgives (world_at new (suc n))) ∷ [])
-    (seen_same forgives within new old n same) ∙ ap (λ world. seen_by forgives within old n ++ waiting within (shown forgives world) ∷ []) (same (suc n))
+-- each look sees the same of these
+shown_same : (manner : Manner) (new old : List World) (n : ℕ) → SameWorlds new old
+    → shown_in manner new n ≡ shown_in manner old n
+shown_same manner new old n same = λ i. let shown = shown_by manner.leading (λ look. same (suc look) i) n in
+    if manner.insists then insisting shown else shown
 
-pub length-seen : (forgives : Bool) (within : ℕ) (worlds : List World) (n : ℕ)
-    → length (seen_by forgives within worlds n) ≡ n
-length-seen forgives within worlds zero = refl
-length-seen forgives within worlds (suc n) =
-    let both : length (seen_by forgives within worlds n ++ waiting within (shown forgives (world_at worlds (suc n))) ∷ []) ≡ length
-    (seen_by forgives within worlds n) + 1 = length-append (seen_by forgives within worlds n) _ in
-    let before : length (seen_by forgives within worlds n) ≡ n = length-seen forgives within worlds n in
+seen_same : (manner : Manner) (within : ℕ) (new old : List World) (n : ℕ) → SameWorlds new old
+    → seen_by manner within new n ≡ seen_by manner within old n
+seen_same manner within new old zero same = refl
+seen_same manner within new old (suc n) same =
+    ap (λ before. before ++ waiting within (shown_in manner new n) ∷ []) (seen_same manner within new old n same)
+    ∙ ap (λ shown. seen_by manner within old n ++ waiting within shown ∷ []) (shown_same manner new old n same)
+
+pub length-seen : (manner : Manner) (within : ℕ) (worlds : List World) (n : ℕ)
+    → length (seen_by manner within worlds n) ≡ n
+length-seen manner within worlds zero = refl
+length-seen manner within worlds (suc n) =
+    let both : length (seen_by manner within worlds n ++ waiting within (shown_in manner worlds n) ∷ []) ≡ length
+    (seen_by manner within worlds n) + 1 = length-append (seen_by manner within worlds n) _ in
+    let before : length (seen_by manner within worlds n) ≡ n = length-seen manner within worlds n in
     omega arith
 
-pub shows_same : (new old : MemWatchState) → new.forgives ≡ old.forgives → new.within ≡ old.within
+pub shows_same : (new old : MemWatchState) → new.manner ≡ old.manner → new.within ≡ old.within
     → SameWorlds new.worlds old.worlds → shows new ≡ shows old
-shows_same new old also waits same = let is : shows new ≡ shows old = λ i. λ n. waiting (waits i) (shown (also i) (same (n + 1) i)) in is
+shows_same new old also waits same =
+    let is : shows new ≡ shows old = (λ i. λ n. waiting (waits i) (shown_in (also i) new.worlds n))
+    ∙ (λ i. λ n. waiting old.within (shown_same old.manner new.worlds old.worlds n same i)) in is
 
 -- one more look sees what the watch was to show
 pub turns_on : (watch : MemWatchState) (worlds : List World) → SameWorlds worlds watch.worlds
-    → seen_by watch.forgives watch.within worlds (watch.turns + 1)
+    → seen_by watch.manner watch.within worlds (watch.turns + 1)
     ≡ seen watch ++ shows watch (length (seen watch)) ∷ []
 turns_on watch worlds same =
     let next : watch.turns + 1 ≡ suc watch.turns = omega arith in
-    rw (next) (seen_same watch.forgives watch.within worlds watch.worlds (suc watch.turns) same
-    ∙ ap (λ n. seen watch ++ waiting watch.within (shown watch.forgives (world_at watch.worlds n)) ∷ [])
-    (let count : length (seen watch) ≡ watch.turns = length-seen watch.forgives watch.within watch.worlds
-    watch.turns in let more : suc watch.turns ≡ length (seen watch) + 1 = omega arith in more))
+    rw (next) (seen_same watch.manner watch.within worlds watch.worlds (suc watch.turns) same
+    ∙ ap (λ n. seen watch ++ waiting watch.within (shown_in watch.manner watch.worlds n) ∷ [])
+    (sym (length-seen watch.manner watch.within watch.worlds watch.turns)))
 
--- what is seen of files whether that is forgiven or not
+-- what is seen of files however names lead
 
-shown_finds : (forgives : Bool) (world : World) (name : List ℕ) (finding : Finding)
-    → Found (shown forgives world) name finding
-shown_finds false world name finding = refl
-shown_finds true world name finding = refl
+shown_holds : (manner : Manner) (worlds : List World) (n file : ℕ)
+    → (shown_in manner worlds n).holds file ≡ held_in (world_at worlds (suc n)).files file
+shown_holds manner worlds n file = by manner.leading manner.insists where
+  by : (leading : Leading) (insists : Bool) → (shown_in (record { leading = leading; insists = insists }) worlds n).holds file
+      ≡ held_in (world_at worlds (suc n)).files file
+  by Plain false = refl
+  by Plain true = refl
+  by Forgiving false = refl
+  by Forgiving true = refl
+  by Clinging false = refl
+  by Clinging true = refl
 
-shown_holds : (forgives : Bool) (world : World) (file : ℕ)
-    → held_in world.files file ≡ (shown forgives world).holds file
-shown_holds false world file = refl
-shown_holds true world file = refl
+shown_lacks : (manner : Manner) (worlds : List World) (n process : ℕ)
+    → is_one process (world_at worlds (suc n)).ended ≡ (shown_in manner worlds n).lacks process
+shown_lacks manner worlds n process = by manner.leading manner.insists where
+  by : (leading : Leading) (insists : Bool) → is_one process (world_at worlds (suc n)).ended
+      ≡ (shown_in (record { leading = leading; insists = insists }) worlds n).lacks process
+  by Plain false = refl
+  by Plain true = refl
+  by Forgiving false = refl
+  by Forgiving true = refl
+  by Clinging false = refl
+  by Clinging true = refl
 
-shown_lacks : (forgives : Bool) (world : World) (process : ℕ)
-    → is_one process world.ended ≡ (shown forgives world).lacks process
-shown_lacks false world process = refl
-shown_lacks true world process = refl
+shown_leads : (manner : Manner) (worlds : List World) (n : ℕ) (name : List ℕ)
+    → led_at manner.leading worlds (suc n) name ≡ (shown_in manner worlds n).leads name
+shown_leads manner worlds n name = by manner.leading manner.insists where
+  by : (leading : Leading) (insists : Bool) → led_at leading worlds (suc n) name
+      ≡ (shown_in (record { leading = leading; insists = insists }) worlds n).leads name
+  by Plain false = refl
+  by Plain true = refl
+  by Forgiving false = refl
+  by Forgiving true = refl
+  by Clinging false = refl
+  by Clinging true = refl
 
--- any call may have found anything
-pub finds_any : (forgives : Bool) (within : ℕ) (worlds : List World) (n : ℕ) (name : List ℕ) (finding : Finding)
-    → Found (latest (seen_by forgives within worlds n)) name finding
-finds_any forgives within worlds zero name finding = refl
-finds_any forgives within worlds (suc n) name finding = ap (λ (those : Snapshot). those.finds name finding)
-    (latest-last (seen_by forgives within worlds n) _) ∙ shown_finds forgives (world_at worlds (suc n)) name finding
+-- any call may have found anything, except that a name leads nowhere if that fails
+shown_finds : (manner : Manner) (worlds : List World) (n : ℕ) (name : List ℕ) (finding : Finding)
+    → (manner.insists ≡ true → is_nowhere finding ≡ false) → Found (shown_in manner worlds n) name finding
+shown_finds manner worlds n name finding = by manner.leading manner.insists where
+  by : (leading : Leading) (insists : Bool) → (insists ≡ true → is_nowhere finding ≡ false)
+      → Found (shown_in (record { leading = leading; insists = insists }) worlds n) name finding
+  by Plain false there = refl
+  by Plain true there = ap not (there refl)
+  by Forgiving false there = refl
+  by Forgiving true there = ap not (there refl)
+  by Clinging false there = refl
+  by Clinging true there = ap not (there refl)
 
--- all of a look but whether calls can fail, and how soon it begins
-abbrev pub kept : Snapshot → Snapshot
-kept snapshot = record snapshot { breaks = λ name. false; within = 0 }
+pub finds_any : (manner : Manner) (within : ℕ) (worlds : List World) (n : ℕ) (name : List ℕ) (finding : Finding)
+    → (manner.insists ≡ true → is_nowhere finding ≡ false)
+    → Found (latest (seen_by manner within worlds n)) name finding
+finds_any manner within worlds zero name finding there = refl
+finds_any manner within worlds (suc n) name finding there =
+    subst (λ shown. Found shown name finding) (sym (latest-last (seen_by manner within worlds n) _))
+    (shown_finds manner worlds n name finding there)
+
+-- what is there
+
+pub leads_there : (found : Option Seen) → is_some found ≡ true
+    → is_nowhere (leads_to (option_map (λ (file : Seen). file.id) found)) ≡ false
+leads_there None is = absurd (cc)
+leads_there (Some file) is = refl
+
+pub opens_there : (file : Option ℕ) → is_some file ≡ true → is_nowhere (opens_as file) ≡ false
+opens_there None is = absurd (cc)
+opens_there (Some file) is = refl
 
 -- what the last look sees are the files of its turn
-pub latest_seen : (forgives : Bool) (within : ℕ) (worlds : List World) (n : ℕ) → world_at worlds 0 ≡ empty_world
-    → kept (latest (seen_by forgives within worlds n)) ≡ kept (shown forgives (world_at worlds n))
-latest_seen false within worlds zero is = ap (λ world. kept (shown false world)) (sym is)
-latest_seen true within worlds zero is = ap (λ world. kept (shown true world)) (sym is)
-latest_seen forgives within worlds (suc n) is = ap kept (latest-last (seen_by forgives within worlds n) _)
 
--- if nothing is forgiven, a call may have failed
-latest_breaks : (forgives : Bool) (within : ℕ) (worlds : List World) (n : ℕ) (name : List ℕ) → forgives ≡ false
-    → (latest (seen_by forgives within worlds n)).breaks name ≡ true
-latest_breaks forgives within worlds zero name is = refl
-latest_breaks forgives within worlds (suc n) name is =
-    ap (λ (those : Snapshot). those.breaks name) (latest-last (seen_by forgives within worlds n) _) ∙ rw is refl
+latest_holds : (manner : Manner) (within : ℕ) (worlds : List World) (n file : ℕ) → world_at worlds 0 ≡ empty_world
+    → (latest (seen_by manner within worlds n)).holds file ≡ held_in (world_at worlds n).files file
+latest_holds manner within worlds zero file is = ap (λ (world : World). held_in world.files file) (sym is)
+latest_holds manner within worlds (suc n) file is =
+    ap (λ (shown : Snapshot). shown.holds file) (latest-last (seen_by manner within worlds n) _) ∙ shown_holds manner worlds n file
 
-pub may_break : (watch : MemWatchState) (name : List ℕ) → watch.forgives ≡ false
+latest_leads : (manner : Manner) (within : ℕ) (worlds : List World) (n : ℕ) (name : List ℕ)
+    → world_at worlds 0 ≡ empty_world
+    → led_at manner.leading worlds n name ≡ (latest (seen_by manner within worlds n)).leads name
+latest_leads manner within worlds zero name is = by manner.leading where
+  by : (leading : Leading) → led_at leading worlds 0 name ≡ None
+  by Plain = ap (λ world. (shown false world).leads name) is
+  by Forgiving = ap (λ world. (shown true world).leads name) is
+  by Clinging = refl
+latest_leads manner within worlds (suc n) name is = shown_leads manner worlds n name
+    ∙ ap (λ (shown : Snapshot). shown.leads name) (sym (latest-last (seen_by manner within worlds n) _))
+
+-- where nothing is forgiven, or a missing name fails, a call may have failed
+shown_breaks : (manner : Manner) (worlds : List World) (n : ℕ) (name : List ℕ) → CanFail manner
+    → (shown_in manner worlds n).breaks name ≡ true
+shown_breaks manner worlds n name = by manner.leading manner.insists where
+  by : (leading : Leading) (insists : Bool) → CanFail (record { leading = leading; insists = insists })
+      → (shown_in (record { leading = leading; insists = insists }) worlds n).breaks name ≡ true
+  by leading true is = refl
+  by Plain false is = refl
+  by Forgiving false (inl is) = absurd (cc)
+  by Forgiving false (inr is) = absurd (cc)
+  by Clinging false (inl is) = absurd (cc)
+  by Clinging false (inr is) = absurd (cc)
+
+latest_breaks : (manner : Manner) (within : ℕ) (worlds : List World) (n : ℕ) (name : List ℕ) → CanFail manner
+    → (latest (seen_by manner within worlds n)).breaks name ≡ true
+latest_breaks manner within worlds zero name is = refl
+latest_breaks manner within worlds (suc n) name is =
+    ap (λ (those : Snapshot). those.breaks name) (latest-last (seen_by manner within worlds n) _) ∙ shown_breaks manner worlds n name is
+
+pub may_break : (watch : MemWatchState) (name : List ℕ) → CanFail watch.manner
     → (latest (seen watch)).breaks name ≡ true
-may_break watch name unforgiven = latest_breaks watch.forgives watch.within watch.worlds watch.turns name unforgiven
+may_break watch name can = latest_breaks watch.manner watch.within watch.worlds watch.turns name can
 
 -- what was forgiven is
 
 forgiven_twice : (barred : Bool) (led : Option ℕ)
-    → (if barred then None else (if barred then None else led)) ≡ (if barred then None else led)
+    → (if barred then None else led) ≡ (if barred then None else (if barred then None else led))
 forgiven_twice true led = refl
 forgiven_twice false led = refl
 
-shown_again : (forgives : Bool) (world : World) → shown true world ≡ forgiving (shown forgives world)
-shown_again false world = refl
-shown_again true world = λ i. record (shown true world) { leads = λ name. sym (forgiven_twice ((shown true world).barred name) (led_to world.links name)) i }
-
-pub forgives_all : {watch : MemWatchState} (new : MemWatchState) {worlds : List World} {turns : ℕ}
-    {names : List Watched} {forgives : Bool} {within : ℕ} {why : Reason}
-    → record { worlds = worlds; turns = turns; watched = names; forgives = forgives; within = within; why = why }
+-- from now on all looks show so
+pub shows_now : {watch : MemWatchState} {worlds : List World} {turns : ℕ} {names : List Watched} {manner : Manner}
+    {within : ℕ} {why : Reason} (now : Manner) (change : (ℕ → Snapshot) → ℕ → Snapshot)
+    → record { worlds = worlds; turns = turns; watched = names; manner = manner; within = within; why = why }
     ≡ watch
-    → new.worlds ≡ worlds → new.forgives ≡ true → new.within ≡ within → shows new ≡ (λ n. forgiving (shows watch n))
-forgives_all {watch} new {worlds} {forgives} {within} is same forgiven waits =
-    (λ i. λ n. waiting (waits i) (shown (forgiven i) (world_at (same i) (n + 1))))
-    ∙ (λ i. λ n. waiting within (shown_again forgives (world_at worlds (n + 1)) i))
-    ∙ (λ i. λ n. forgiving (shows (is i) n))
+    → ◌≡◌ {A = ℕ → Snapshot} (λ n. waiting within (shown_in now worlds n))
+    (change (λ n. waiting within (shown_in manner worlds n)))
+    → ◌≡◌ {A = ℕ → Snapshot} (λ n. waiting within (shown_in now worlds n)) (change (shows watch))
+shows_now now change is same = same ∙ ap (λ those. change (shows those)) is
 
-pub forgives_none : {watch : MemWatchState} {worlds : List World} (turns : ℕ) {names : List Watched} {forgives : Bool}
-    {within : ℕ} {why : Reason} (now : Bool)
-    → record { worlds = worlds; turns = turns; watched = names; forgives = forgives; within = within; why = why }
+pub forgives_all : (manner : Manner) (within : ℕ) (worlds : List World)
+    → ◌≡◌ {A = ℕ → Snapshot}
+    (λ n. waiting within (shown_in (record { leading = forgiven manner.leading; insists = false }) worlds n))
+    (λ n. forgiving (waiting within (shown_in manner worlds n)))
+forgives_all manner within worlds = by manner.leading manner.insists where
+  by : (leading : Leading) (insists : Bool)
+      → ◌≡◌ {A = ℕ → Snapshot}
+      (λ n. waiting within (shown_in (record { leading = forgiven leading; insists = false }) worlds n))
+      (λ n. forgiving (waiting within (shown_in (record { leading = leading; insists = insists }) worlds n)))
+  by Plain false = refl
+  by Plain true = refl
+  by Forgiving false = λ i. λ n. waiting within (record (forgiving (seen_in (world_at worlds (suc n)))) {
+    leads = λ name. forgiven_twice ((seen_in (world_at worlds (suc n))).barred name) ((seen_in (world_at worlds (suc n))).leads name) i;
+  })
+  by Forgiving true = λ i. λ n. waiting within (record (forgiving (seen_in (world_at worlds (suc n)))) {
+    leads = λ name. forgiven_twice ((seen_in (world_at worlds (suc n))).barred name) ((seen_in (world_at worlds (suc n))).leads name) i;
+  })
+  by Clinging false = refl
+  by Clinging true = refl
+
+pub insists_all : (manner : Manner) (within : ℕ) (worlds : List World)
+    → ◌≡◌ {A = ℕ → Snapshot}
+    (λ n. waiting within (shown_in (record { leading = manner.leading; insists = true }) worlds n))
+    (λ n. insisting (waiting within (shown_in manner worlds n)))
+insists_all manner within worlds = by manner.leading manner.insists where
+  by : (leading : Leading) (insists : Bool)
+      → ◌≡◌ {A = ℕ → Snapshot}
+      (λ n. waiting within (shown_in (record { leading = leading; insists = true }) worlds n))
+      (λ n. insisting (waiting within (shown_in (record { leading = leading; insists = insists }) worlds n)))
+  by leading false = refl
+  by leading true = refl
+
+-- the first of the files to which a name led first is the first
+or_twice : (led later : Option ℕ) → or_else led later ≡ or_else led (or_else led later)
+or_twice None later = refl
+or_twice (Some file) later = refl
+
+first_first : (leads : ℕ → Option ℕ) (n : ℕ) → first_led leads n ≡ first_led (λ look. first_led leads (suc look)) n
+first_first leads zero = refl
+first_first leads (suc n) = or_twice (first_led leads n) (leads n)
+    ∙ ap (λ led. or_else led (first_led leads (suc n))) (first_first leads n)
+
+pub clings_all : (manner : Manner) (within : ℕ) (worlds : List World)
+    → ◌≡◌ {A = ℕ → Snapshot}
+    (λ n. waiting within (shown_in (record { leading = Clinging; insists = false }) worlds n))
+    (clinging (λ n. waiting within (shown_in manner worlds n)))
+clings_all manner within worlds = by manner.leading manner.insists where
+  by : (leading : Leading) (insists : Bool)
+      → ◌≡◌ {A = ℕ → Snapshot}
+      (λ n. waiting within (shown_in (record { leading = Clinging; insists = false }) worlds n))
+      (clinging (λ n. waiting within (shown_in (record { leading = leading; insists = insists }) worlds n)))
+  by Plain false = refl
+  by Plain true = refl
+  by Forgiving false = λ i. λ n. record (waiting within (clinging (λ look. seen_in (world_at worlds (suc look))) n)) {
+    leads = λ name. first_led (λ look. forgiven_twice ((seen_in (world_at worlds (suc look))).barred name)
+        ((seen_in (world_at worlds (suc look))).leads name) i) (suc n);
+  }
+  by Forgiving true = λ i. λ n. record (waiting within (clinging (λ look. seen_in (world_at worlds (suc look))) n)) {
+    leads = λ name. first_led (λ look. forgiven_twice ((seen_in (world_at worlds (suc look))).barred name)
+        ((seen_in (world_at worlds (suc look))).leads name) i) (suc n);
+  }
+  by Clinging false = λ i. λ n. record (waiting within (clinging (λ look. seen_in (world_at worlds (suc look))) n)) {
+    leads = λ name. first_first (λ look. (forgiving (seen_in (world_at worlds (suc look)))).leads name) (suc n) i;
+  }
+  by Clinging true = λ i. λ n. record (waiting within (clinging (λ look. seen_in (world_at worlds (suc look))) n)) {
+    leads = λ name. first_first (λ look. (forgiving (seen_in (world_at worlds (suc look)))).leads name) (suc n) i;
+  }
+
+-- before the first look nothing was seen, in whatever manner
+pub none_seen : {watch : MemWatchState} {worlds : List World} (turns : ℕ) {names : List Watched} {manner : Manner}
+    {within : ℕ} {why : Reason} (now : Manner)
+    → record { worlds = worlds; turns = turns; watched = names; manner = manner; within = within; why = why }
     ≡ watch
     → seen watch ≡ [] → seen_by now within worlds turns ≡ seen watch
-forgives_none zero now is unseen = sym unseen
-forgives_none {watch} {worlds} (suc turns) {forgives} {within} now is unseen = absurd
+none_seen zero now is unseen = sym unseen
+none_seen {watch} {worlds} (suc turns) {manner} {within} now is unseen = absurd
     (let count : length (seen watch) ≡ suc turns = ap (λ (those : MemWatchState). length (seen those)) (sym is)
-    ∙ length-seen forgives within worlds (suc turns) in let none = ap length unseen in omega arith)
+    ∙ length-seen manner within worlds (suc turns) in let none = ap length unseen in omega arith)
 
--- what is true of the files of the last turn is true of the last look
-module _ {watch : MemWatchState} {worlds : List World} (turns : ℕ) {names : List Watched} {world : World}
-    {forgives : Bool} {within : ℕ} {why : Reason}
-    (is : record { worlds = worlds; turns = turns; watched = names; forgives = forgives; within = within; why = why }
-    ≡ watch) (empty : world_at worlds 0 ≡ empty_world) (now : world ≡ world_at worlds turns) where
-  now_seen : kept (shown forgives world) ≡ kept (latest (seen watch))
-  now_seen = ap (λ those. kept (shown forgives those)) now ∙ sym (latest_seen forgives within worlds turns empty)
-      ∙ ap (λ (those : MemWatchState). kept (latest (seen those))) is
-
+-- what is so of the files of the last turn is so of the last look
+module _ {watch : MemWatchState} {worlds : List World} (turns : ℕ) {names : List Watched}
+    {manner : Manner} {within : ℕ} {why : Reason}
+    (is : record { worlds = worlds; turns = turns; watched = names; manner = manner; within = within; why = why }
+    ≡ watch) (empty : world_at worlds 0 ≡ empty_world) where
   item_is : (place : ℕ) {item : Watched} → place < length names → item ≡ get_or names place item
       → item ≡ watched_at watch.watched place
   item_is place {item} within at = name_there names place item within at ∙ ap (λ (those : MemWatchState). watched_at those.watched place) is
 
-  pub finds_now : (place : ℕ) {item : Watched} {found : Option Seen} → place < length names
-      → item ≡ get_or names place item
-      → Finds (shown forgives world) item.name found
-      → Finds (latest (seen watch)) (watched_at watch.watched place).name found
-  finds_now place {found} within at finds =
-      subst (λ snapshot. Finds snapshot (watched_at watch.watched place).name found) now_seen
-      (subst (λ (those : Watched). Finds (shown forgives world) those.name found) (item_is place within at) finds)
+  held_now : (file : ℕ) {world : World} → world ≡ world_at worlds turns
+      → held_in world.files file ≡ (latest (seen watch)).holds file
+  held_now file now = ap (λ (those : World). held_in those.files file) now ∙ sym (latest_holds manner within worlds turns file empty)
+      ∙ ap (λ (those : MemWatchState). (latest (seen those)).holds file) is
+
+  pub tells_now : (file len : ℕ) {world : World} → world ≡ world_at worlds turns
+      → len ≡ length (held_in world.files file)
+      → record { id = file; len = len } ≡ file_seen (latest (seen watch)) file
+  tells_now file len now is_len = ap (λ n. record { id = file; len = n }) (is_len ∙ ap length (held_now file now))
+
+  pub led_now : (place : ℕ) {item : Watched} {file : Option ℕ} → place < length names → item ≡ get_or names place item
+      → file ≡ led_at manner.leading worlds turns item.name
+      → file ≡ (latest (seen watch)).leads (watched_at watch.watched place).name
+  led_now place {item} within_names at leads = leads ∙ latest_leads manner within worlds turns item.name empty
+      ∙ ap (λ (those : MemWatchState). (latest (seen those)).leads item.name) is
+      ∙ ap (λ (those : Watched). (latest (seen watch)).leads those.name) (item_is place within_names at)
 
   pub reopens_now : (place : ℕ) {item new : Watched} {file : Option ℕ} {is_there : Bool} → place < length names
-      → item ≡ get_or names place item
-      → file ≡ (shown forgives world).leads item.name → new ≡ opens file item → is_there ≡ is_some file
+      → item ≡ get_or names place item → file ≡ (latest (seen watch)).leads (watched_at watch.watched place).name
+      → new ≡ opens file item → is_there ≡ is_some file
+      → (watch.manner.insists ≡ true → is_some file ≡ true)
       → Reopens true (latest (seen watch)) watch.watched (set names place new) place is_there
-  reopens_now place {item} {new} {file} within at leads changed found = record {
+  reopens_now place {item} {new} {file} within at leads changed found there = record {
     file = file;
     found = sym found;
     names = name_changes names watch.watched place (opens file) item new (ap (λ (those : MemWatchState). those.watched) is) within at changed;
-    opens = finds_any watch.forgives watch.within watch.worlds watch.turns _ _;
-    leads = λ told. leads ∙ ap (λ (snapshot : Snapshot). snapshot.leads item.name) now_seen
-        ∙ ap (λ (those : Watched). (latest (seen watch)).leads those.name) (item_is place within at);
+    opens = finds_any watch.manner watch.within watch.worlds watch.turns _ _ (λ insists. opens_there file (there insists));
+    leads = λ told. leads;
   }
 
-  pub opened_now : (place : ℕ) {file : ℕ} {item : Watched} → place < length names → item ≡ get_or names place item
-      → item.opened ≡ Some file
+  pub opened_now : (place : ℕ) {file : ℕ} {item : Watched} {world : World} → place < length names
+      → item ≡ get_or names place item → world ≡ world_at worlds turns → item.opened ≡ Some file
       → held_in world.files file ≡ open_contents (latest (seen watch)) (watched_at watch.watched place)
-  opened_now place {file} {item} within at opened =
-      shown_holds forgives world file ∙ ap (λ (snapshot : Snapshot). snapshot.holds file) now_seen
+  opened_now place {file} {item} within at now opened =
+      held_now file now
       ∙ sym (ap (λ those. open_contents (latest (seen watch)) (record item { opened = those })) opened)
       ∙ ap (open_contents (latest (seen watch))) (item_is place within at)
 
@@ -212,25 +360,26 @@ at_last worlds n m some is = by (cases_lt n (length worlds)) where
 
 -- the processes that are gone before the next look
 pub gone_next : {watch : MemWatchState} {worlds : List World} {turns next : ℕ} {names : List Watched} {world : World}
-    {forgives : Bool} {within : ℕ} {why : Reason} (process : ℕ) {gone : Bool}
-    → record { worlds = worlds; turns = turns; watched = names; forgives = forgives; within = within; why = why }
+    {manner : Manner} {within : ℕ} {why : Reason} (process : ℕ) {gone : Bool}
+    → record { worlds = worlds; turns = turns; watched = names; manner = manner; within = within; why = why }
     ≡ watch → turns < length worlds → next ≡ min (turns + 1) (length worlds - 1)
     → world ≡ world_at worlds next → gone ≡ is_one process world.ended
     → gone ≡ (shows watch (length (seen watch))).lacks process
-gone_next {worlds} {turns} {next} {forgives} {within} process is inside at there gone = gone ∙ ap (λ (those : World). is_one process those.ended)
-    (there ∙ at_last worlds (turns + 1) next (omega arith) at ∙ ap (λ n. world_at worlds (n + 1)) (sym (length-seen forgives within worlds turns)))
-    ∙ shown_lacks forgives (world_at worlds (length (seen_by forgives within worlds turns) + 1)) process
+gone_next {worlds} {turns} {next} {manner} {within} process is inside at there gone = gone ∙ ap (λ (those : World). is_one process those.ended)
+    (there ∙ at_last worlds (turns + 1) next (omega arith) at ∙ ap (world_at worlds) (let next : turns + 1 ≡ suc turns = omega arith in next)
+    ∙ ap (λ n. world_at worlds (suc n)) (sym (length-seen manner within worlds turns)))
+    ∙ shown_lacks manner worlds (length (seen_by manner within worlds turns)) process
     ∙ ap (λ (those : MemWatchState). (shows those (length (seen those))).lacks process) is
 
 pub turned : {watch : MemWatchState} {worlds : List World} (new : List World) (turns : ℕ) {n : ℕ} {names : List Watched}
-    {forgives : Bool} {within : ℕ} {why : Reason}
-    → record { worlds = worlds; turns = turns; watched = names; forgives = forgives; within = within; why = why }
+    {manner : Manner} {within : ℕ} {why : Reason}
+    → record { worlds = worlds; turns = turns; watched = names; manner = manner; within = within; why = why }
     ≡ watch → SameWorlds new worlds → n ≡ turns + 1
-    → seen_by forgives within new n ≡ seen watch ++ shows watch (length (seen watch)) ∷ []
-turned {worlds} new turns {n} {names} {forgives} {within} {why} is same next =
-    subst (λ (those : MemWatchState). seen_by forgives within new n ≡ seen those ++ shows those (length (seen those)) ∷ []) is
-    (ap (seen_by forgives within new) next
-    ∙ turns_on (record { worlds = worlds; turns = turns; watched = names; forgives = forgives; within = within; why = why }) new same)
+    → seen_by manner within new n ≡ seen watch ++ shows watch (length (seen watch)) ∷ []
+turned {worlds} new turns {n} {names} {manner} {within} {why} is same next =
+    subst (λ (those : MemWatchState). seen_by manner within new n ≡ seen those ++ shows those (length (seen those)) ∷ []) is
+    (ap (seen_by manner within new) next
+    ∙ turns_on (record { worlds = worlds; turns = turns; watched = names; manner = manner; within = within; why = why }) new same)
 
 -- if nothing more was planned, the last files are added once more
 pub same_again : (worlds : List World) {new : List World} {world : World} → world ≡ world_at worlds (length worlds)
@@ -238,11 +387,11 @@ pub same_again : (worlds : List World) {new : List World} {world : World} → wo
 same_again worlds last is n = ap (λ those. world_at those n) (is ∙ ap (λ those. worlds ++ those ∷ []) last) ∙ world_again worlds n
 
 pub still_shows : {watch : MemWatchState} (new : MemWatchState) {worlds : List World} (turns : ℕ) {names : List Watched}
-    {forgives : Bool} {within : ℕ} {why : Reason} → new.forgives ≡ forgives → new.within ≡ within
-    → record { worlds = worlds; turns = turns; watched = names; forgives = forgives; within = within; why = why }
+    {manner : Manner} {within : ℕ} {why : Reason} → new.manner ≡ manner → new.within ≡ within
+    → record { worlds = worlds; turns = turns; watched = names; manner = manner; within = within; why = why }
     ≡ watch → SameWorlds new.worlds worlds → shows new ≡ shows watch
-still_shows new {worlds} turns {names} {forgives} {within} {why} also waits is same = shows_same new
-    (record { worlds = worlds; turns = turns; watched = names; forgives = forgives; within = within; why = why }) also waits same ∙ ap shows is
+still_shows new {worlds} turns {names} {manner} {within} {why} also waits is same = shows_same new
+    (record { worlds = worlds; turns = turns; watched = names; manner = manner; within = within; why = why }) also waits same ∙ ap shows is
 
 -- one more look is planned: the watch is still at a planned look, and begins with no file
 pub holds_more : (worlds : List World) {new : List World} (world : World) (turns n : ℕ) → turns < length worlds

@@ -1,2 +1,3 @@
 pub mod MemInState
 pub mod MemWatchState
+pub mod inner

@@ -1,12 +1,15 @@
 -- What contracts see of a watch in memory.
-use Rattle.std.specs.Prelude.{ℕ, ◌+◌, zero, suc, Bool, false, List, [], ◌∷◌, ◌++◌, length}
+use Rattle.std.specs.Prelude.{ℕ, zero, suc, Bool, false, List, [], ◌∷◌, ◌++◌, length, if◌then◌else◌}
 use Rattle.watch_core.specs.{
-  Snapshot.{Snapshot, waiting},
-  Edits.{Edit, append, bar, truncate, replace, remove, end, World, empty_world, edited_by, shown},
+  Snapshot.{Snapshot, clinging, forgiving, insisting, waiting},
+  Edits.{Edit, append, bar, truncate, replace, remove, end, World, empty_world, edited_by, seen_in},
   Watched.Watched,
 }
 use Rattle.ports_core.specs.declared.reason.Reason.{Reason, TheVariants.Other}
-use Rattle.mem_core.specs.declared.edit.Edit.{Edit as Change}
+use Rattle.mem_core.specs.declared.{
+  edit.Edit.{Edit as Change},
+  mem_watch.{Leading.{Leading, TheVariants.{Plain, Forgiving, Clinging}}, Manner.Manner},
+}
 use Rattle.mem_core.specs.declared.edit.Edit.TheVariants as change
 
 pub record MemWatchState : Type 0 where
@@ -15,8 +18,8 @@ pub record MemWatchState : Type 0 where
   -- how many looks began
   pub turns : ℕ
   pub watched : List Watched
-  -- whether a name that can't be read counts as missing
-  pub forgives : Bool
+  -- where names lead that can't be read or led elsewhere before, and whether missing names fail
+  pub manner : Manner
   -- within how many milliseconds a look begins
   pub within : ℕ
   -- the reason for which calls fail
@@ -37,17 +40,28 @@ world_at (world ∷ []) n = world
 world_at (world ∷ next ∷ worlds) zero = world
 world_at (world ∷ next ∷ worlds) (suc n) = world_at (next ∷ worlds) n
 
+-- what the look of this number sees, from 0, where these are the files at each look
+abbrev pub shown_by : Leading → (ℕ → World) → ℕ → Snapshot
+shown_by Plain worlds n = seen_in (worlds n)
+shown_by Forgiving worlds n = forgiving (seen_in (worlds n))
+shown_by Clinging worlds n = clinging (λ look. seen_in (worlds look)) n
+
+abbrev pub shown_in : Manner → List World → ℕ → Snapshot
+shown_in manner worlds n =
+    let shown = shown_by manner.leading (λ look. world_at worlds (suc look)) n in
+    if manner.insists then insisting shown else shown
+
 -- what the first n looks see
-abbrev pub seen_by : (forgives : Bool) → (within : ℕ) → List World → ℕ → List Snapshot
-seen_by forgives within worlds zero = []
-seen_by forgives within worlds (suc n) =
-    seen_by forgives within worlds n ++ waiting within (shown forgives (world_at worlds (suc n))) ∷ []
+abbrev pub seen_by : Manner → (within : ℕ) → List World → ℕ → List Snapshot
+seen_by manner within worlds zero = []
+seen_by manner within worlds (suc n) =
+    seen_by manner within worlds n ++ waiting within (shown_in manner worlds n) ∷ []
 
 abbrev pub seen : MemWatchState → List Snapshot
-seen watch = seen_by watch.forgives watch.within watch.worlds watch.turns
+seen watch = seen_by watch.manner watch.within watch.worlds watch.turns
 
 abbrev pub shows : MemWatchState → ℕ → Snapshot
-shows watch n = waiting watch.within (shown watch.forgives (world_at watch.worlds (n + 1)))
+shows watch n = waiting watch.within (shown_in watch.manner watch.worlds n)
 
 -- one more look is planned, after these edits
 abbrev pub with_look : List Edit → MemWatchState → MemWatchState
@@ -56,6 +70,17 @@ with_look edits watch = record watch {
       ++ edited_by edits (world_at watch.worlds (length watch.worlds)) ∷ [];
 }
 
+-- names lead where the files say, and one that leads nowhere is missing
+abbrev pub plain_manner : Manner
+plain_manner = record { leading = Plain; insists = false }
+
 -- no name, no file and no look
 abbrev pub no_looks : MemWatchState
-no_looks = record { worlds = empty_world ∷ []; turns = 0; watched = []; forgives = false; within = 1000; why = Other }
+no_looks = record {
+  worlds = empty_world ∷ [];
+  turns = 0;
+  watched = [];
+  manner = plain_manner;
+  within = 1000;
+  why = Other;
+}

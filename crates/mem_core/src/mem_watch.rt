@@ -1,13 +1,14 @@
 ghost use Rattle.std.specs.{
   Prelude.{◌≡◌, ◌<◌, ◌≤◌, ◌^◌, ◌∷◌, ◌++◌, [], map, length, true, false, string_bytes, IfOk, IfErr, OnOk, IfSome},
-  Prelude.{IsTrue, is_some},
+  Prelude.{IsTrue, None, Some, is_some, option_map},
 };
 ghost use Rattle.watch_core.specs.{
-  Edits.{empty_world, shown},
-  Snapshot.latest,
-  Watched.{Finds, GaveFrom, Watched, added, breaks, is_readable, is_watchable, open_contents, opens, watched_at},
+  Edits.empty_world,
+  Snapshot.{latest, or_else},
+  Watched.{GaveFrom, Watched, added, breaks, file_seen, is_readable, is_watchable, open_contents, opens, watched_at},
 };
 ghost use Rattle.mem_core.specs.{
+  inner.Leading.{CanFail, forgiven, led_at},
   MemWatchState.{MemWatchState, edit_of, no_looks, seen, shows, with_look, world_at},
 };
 ghost use Rattle.ports_core.specs.Slot.{changed_at};
@@ -19,6 +20,45 @@ use ports_core::{Fault, Reason};
 use std::alloc::{AllocError, Global};
 use std::marker::Model;
 use watch_core::{Broken, Seen, Watch};
+
+/// Where names lead.
+#[derive(Clone, Copy)]
+enum Leading {
+    /// Where the files say.
+    Plain,
+    /// Nowhere, if they can't be read.
+    Forgiving,
+    /// To the first file to which they led at any look, when they could be read.
+    Clinging,
+}
+
+impl Leading {
+    /// The same, except that a name that can't be read leads nowhere.
+    fn forgiven(self) -> Leading
+        ensures { result ≡ forgiven self }
+    {
+        match self {
+            Leading::Plain | Leading::Forgiving => Leading::Forgiving,
+            Leading::Clinging => Leading::Clinging,
+        }
+    }
+
+    /// Whether they lead where the files say.
+    fn is_plain(self) -> bool
+        ensures { IsTrue result → self ≡ Leading.Plain }
+    {
+        matches!(self, Leading::Plain)
+    }
+}
+
+/// What becomes of names that can't be read or lead nowhere.
+#[derive(Clone, Copy)]
+struct Manner {
+    /// Where they lead.
+    leading: Leading,
+    /// A call on a name that leads nowhere fails.
+    insists: bool,
+}
 
 /// A name that is watched in memory.
 #[derive(Drop)]
@@ -95,8 +135,8 @@ pub struct MemWatch {
     names: Vec<MemName>,
     /// The number of calls from now to the call that fails, which is counted too. None if no call is to fail.
     failing_in: Option<u64>,
-    /// A name that can't be read counts as missing, and no call fails.
-    forgives: bool,
+    /// What becomes of names that can't be read or lead nowhere.
+    manner: Manner,
     /// Within how many milliseconds a look begins, as it was asked for.
     within: u64,
     /// Why calls fail that do.
@@ -110,7 +150,7 @@ impl Model for MemWatch {
       worlds = w.worlds.items;
       turns = w.turns;
       watched = w.names.items;
-      forgives = w.forgives;
+      manner = w.manner;
       within = w.within;
       why = w.why;
     } };
@@ -138,7 +178,10 @@ impl MemWatch {
             turns: 0,
             names: Vec::new(alloc),
             failing_in: None,
-            forgives: false,
+            manner: Manner {
+                leading: Leading::Plain,
+                insists: false,
+            },
             within: 1000,
             why: Reason::Other,
         })
@@ -173,6 +216,29 @@ impl MemWatch {
         }
     }
 
+    /// The file to which the last look finds a name to lead.
+    fn led(&self, place: usize) -> Option<usize>
+        requires { IsTrue (is_watchable self.now.watched place) }
+        ensures { result ≡ (latest (seen self.now)).leads (watched_at self.now.watched place).name }
+    {
+        let name = self.names[place].name.as_str();
+        led_in(self.manner.leading, &self.worlds, self.turns, name)
+    }
+
+    /// A file as the last look tells it.
+    fn seen_of(&self, file: Option<usize>) -> Option<Seen>
+        ensures tells { result ≡ option_map (file_seen (latest (seen self.now))) file }
+        ensures bound { IfSome result (λ file. file.len < 2 ^ 63) }
+    {
+        match file {
+            Some(file) => Some(Seen {
+                id: file as u128,
+                len: world_in(&self.worlds, self.turns).bytes(file).len() as u64,
+            }),
+            None => None,
+        }
+    }
+
     /// Breaks a name off by this call, for the reason that is planned.
     fn break_off(&mut self, place: usize, how: Broken)
         requires { IsTrue (is_watchable self.old.watched place) }
@@ -181,6 +247,16 @@ impl MemWatch {
         } }
     {
         let why = self.why;
+        self.names[place].break_off(how, why);
+    }
+
+    /// The same for another reason.
+    fn break_for(&mut self, place: usize, how: Broken, why: Reason)
+        requires { IsTrue (is_watchable self.old.watched place) }
+        ensures { self.new ≡ record self.old {
+          watched = changed_at place (breaks why (λ file. how)) self.old.watched;
+        } }
+    {
         self.names[place].break_off(how, why);
     }
 
@@ -194,9 +270,9 @@ impl MemWatch {
     /// Whether a call on a name fails now, since that was asked for.
     fn fails(&mut self) -> bool
         ensures same { self.new ≡ self.old }
-        ensures forgives { IsTrue result → self.old.forgives ≡ false }
+        ensures plain { IsTrue result → self.old.manner.leading ≡ Leading.Plain }
     {
-        if self.forgives {
+        if !self.manner.leading.is_plain() {
             return false;
         }
         fails(&mut self.failing_in)
@@ -206,13 +282,29 @@ impl MemWatch {
     fn refuses(&mut self, place: usize) -> bool
         requires { IsTrue (is_watchable self.old.watched place) }
         ensures same { self.new ≡ self.old }
-        ensures forgives { IsTrue result → self.old.forgives ≡ false }
+        ensures plain { IsTrue result → self.old.manner.leading ≡ Leading.Plain }
     {
         if self.fails() {
             return true;
         }
-        !self.forgives
+        self.manner.leading.is_plain()
             && world_in(&self.worlds, self.turns).is_barred(self.names[place].name.as_str())
+    }
+
+    /// Why such a call fails, if it does: also if the name leads nowhere, which `is_there` says, and that is to fail.
+    fn refusal(&mut self, place: usize, is_there: bool) -> Option<Reason>
+        requires { IsTrue (is_watchable self.old.watched place) }
+        ensures same { self.new ≡ self.old }
+        ensures fails { is_some result ≡ true → CanFail self.old.manner }
+        ensures there { is_some result ≡ false → self.old.manner.insists ≡ true → is_there ≡ true }
+    {
+        if self.refuses(place) {
+            return Some(self.why);
+        }
+        if self.manner.insists && !is_there {
+            return Some(Reason::Missing);
+        }
+        None
     }
 
     /// Makes one of the calls of `look`, `reopen`, `open_len` and `read_at` fail, counted from here on; the next call has the
@@ -224,17 +316,39 @@ impl MemWatch {
     }
 }
 
-/// The file to which a look finds a name to lead.
-fn find(world: &MemWorld, name: &str, forgives: bool) -> Option<Seen>
-    ensures finds { Finds (shown forgives world.now) name.now result }
-    ensures bound { IfSome result (λ file. file.len < 2 ^ 63) }
+/// The file to which the last of so many looks finds a name to lead.
+fn led_in(leading: Leading, worlds: &[MemWorld], looks: usize, name: &str) -> Option<usize>
+    requires { looks < length worlds.now }
+    ensures { result ≡ led_at leading worlds.now looks name.now }
 {
-    match world.leads(name, forgives) {
-        Some(file) => Some(Seen {
-            id: file as u128,
-            len: world.bytes(file).len() as u64,
-        }),
-        None => None,
+    match leading {
+        Leading::Plain => world_in(worlds, looks).leads(name, false),
+        Leading::Forgiving => world_in(worlds, looks).leads(name, true),
+        Leading::Clinging => first_led(worlds, looks, name),
+    }
+}
+
+/// The first file to which a name led at one of so many looks, when it could be read.
+fn first_led(worlds: &[MemWorld], looks: usize, name: &str) -> Option<usize>
+    requires { looks < length worlds.now }
+    ensures { result ≡ led_at Leading.Clinging worlds.now looks name.now }
+{
+    let mut found = None;
+    let mut look = 0;
+    while look < looks {
+        look += 1;
+        found = first_of(found, world_in(worlds, look).leads(name, true));
+    }
+    found
+}
+
+/// The first of two files, or the one that is there.
+fn first_of(first: Option<usize>, second: Option<usize>) -> Option<usize>
+    ensures { result ≡ or_else first second }
+{
+    match first {
+        Some(file) => Some(file),
+        None => second,
     }
 }
 
@@ -323,7 +437,24 @@ impl Watch for MemWatch {
     }
 
     fn forgive(&mut self) {
-        self.forgives = true;
+        self.manner = Manner {
+            leading: self.manner.leading.forgiven(),
+            insists: false,
+        };
+    }
+
+    fn insist(&mut self) {
+        self.manner = Manner {
+            leading: self.manner.leading,
+            insists: true,
+        };
+    }
+
+    fn cling(&mut self) {
+        self.manner = Manner {
+            leading: Leading::Clinging,
+            insists: false,
+        };
     }
 
     fn add(&mut self, name: &str) -> Result<usize, Fault> {
@@ -336,22 +467,20 @@ impl Watch for MemWatch {
     }
 
     fn look(&mut self, place: usize) -> Result<Option<Seen>, Fault> {
-        let world = world_in(&self.worlds, self.turns);
-        let found = find(world, self.names[place].name.as_str(), self.forgives);
-        if self.refuses(place) {
-            self.break_off(place, Broken::Look);
+        let found = self.seen_of(self.led(place));
+        if let Some(why) = self.refusal(place, found.is_some()) {
+            self.break_for(place, Broken::Look, why);
             return Err(Fault::Open(place));
         }
         Ok(found)
     }
 
     fn reopen(&mut self, place: usize) -> Result<bool, Fault> {
-        if self.refuses(place) {
-            self.break_off(place, Broken::Open);
+        let file = self.led(place);
+        if let Some(why) = self.refusal(place, file.is_some()) {
+            self.break_for(place, Broken::Open, why);
             return Err(Fault::Open(place));
         }
-        let world = world_in(&self.worlds, self.turns);
-        let file = world.leads(self.names[place].name.as_str(), self.forgives);
         Ok(self.names[place].open(file))
     }
 

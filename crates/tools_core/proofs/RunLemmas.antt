@@ -36,12 +36,12 @@ use Rattle.words_core.specs.{
   Words.{HasBadOperands, looks},
 }
 use Rattle.words_core.proofs.LimitLemmas.{read-can}
-use Rattle.follow_core.{proofs.LookedLemmas.{ends_by, most_made}, specs.Ending.{no_room as no_room_yet, shows_by}}
+use Rattle.follow_core.{proofs.LookedLemmas.{ends_by, most_made}, specs.{Ending.{no_room as no_room_yet, shows_by}, declared.run.Method.{Method, TheVariants.{Descriptor, Name, PresentName, FirstFile}}}}
 use Rattle.tools_core.specs.{
   Outcome.{speaker, RefusesFor, RunEndsAt, names_at},
   Tasks.{by, speaker_of, tool_of},
   About.{TellsText, no_text, text_cut},
-  Following.{FollowingEnds, FollowingEndsAt, FollowsTail, is_name, pause_by},
+  Following.{FollowingEnds, FollowingEndsAt, FollowsTail, method_of, pause_by},
   Program.{ProgramEnds, ProgramEndsAt, looks_at},
 }
 use Rattle.run_core.{
@@ -67,7 +67,7 @@ by_check which make (Err fault) makes is = absurd (cc)
 by_work : (calling : Calling) (which : Tool) (given : Given) {settings : Settings}
     → work_for calling which given ≡ Ok settings → which ≡ tool_of settings
 by_work calling tool.Head given is = by_check tool.Head (λ asked. Head asked) (Ok (ends_asked given)) (λ asked. refl) is
-by_work calling tool.Tail given is = by_check tool.Tail (λ asked. Tail asked) (tail_asked given) (λ asked. refl) is
+by_work calling tool.Tail given is = by_check tool.Tail (λ asked. Tail asked) (tail_asked calling given) (λ asked. refl) is
 by_work calling tool.Split given is = by_check tool.Split (λ asked. Split asked) (split_asked given) (λ asked. refl) is
 by_work calling tool.Csplit given is = by_check tool.Csplit (λ asked. Csplit asked) (csplit_asked calling given) (λ asked. refl) is
 by_work calling tool.Tee given is = by_check tool.Tee (λ asked. Tee asked) (Ok (tee_asked calling given)) (λ asked. refl) is
@@ -232,13 +232,18 @@ module _ (calling : Calling) (told_in told : Bool) (words : List (List ℕ))
 
 -- Lemmas on how a run that follows ends, by its words.
 
--- how soon looks begin doesn't depend on what they forgive
-pub shows_by-waiting : (calling : Calling) (by_name : Bool) (milliseconds : ℕ) (shows : ℕ → Snapshot)
-    → shows_by calling by_name (λ n. waiting milliseconds (shows n))
-    ≡ (λ n. waiting milliseconds (shows_by calling by_name shows n))
-shows_by-waiting OwnName true milliseconds shows = refl
-shows_by-waiting OwnName false milliseconds shows = refl
-shows_by-waiting Cutters by_name milliseconds shows = refl
+-- how soon looks begin doesn't depend on what becomes of names
+pub shows_by-waiting : (calling : Calling) (how : Method) (milliseconds : ℕ) (shows : ℕ → Snapshot)
+    → shows_by calling how (λ n. waiting milliseconds (shows n))
+    ≡ (λ n. waiting milliseconds (shows_by calling how shows n))
+shows_by-waiting OwnName Descriptor milliseconds shows = refl
+shows_by-waiting OwnName Name milliseconds shows = refl
+shows_by-waiting OwnName PresentName milliseconds shows = refl
+shows_by-waiting OwnName FirstFile milliseconds shows = refl
+shows_by-waiting Cutters Descriptor milliseconds shows = refl
+shows_by-waiting Cutters Name milliseconds shows = refl
+shows_by-waiting Cutters PresentName milliseconds shows = refl
+shows_by-waiting Cutters FirstFile milliseconds shows = refl
 
 module _ (calling : Calling) (told_in told : Bool) (words : List (List ℕ)) (looks : ℕ)
     (shows : ℕ → Snapshot) (seen : List Snapshot) (watched : List Watched) (new : List Slot) (status : ℕ)
@@ -251,7 +256,7 @@ module _ (calling : Calling) (told_in told : Bool) (words : List (List ℕ)) (lo
   unread_tail asked None speaks refuses = (unseen, unwatched, refused_memory words (Usage BadFollow 0) refuses)
   unread_tail asked (Some followed) speaks refuses =
       let (most, are, above) = most_made told_in asked.process
-      (λ n. waiting (max (pause_by calling asked.pause) 1) (shows_by calling (is_name followed) shows n)) looks 0 (omega arith) (λ t. omega arith) in
+      (λ n. waiting (max (pause_by calling asked.pause) 1) (shows_by calling (method_of followed) shows n)) looks 0 (omega arith) (λ t. omega arith) in
       let (why, says) = worded_by calling speaks refuses.says in
       ends_by asked.process most are (no_room_yet why unseen unwatched
       (λ output error since are. let is_error : standard_error ≡ error = ap (λ (slots : List Slot). slot_at slots 1) are in (

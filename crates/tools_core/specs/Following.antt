@@ -1,21 +1,26 @@
 -- What a run of `tail` leaves that follows its files, by its words: POSIX.1-2017, XCU tail, `-f`; names that are
 -- followed are GNU's.
-use Rattle.std.specs.Prelude.{◌≡◌, ℕ, max, min, Bool, true, false, List, [], Option, Some, None, Result, Ok, Err, ◌⊎◌}
+use Rattle.std.specs.Prelude.{◌≡◌, ℕ, max, min, Bool, List, [], Option, Some, None, Result, Ok, Err, ◌⊎◌}
 use Rattle.ports_core.specs.{
   Slot.{Slot, streams},
   declared.{calling.Calling.{Calling, TheVariants.{Cutters, OwnName}}, fault.{Fault.{Fault, TheVariants.Usage}, UsageKind.TheVariants.BadFollow}},
 }
 use Rattle.watch_core.specs.{Snapshot.{Snapshot, waiting}, Watched.Watched}
-use Rattle.follow_core.specs.{declared.start.Start.Start, Ending.{FollowEndsBy, shows_by}, Look.ways_of}
+use Rattle.follow_core.specs.{
+  declared.{run.Method.Method, start.Start.Start},
+  Ending.{FollowEndsBy, is_by_name, shows_by},
+  Look.ways_of,
+}
 use Rattle.words_core.specs.{
   declared.{
     settings.Settings.{Settings, TheVariants.Tail},
     tail_words.TailSettings.TailSettings,
-    value.Followed.{Followed, TheVariants.{Descriptor, Name}},
+    value.Followed.{Followed, TheVariants.{Descriptor, Name, PresentName, FirstFile}},
   },
   EndsWords.EndsAsked,
   Words.{HasOperands, settings_of},
 }
+use Rattle.follow_core.specs.declared.run.Method.TheVariants as method
 use Rattle.tools_core.specs.{Outcome.{RefusesFor, RefusesOperands}, Tasks.{has_headers, is_plus}}
 
 -- the part of a file that the first look writes
@@ -27,9 +32,15 @@ start_of asked = record {
   delim = asked.delim;
 }
 
+-- how they are followed, as that is asked for
+abbrev pub method_of : Followed → Method
+method_of Descriptor = method.Descriptor
+method_of Name = method.Name
+method_of PresentName = method.PresentName
+method_of FirstFile = method.FirstFile
+
 abbrev pub is_name : Followed → Bool
-is_name Descriptor = false
-is_name Name = true
+is_name followed = is_by_name (method_of followed)
 
 -- past how many milliseconds the watch doesn't rest before a look, where this pause is asked for: by its own name `tail`
 -- asks before each look whether its output is still read
@@ -39,13 +50,13 @@ pause_by Cutters pause = pause
 
 -- these files are followed, in as many looks or until the process is gone that is asked for, and the run ends so that
 -- it gave exactly what these looks give; each shows that pause, 1 ms at least; by its own name `tail` that follows names
--- takes one that can't be read for one that is missing
+-- takes one that can't be read for one that is missing, unless it follows them while they are there
 abbrev pub FollowsAs : Calling → (told_in told : Bool) → TailSettings → Followed → (looks : ℕ)
     → (ℕ → Snapshot) → List Snapshot → List Watched → List Slot → (status : ℕ) → Type 0
 FollowsAs calling told_in told asked followed looks shows seen watched new status =
     FollowEndsBy asked.process told_in told calling (ways_of 0 (is_name followed) (start_of asked.ends))
     (has_headers asked.ends.headers asked.ends.names) asked.ends.names looks
-    (λ n. waiting (max (pause_by calling asked.pause) 1) (shows_by calling (is_name followed) shows n))
+    (λ n. waiting (max (pause_by calling asked.pause) 1) (shows_by calling (method_of followed) shows n))
     streams seen watched new status
 
 -- the words are refused for this, and no name was watched and no look made

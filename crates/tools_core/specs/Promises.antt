@@ -63,7 +63,7 @@ use Rattle.split_core.specs.{Chunks.{chunks_of, has_ended, pieces_in}, ChunkWork
 use Rattle.watch_core.specs.{Snapshot.Snapshot, Watched.Watched}
 use Rattle.follow_core.specs.Ending.{shows_by}
 use Rattle.tools_core.specs.{
-  Following.{FollowingEnds, is_name},
+  Following.{FollowingEnds, method_of},
   Outcome.{DoesAsked, RunEnds, names_read, refusal},
   Program.ProgramEnds,
   Tasks.{csplit_task, has_headers, head_task, is_minus, is_plus, names_of, naming_of, speaker_of, split_task, tail_task},
@@ -650,7 +650,7 @@ pub record Follows (run : Run) (count : ℕ) (options : EndsAsked) (followed : F
 
 -- what each look of it shows where it follows its names so
 abbrev pub showing : Run → Followed → ℕ → Snapshot
-showing run followed = shows_by run.calling (is_name followed) run.shows
+showing run followed = shows_by run.calling (method_of followed) run.shows
 
 -- at each of the first `count` looks the name leads to this file, which has all that it had at the look before, and
 -- perhaps more after it

@@ -2,11 +2,11 @@
 ghost use Rattle.std.specs.Prelude.{◌≡◌, [], Ok, map};
 ghost use Rattle.ports_core.specs.Slot.{streams};
 ghost use Rattle.words_core.specs.Words.{HasOperands};
-ghost use Rattle.tools_core.specs.Following.{FollowingEnds, FollowingEndsAt, FollowsAs, is_name, pause_by, start_of};
+ghost use Rattle.tools_core.specs.Following.{FollowingEnds, FollowingEndsAt, FollowsAs, method_of, pause_by, start_of};
 
 use crate::ends::{has_headers, is_plus};
 use crate::run::refuse_words;
-use follow_core::{Limits, Start, follow_files};
+use follow_core::{Limits, Method, Start, follow_files};
 use ports_core::{Calling, Fault, Outs, UsageKind};
 use std::alloc::Global;
 use watch_core::Watch;
@@ -77,7 +77,7 @@ pub(crate) fn follow_asked<W: Watch, O: Outs>(
     }
 }
 
-/// Follows the files that are asked for, by name or by descriptor.
+/// Follows the files that are asked for, as that is asked for.
 fn follow_tail<W: Watch, O: Outs>(
     alloc: Global,
     calling: Calling,
@@ -103,7 +103,7 @@ fn follow_tail<W: Watch, O: Outs>(
         calling,
         &settings.ends.names,
         start_of(&settings.ends),
-        is_name(followed),
+        method_of(followed),
         has_headers(&settings.ends),
         limits,
         watch,
@@ -134,11 +134,14 @@ fn start_of(settings: &EndsSettings<'_>) -> Start
     }
 }
 
-fn is_name(followed: Followed) -> bool
-    ensures { result ≡ is_name followed }
+/// How files are followed, as that is asked for.
+fn method_of(followed: Followed) -> Method
+    ensures { result ≡ method_of followed }
 {
     match followed {
-        Followed::Descriptor => false,
-        Followed::Name => true,
+        Followed::Descriptor => Method::Descriptor,
+        Followed::Name => Method::Name,
+        Followed::PresentName => Method::PresentName,
+        Followed::FirstFile => Method::FirstFile,
     }
 }

@@ -1,14 +1,18 @@
 -- What contracts see of a watch over real files: how many looks began, and the names. What a look could see is not
 -- told.
-use Rattle.std.specs.Prelude.{ℕ, Bool, true, List, replicate, if◌then◌else◌}
-use Rattle.watch_core.specs.{Snapshot.{Snapshot, forgiving, no_files, waiting}, Watched.Watched}
+use Rattle.std.specs.Prelude.{ℕ, true, List, replicate}
+use Rattle.watch_core.specs.{
+  declared.dir_name.Manner.{Manner, TheVariants.{Plain, Forgiving, Clinging, Insisting}},
+  Snapshot.{Snapshot, forgiving, insisting, no_files, waiting},
+  Watched.Watched,
+}
 
 pub record DirWatchState : Type 0 where
   -- how many looks began
   pub turns : ℕ
   pub watched : List Watched
-  -- a name that can't be read counts as missing
-  pub forgives : Bool
+  -- what becomes of names that can't be read or lead nowhere
+  pub manner : Manner
   -- within how many milliseconds a look begins where nothing is seen to change
   pub within : ℕ
   -- for how many milliseconds the last look was waited for, in pauses
@@ -18,9 +22,16 @@ pub record DirWatchState : Type 0 where
 abbrev pub any_files : Snapshot
 any_files = record no_files { lacks = λ process. true }
 
+-- where names lead isn't told, so to cling is to forgive
+abbrev pub any_by : Manner → Snapshot
+any_by Plain = any_files
+any_by Forgiving = forgiving any_files
+any_by Clinging = forgiving any_files
+any_by Insisting = insisting any_files
+
 -- what every look sees
-abbrev pub files_by : (forgives : Bool) → (within : ℕ) → Snapshot
-files_by forgives within = waiting within (if forgives then forgiving any_files else any_files)
+abbrev pub files_by : Manner → (within : ℕ) → Snapshot
+files_by manner within = waiting within (any_by manner)
 
 abbrev pub seen : DirWatchState → List Snapshot
-seen watch = replicate watch.turns (files_by watch.forgives watch.within)
+seen watch = replicate watch.turns (files_by watch.manner watch.within)

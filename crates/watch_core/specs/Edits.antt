@@ -87,6 +87,7 @@ seen_in world = record {
   finds = λ name finding. true;
   barred = is_barred_in world.bars;
   breaks = λ name. true;
+  insists = false;
   lacks = λ process. is_one process world.ended;
   within = 1000;
 }

@@ -1,6 +1,10 @@
--- What one look can see: which file each name leads to, what each file holds, and which processes are gone; and how it
--- is where a name that can't be read counts as missing; and how soon it begins.
-use Rattle.std.specs.{Prelude.{◌≡◌, ℕ, ◌==◌, Bool, true, false, List, [], ◌∷◌, Option, None, if◌then◌else◌}, List.list_any}
+-- What one look can see: which file each name leads to, what each file holds, and which processes are gone; how it
+-- is if a name that can't be read counts as missing, if a missing name fails, or if a name leads to the file to which it
+-- led first; and how soon it begins.
+use Rattle.std.specs.{
+  Prelude.{◌≡◌, ℕ, zero, suc, ◌==◌, Bool, true, false, not, ◌&&◌, List, [], ◌∷◌, Option, Some, None, if◌then◌else◌},
+  List.list_any,
+}
 
 -- what a call on a name finds
 pub data Finding : Type 0 where
@@ -13,6 +17,12 @@ pub data Finding : Type 0 where
   -- a read of it from a place on, with room for some, gave these bytes
   reads_as : Option ℕ → ℕ → List ℕ → Finding
 
+-- this finds that a name leads nowhere
+abbrev pub is_nowhere : Finding → Bool
+is_nowhere (leads_to None) = true
+is_nowhere (opens_as None) = true
+is_nowhere finding = false
+
 pub record Snapshot : Type 0 where
   -- the file that a name leads to, by its identity
   pub leads : List ℕ → Option ℕ
@@ -24,6 +34,8 @@ pub record Snapshot : Type 0 where
   pub barred : List ℕ → Bool
   -- a call on this name can fail in this look
   pub breaks : List ℕ → Bool
+  -- no call finds that a name leads nowhere: it fails
+  pub insists : Bool
   -- Before the look it can be found that no process of this number runs. Of any watch it is known of those that were
   -- found to be gone, and of no others.
   pub lacks : ℕ → Bool
@@ -37,6 +49,7 @@ no_files = record {
   finds = λ name finding. true;
   barred = λ name. false;
   breaks = λ name. true;
+  insists = false;
   lacks = λ process. false;
   within = 1000;
 }
@@ -50,15 +63,37 @@ abbrev pub forgiving : Snapshot → Snapshot
 forgiving snapshot = record snapshot {
   leads = λ name. if snapshot.barred name then None else snapshot.leads name;
   breaks = has_zero;
+  insists = false;
+}
+
+-- this look if it insists: a call on a name that leads nowhere fails
+abbrev pub insisting : Snapshot → Snapshot
+insisting snapshot = record snapshot { breaks = λ name. true; insists = true }
+
+-- the first of these files, or the second if there is none
+abbrev pub or_else : Option ℕ → Option ℕ → Option ℕ
+or_else None second = second
+or_else (Some file) second = Some file
+
+-- the first file to which a name leads at one of the first n looks
+abbrev pub first_led : (ℕ → Option ℕ) → ℕ → Option ℕ
+first_led leads zero = None
+first_led leads (suc n) = or_else (first_led leads n) (leads n)
+
+-- looks that forgive and cling: a name leads to the first file to which it led at one of them, and can be read then
+abbrev pub clinging : (ℕ → Snapshot) → ℕ → Snapshot
+clinging shows n = record (forgiving (shows n)) {
+  leads = λ name. first_led (λ look. (forgiving (shows look)).leads name) (suc n);
+  barred = λ name. false;
 }
 
 -- this look where it begins within this number of milliseconds
 abbrev pub waiting : (milliseconds : ℕ) → Snapshot → Snapshot
 waiting milliseconds snapshot = record snapshot { within = milliseconds }
 
--- a call on this name found this
+-- a call on this name found this, as it can in this look
 abbrev pub Found : Snapshot → List ℕ → Finding → Type 0
-Found snapshot name finding = snapshot.finds name finding ≡ true
+Found snapshot name finding = (snapshot.finds name finding && not (snapshot.insists && is_nowhere finding)) ≡ true
 
 -- the snapshot of the last look
 abbrev pub latest : List Snapshot → Snapshot

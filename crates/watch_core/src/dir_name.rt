@@ -1,5 +1,5 @@
 ghost use Rattle.std.specs.{
-  Prelude.{◌≡◌, ◌≤◌, ◌<◌, ◌^◌, true, length, string_bytes, IfOk, OnOk, OnErr, IfSome, IfNone, OnSome, is_some},
+  Prelude.{◌≡◌, ◌⊎◌, ◌≤◌, ◌<◌, ◌^◌, true, false, length, string_bytes, IfOk, OnOk, OnErr, IfSome, IfNone, OnSome, IsTrue, is_some},
 };
 ghost use Rattle.ports_core.specs.declared.reason.Reason.{Reason};
 ghost use Rattle.watch_core.specs.{Snapshot.has_zero, Watched.{Watched, added, breaks, opens}};
@@ -45,6 +45,39 @@ impl Kinds {
     }
 }
 
+/// What becomes of names that can't be read or lead nowhere.
+#[derive(Clone, Copy)]
+pub(crate) enum Manner {
+    /// A name that can't be read breaks, and one that leads nowhere is missing.
+    Plain,
+    /// One that can't be read counts as missing.
+    Forgiving,
+    /// The same, and a name stays with the first file to which it leads.
+    Clinging,
+    /// One that leads nowhere breaks, too.
+    Insisting,
+}
+
+impl Manner {
+    /// Whether a name that can't be read counts as missing.
+    pub(crate) fn forgives(self) -> bool
+        ensures yes { IsTrue result → (self ≡ Manner.Forgiving) ⊎ (self ≡ Manner.Clinging) }
+        ensures no { result ≡ false → (self ≡ Manner.Plain) ⊎ (self ≡ Manner.Insisting) }
+    {
+        match self {
+            Manner::Plain | Manner::Insisting => false,
+            Manner::Forgiving | Manner::Clinging => true,
+        }
+    }
+
+    /// Whether a name that leads nowhere breaks.
+    pub(crate) fn insists(self) -> bool
+        ensures { self ≡ Manner.Insisting → IsTrue result }
+    {
+        matches!(self, Manner::Insisting)
+    }
+}
+
 /// A name that is watched, and the real file of it that is open.
 #[derive(Drop)]
 pub(crate) struct DirName {
@@ -56,8 +89,8 @@ pub(crate) struct DirName {
     /// Where a name that can't be read counts as missing: another file than the open one to which it leads, which was opened so that
     /// it is known to be readable, and is the one that is opened next.
     next: Option<Opened>,
-    /// A name that can't be read counts as missing.
-    forgives: bool,
+    /// What becomes of it if it can't be read or leads nowhere.
+    manner: Manner,
     /// A call on the open file failed, which was forgiven: the name counts as missing.
     is_unreadable: bool,
     /// How long the open file was told to be last.
@@ -94,8 +127,8 @@ impl Model for DirName {
 }
 
 impl DirName {
-    /// A name that was not looked at yet. `forgives` is whether it counts as missing where it can't be read.
-    pub(crate) fn new(alloc: Global, name: &str, forgives: bool) -> Result<Self, AllocError>
+    /// A name that was not looked at yet.
+    pub(crate) fn new(alloc: Global, name: &str, manner: Manner) -> Result<Self, AllocError>
         ensures { IfOk result (λ watched. watched ≡ added name.now) }
     {
         Ok(DirName {
@@ -103,7 +136,7 @@ impl DirName {
             opened: None,
             file: None,
             next: None,
-            forgives,
+            manner,
             is_unreadable: false,
             last_len: 0,
             why: Reason::Other,
@@ -142,9 +175,11 @@ impl DirName {
     }
 
     /// The file that the name leads to; none where it leads nowhere, or to one of another kind than it is taken to lead to. It is what
-    /// was found when changes were last looked for, if that was asked. Where it can't be told, the name is broken.
-    pub(crate) fn look(&mut self, files: &impl Files) -> io::Result<Option<Seen>>
+    /// was found when changes were last looked for, if that was asked. Where it can't be told, or there is none and `insists` is true,
+    /// the name is broken.
+    pub(crate) fn look(&mut self, files: &impl Files, insists: bool) -> io::Result<Option<Seen>>
         ensures bound { IfOk result (λ found. IfSome found (λ file. file.len < 2 ^ 63)) }
+        ensures there { IsTrue insists → IfOk result (λ found. is_some found ≡ true) }
         ensures same { OnOk result (self.new ≡ self.old) }
         ensures broke { OnErr result ((why : Reason) × (self.new ≡ breaks why (λ file. Broken.Look) self.old)) }
     {
@@ -154,6 +189,10 @@ impl DirName {
             None => self.find(files),
         };
         match found {
+            Ok(None) if insists => {
+                self.break_off(Broken::Look, Reason::Missing);
+                Err(io::Error::from(ErrorKind::NotFound))
+            }
             Ok(found) => {
                 self.is_gone = found.is_none();
                 self.led_to = Some(found);
@@ -168,7 +207,8 @@ impl DirName {
     }
 
     /// The same where a name that can't be read counts as missing: none also where it leads to another file than the open one that
-    /// can't be opened or read, or where a call on the open one failed since it was opened.
+    /// can't be opened or read, or where a call on the open one failed since it was opened. A name that stays with its open file leads
+    /// to that.
     pub(crate) fn look_forgiving(
         &mut self,
         alloc: Global,
@@ -177,6 +217,10 @@ impl DirName {
         ensures bound { IfSome result (λ file. file.len < 2 ^ 63) }
         ensures same { self.new ≡ self.old }
     {
+        if let Some(id) = self.kept() {
+            let len = self.last_len;
+            return Some(Seen { id, len });
+        }
         self.lens = 0;
         let found = self.readable_now(alloc, files);
         self.is_gone = found.is_none();
@@ -236,23 +280,33 @@ impl DirName {
         }
     }
 
-    /// Has it count as missing from now on where it can't be read.
-    pub(crate) fn forgive(&mut self)
+    /// Has this become of it from now on if it can't be read or leads nowhere.
+    pub(crate) fn treat(&mut self, manner: Manner)
         ensures { self.new ≡ self.old }
     {
-        self.forgives = true;
+        self.manner = manner;
+    }
+
+    /// The open file, if the name stays with it wherever it leads.
+    fn kept(&self) -> Option<u128> {
+        match self.manner {
+            Manner::Clinging => self.opened,
+            Manner::Plain | Manner::Forgiving | Manner::Insisting => None,
+        }
     }
 
     /// Opens the file that the name leads to, in place of the one that was open, and returns whether there is one. Where there
-    /// is one that can't be opened, or no memory for a stream's buffer, the name is broken. Where this turn's look found none,
-    /// there is none: a file that was made since is for the next look to find, which tells that it came.
+    /// is one that can't be opened, or no memory for a stream's buffer, or none and `insists` is true, the name is broken. Where this
+    /// turn's look found none, there is none: a file that was made since is for the next look to find, which tells that it came.
     pub(crate) fn open(
         &mut self,
         alloc: Global,
         files: &impl Files<File = File>,
+        insists: bool,
     ) -> io::Result<bool>
         ensures opened { OnOk result (self.new ≡ opens self.new.opened self.old) }
         ensures found { IfOk result (λ is_there. is_some self.new.opened ≡ is_there) }
+        ensures there { IsTrue insists → OnOk result (is_some self.new.opened ≡ true) }
         ensures broke { OnErr result ((why : Reason) × (self.new ≡ breaks why (λ file. Broken.Open) self.old)) }
     {
         // It goes back to the system first, so that no two files of a name are open.
@@ -265,6 +319,10 @@ impl DirName {
                 self.led_to = Some(Some(opened.seen));
                 self.file = Some(opened.file);
                 Ok(true)
+            }
+            Ok(None) if insists => {
+                self.break_off(Broken::Open, Reason::Missing);
+                Err(io::Error::from(ErrorKind::NotFound))
             }
             Ok(None) => {
                 self.opened = None;
@@ -463,7 +521,8 @@ impl DirName {
         if now < self.pace.due() {
             return false;
         }
-        let changed = self.differs(alloc, files, now) || self.is_unreadable;
+        let differs = self.differs(alloc, files, now);
+        let changed = differs || (self.is_unreadable && self.kept().is_none());
         self.pace.go_on(now, changed);
         if changed && matches!(&self.file, Some(DirFile::Stream(_))) {
             // More may be there already, and its writer isn't to wait.
@@ -492,13 +551,14 @@ impl DirName {
     }
 
     /// Whether the name leads elsewhere than looks were told, or its file has another length. Where looks ask the open file alone,
-    /// the system isn't asked.
+    /// or the name stays with it, the system isn't asked.
     fn leads_elsewhere(&mut self, alloc: Global, files: &impl Files<File = File>) -> bool
         ensures { self.new ≡ self.old }
     {
         let told = self.led_to;
         // The first look asks for the length of what it opened, and the second once more, before it asks where the name leads.
-        if self.file.is_some() && self.lens > 1 {
+        let is_open_alone = self.lens > 1 || self.kept().is_some();
+        if self.file.is_some() && is_open_alone {
             self.led_to = None;
             return false;
         }
@@ -529,7 +589,7 @@ impl DirName {
         ensures bound { IfSome result (λ found. IfSome found (λ file. file.len < 2 ^ 63)) }
         ensures same { self.new ≡ self.old }
     {
-        if self.forgives {
+        if self.manner.forgives() {
             return Some(self.find_readable(alloc, files));
         }
         self.find(files).ok()

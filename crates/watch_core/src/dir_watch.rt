@@ -1,11 +1,11 @@
-ghost use Rattle.std.specs.Prelude.{◌≡◌, ◌≤◌, ◌∷◌, ◌++◌, [], false, IsTrue};
+ghost use Rattle.std.specs.Prelude.{◌≡◌, ◌⊎◌, ◌≤◌, ◌∷◌, ◌++◌, [], false, IsTrue};
 ghost use Rattle.watch_core.specs.{
   DirWatchState.{DirWatchState, files_by, seen},
   Watched.{CanBreak, is_watchable},
   inner.DirWatchState.no_turns,
 };
 
-use crate::dir_name::DirName;
+use crate::dir_name::{DirName, Manner};
 use crate::process::Process;
 use crate::{Seen, Watch};
 use ports_core::{Fault, Reason, time_of};
@@ -59,7 +59,8 @@ const SECOND: u64 = 1000;
 /// it can be read; `reopen` takes that file. So two files of a name are open for a moment. Where it can't be opened or read, or the system
 /// can't tell where the name leads, the look finds none, as of a folder, and tries again when the name is asked next, every 50 ms at the
 /// least. A read of the open file that fails gives nothing, and the look that follows finds none; a file that is open and can be read is
-/// read on, whatever becomes of its permissions.
+/// read on, whatever becomes of its permissions. Where it clings, a look finds the file that is open, if one is, and the system isn't asked
+/// where the name leads.
 #[derive(Drop)]
 pub struct DirWatch<R: Files<File = File> + Clock + Drop> {
     runtime: R,
@@ -73,8 +74,8 @@ pub struct DirWatch<R: Files<File = File> + Clock + Drop> {
     names: Vec<DirName>,
     /// The process whose end is waited for.
     process: Option<Process>,
-    /// A name that can't be read counts as missing.
-    forgives: bool,
+    /// What becomes of names that can't be read or lead nowhere.
+    manner: Manner,
 }
 
 impl<R: Files<File = File> + Clock + Drop> Model for DirWatch<R> {
@@ -83,7 +84,7 @@ impl<R: Files<File = File> + Clock + Drop> Model for DirWatch<R> {
     ghost view = { λ w. record {
       turns = w.turns;
       watched = w.names.items;
-      forgives = w.forgives;
+      manner = w.manner;
       within = w.most;
       rested = w.rested;
     } };
@@ -102,16 +103,17 @@ impl<R: Files<File = File> + Clock + Drop> DirWatch<R> {
             rested: 0,
             names: Vec::new(alloc),
             process: None,
-            forgives: false,
+            manner: Manner::Plain,
         }
     }
 
     /// Whether the name at this place counts as missing where it can't be opened. One that no file can have doesn't.
     fn forgives_at(&self, place: usize) -> bool
         requires { IsTrue (is_watchable self.now.watched place) }
-        ensures { result ≡ false → CanBreak (seen self.now) self.now.watched place }
+        ensures no { result ≡ false → CanBreak (seen self.now) self.now.watched place }
+        ensures yes { IsTrue result → (self.now.manner ≡ Manner.Forgiving) ⊎ (self.now.manner ≡ Manner.Clinging) }
     {
-        self.forgives && !self.names[place].has_zero()
+        self.manner.forgives() && !self.names[place].has_zero()
     }
 }
 
@@ -149,12 +151,12 @@ fn hurry_all(names: &mut Vec<DirName>)
     }
 }
 
-/// Has all names count as missing from now on where they can't be read.
-fn forgive_all(names: &mut Vec<DirName>)
+/// Has this become of all names from now on if they can't be read or lead nowhere.
+fn treat_all(names: &mut Vec<DirName>, manner: Manner)
     ensures { names.new.items ≡ names.old.items }
 {
     for place in 0..names.len() {
-        names[place].forgive();
+        names[place].treat(manner);
     }
 }
 
@@ -214,7 +216,7 @@ fn keep(names: &mut Vec<DirName>, name: DirName) -> bool
 impl<R: Files<File = File> + Clock + Drop> Watch for DirWatch<R> {
     ghost seen = { λ watch. seen watch };
 
-    ghost shows = { λ watch n. files_by watch.forgives watch.within };
+    ghost shows = { λ watch n. files_by watch.manner watch.within };
 
     ghost watched = { λ watch. watch.watched };
 
@@ -260,13 +262,23 @@ impl<R: Files<File = File> + Clock + Drop> Watch for DirWatch<R> {
     }
 
     fn forgive(&mut self) {
-        self.forgives = true;
-        forgive_all(&mut self.names);
+        self.manner = Manner::Forgiving;
+        treat_all(&mut self.names, Manner::Forgiving);
+    }
+
+    fn insist(&mut self) {
+        self.manner = Manner::Insisting;
+        treat_all(&mut self.names, Manner::Insisting);
+    }
+
+    fn cling(&mut self) {
+        self.manner = Manner::Clinging;
+        treat_all(&mut self.names, Manner::Clinging);
     }
 
     fn add(&mut self, name: &str) -> Result<usize, Fault> {
         let place = self.names.len();
-        let name = DirName::new(self.alloc, name, self.forgives)?;
+        let name = DirName::new(self.alloc, name, self.manner)?;
         if keep(&mut self.names, name) {
             return Ok(place);
         }
@@ -274,10 +286,11 @@ impl<R: Files<File = File> + Clock + Drop> Watch for DirWatch<R> {
     }
 
     fn look(&mut self, place: usize) -> Result<Option<Seen>, Fault> {
-        if self.forgives {
+        if self.manner.forgives() {
             return Ok(self.names[place].look_forgiving(self.alloc, &self.runtime));
         }
-        let Ok(found) = self.names[place].look(&self.runtime) else {
+        let insists = self.manner.insists();
+        let Ok(found) = self.names[place].look(&self.runtime, insists) else {
             return Err(Fault::Open(place));
         };
         Ok(found)
@@ -287,7 +300,8 @@ impl<R: Files<File = File> + Clock + Drop> Watch for DirWatch<R> {
         if self.forgives_at(place) {
             return Ok(self.names[place].open_forgiving(self.alloc, &self.runtime));
         }
-        let Ok(is_there) = self.names[place].open(self.alloc, &self.runtime) else {
+        let insists = self.manner.insists();
+        let Ok(is_there) = self.names[place].open(self.alloc, &self.runtime, insists) else {
             return Err(Fault::Open(place));
         };
         Ok(is_there)
@@ -308,7 +322,7 @@ impl<R: Files<File = File> + Clock + Drop> Watch for DirWatch<R> {
     }
 
     fn open_len(&mut self, place: usize) -> Result<u64, Fault> {
-        if self.forgives {
+        if self.manner.forgives() {
             return Ok(self.names[place].len_forgiving());
         }
         let Some(len) = self.names[place].len() else {
@@ -318,7 +332,7 @@ impl<R: Files<File = File> + Clock + Drop> Watch for DirWatch<R> {
     }
 
     fn read_at(&mut self, place: usize, from: u64, buffer: &mut [u8]) -> Result<usize, Fault> {
-        if self.forgives {
+        if self.manner.forgives() {
             return Ok(self.names[place].read_forgiving(from, buffer));
         }
         let Some(n) = self.names[place].read_at(from, buffer) else {

@@ -3,7 +3,7 @@ ghost use Rattle.std.specs.{
   Prelude.{OnOk, IfSome, IsTrue},
 };
 ghost use Rattle.watch_core.specs.{
-  Snapshot.{Snapshot, Found, forgiving, holds_many, latest, leads_to, reads_as, waiting},
+  Snapshot.{Snapshot, Found, clinging, forgiving, holds_many, insisting, latest, leads_to, reads_as, waiting},
   Watched.{Watched, CanBreak, Reopens, Finds, GaveFrom, watched_at, added, NameBreaks, is_watchable, is_readable},
   Watched.open_contents,
 };
@@ -36,7 +36,7 @@ pub enum Broken {
 /// what the files hold changes only as a look begins, with `turn`. Of each name one file may be open, which stays what it is when
 /// the name comes to lead elsewhere. A name breaks at its first call that fails, and stays broken: no file of it is open from then on.
 /// A watch that forgives has no call that fails on a name that a file can have: one that is there, but can't be opened or read, counts as
-/// missing.
+/// missing. If it insists, a call on a name that leads nowhere fails.
 pub trait Watch {
     /// What each look so far could see, in order.
     ghost seen: { Self → List Snapshot };
@@ -90,6 +90,22 @@ pub trait Watch {
         ensures watched { watched self.new ≡ watched self.old }
         ensures seen { seen self.new ≡ seen self.old };
 
+    /// From now on a name that leads nowhere can't be looked at or opened: the call fails, for `Missing`, and the name is broken. Any
+    /// call may fail then, also if it forgave before. Called before the first look.
+    fn insist(&mut self)
+        requires { seen self.old ≡ [] }
+        ensures shows { shows self.new ≡ (λ n. insisting (shows self.old n)) }
+        ensures watched { watched self.new ≡ watched self.old }
+        ensures seen { seen self.new ≡ seen self.old };
+
+    /// From now on it forgives, and a name leads to the first file to which it led at any look, whatever becomes of the name. Called
+    /// before the first look.
+    fn cling(&mut self)
+        requires { seen self.old ≡ [] }
+        ensures shows { shows self.new ≡ clinging (shows self.old) }
+        ensures watched { watched self.new ≡ watched self.old }
+        ensures seen { seen self.new ≡ seen self.old };
+
     /// Adds a name, and gives its number. No file of it is open.
     ///
     /// # Errors
@@ -106,8 +122,8 @@ pub trait Watch {
     ///
     /// # Errors
     ///
-    /// `Open` where that can't be told: the name is broken. Not where the watch forgives and a file can have the name; nor do the
-    /// calls below fail there.
+    /// `Open` where that can't be told, or it leads nowhere and the watch insists: the name is broken. Not where the watch forgives and
+    /// a file can have the name; nor do the calls below fail there.
     fn look(&mut self, place: usize) -> Result<Option<Seen>, Fault>
         requires { IsTrue (is_watchable (watched self.old) place) }
         ensures ok { IfOk result (λ found. told ≡ true
@@ -128,7 +144,7 @@ pub trait Watch {
     ///
     /// # Errors
     ///
-    /// `Open` where there is a file that can't be opened: the name is broken.
+    /// `Open` where there is a file that can't be opened, or none and the watch insists: the name is broken.
     fn reopen(&mut self, place: usize) -> Result<bool, Fault>
         requires { IsTrue (is_watchable (watched self.old) place) }
         ensures ok { IfOk result (Reopens told (latest (seen self.old)) (watched self.old) (watched self.new) place) }

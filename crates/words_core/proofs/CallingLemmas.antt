@@ -1,29 +1,33 @@
 -- Lemmas on what words mean by both ways to call the program.
 use Rattle.std.proofs.{
   Common.{◌≡◌, refl, ap, ◌∙◌, ℕ, ◌==◌, ◌&&◌, ◌||◌, not, Bool, true, false, if◌then◌else◌, List, [], ◌∷◌},
-  Common.{Option, Some, None, Result, Ok, Err, option_map},
+  Common.{Option, Some, None, Result, Ok, Err, option_map, ◌⊎◌, inl, inr},
   Math.Bool.and-false,
 }
 use Rattle.operand_core.specs.Style.{Style}
 use Rattle.ports_core.specs.declared.{
   calling.Calling.TheVariants.{Cutters, OwnName},
-  fault.Fault.Fault,
+  fault.{Fault.{Fault, TheVariants.Usage}, UsageKind.TheVariants.BadFollow},
   on_broken.OnBroken.{OnBroken, TheVariants.Signal},
 }
 use Rattle.words_core.specs.{
   declared.{
     choice.{Choice.Choice, Kind.Kind},
-    settings.{Settings.TheVariants.Csplit, Topic.Topic},
+    settings.{Settings.TheVariants.{Csplit, Tail}, Topic.Topic},
     spelled.Chosen.Chosen,
     spelling.State.TheVariants.First,
     table.Letters.{Letters, TheVariants.{Never, OfHead}},
+    tail_words.TailSettings.TailSettings,
+    value.Followed.{Followed, TheVariants.{Descriptor, Name, PresentName, FirstFile}},
   },
   CsplitWords.{asked_of, style_of},
+  EndsWords.names_asked,
   Given.{Given, GivenOperand, asked_by, one_operand, texts_of},
   Laws.{by_own_name, has, say_nothing, says_on_broken},
   Lettered.is_start,
   Spelling.{foremost, mixed, onward, reading, spelled},
   Table.{OptionRow, ToolRow},
+  TailWords.{bad_follow, followed_in, retry_by, tail_asked, tail_of},
   TeeWords.{TeeAsked, fresh, tee_asked, tee_by},
   Value.then_check,
   Words.{about_or, settings_for, tool_settings, topic_in},
@@ -114,6 +118,45 @@ same_tee (Ok given) is = rw (said given (says_so (has says_on_broken given.optio
   says_so true is = refl
   says_so false is = absurd (cc)
 same_tee (Err fault) is = refl
+
+-- what is followed is the same, except where `cutters` refuses it
+
+own_follow : (followed : Option Followed) (retry : Bool) (names : List (List ℕ))
+    → (followed_in followed retry OwnName names ≡ followed_in followed retry Cutters names)
+    ⊎ (followed_in followed retry Cutters names ≡ bad_follow)
+own_follow None false names = inl refl
+own_follow None true names = inr refl
+own_follow (Some Descriptor) false names = inl refl
+own_follow (Some Descriptor) true names = inr refl
+own_follow (Some Name) true names = inl refl
+own_follow (Some Name) false names = inr refl
+own_follow (Some PresentName) true names = inl refl
+own_follow (Some PresentName) false names = inl refl
+own_follow (Some FirstFile) true names = inl refl
+own_follow (Some FirstFile) false names = inl refl
+
+own_work : (given : Given) → (tail_asked OwnName given ≡ tail_asked Cutters given)
+    ⊎ (tail_asked Cutters given ≡ bad_follow)
+own_work given =
+    let asked = tail_of (names_asked given.operands) given.options in
+    elim (own_follow asked.followed (asked_by retry_by false given.options) (texts_of given.operands)) [
+      | inl same ↦ inl (ap (λ meant. then_check meant (λ followed. Ok (record asked { followed = followed }))) same)
+      | inr bad ↦ inr (ap (λ meant. then_check meant (λ followed. Ok (record asked { followed = followed }))) bad)
+    ]
+
+tail_topic : (topic : Option Topic) (own cutters : Result TailSettings Fault) → (own ≡ cutters) ⊎ (cutters ≡ bad_follow)
+    → (about_or tool.Tail topic (then_check own (λ asked. Ok (Tail asked)))
+    ≡ about_or tool.Tail topic (then_check cutters (λ asked. Ok (Tail asked))))
+    ⊎ (about_or tool.Tail topic (then_check cutters (λ asked. Ok (Tail asked))) ≡ Err (Usage BadFollow 0))
+tail_topic (Some topic) own cutters either = inl refl
+tail_topic None own cutters (inl same) = inl (ap (λ meant. then_check meant (λ asked. Ok (Tail asked))) same)
+tail_topic None own cutters (inr bad) = inr (ap (λ meant. then_check meant (λ asked. Ok (Tail asked))) bad)
+
+pub own_tail : (meant : Result Given Fault)
+    → (then_check meant (settings_for OwnName tool.Tail) ≡ then_check meant (settings_for Cutters tool.Tail))
+    ⊎ (then_check meant (settings_for Cutters tool.Tail) ≡ Err (Usage BadFollow 0))
+own_tail (Ok given) = tail_topic (topic_in given.options) (tail_asked OwnName given) (tail_asked Cutters given) (own_work given)
+own_tail (Err fault) = inl refl
 
 -- `csplit` asks for the same, but for how it is called
 

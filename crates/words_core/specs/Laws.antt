@@ -14,7 +14,7 @@ use Rattle.seg_core.specs.{
 }
 use Rattle.ports_core.specs.declared.{
   calling.Calling.{Calling, TheVariants.{Cutters, OwnName}},
-  fault.{Fault.Fault, UsageKind.UsageKind},
+  fault.{Fault.{Fault, TheVariants.Usage}, UsageKind.{UsageKind, TheVariants.BadFollow}},
   tool.Tool.Tool,
   on_broken.OnBroken.OnBroken,
 }
@@ -25,7 +25,7 @@ use Rattle.words_core.specs.{
   declared.table.{Letters.TheVariants.OfTail, Takes.Takes},
   declared.spelled.Chosen.Chosen,
   declared.spelling.State.{State, TheVariants.Reading},
-  declared.value.Followed.TheVariants.Descriptor,
+  declared.value.Followed.{Followed, TheVariants.Descriptor},
   declared.tail_words.TailSettings.TailSettings,
   CsplitWords.{style_in, style_of},
   EndsWords.{EndsAsked, ten_lines},
@@ -288,6 +288,13 @@ following = record (unfollowed (ten_lines (codes "f" ∷ []))) { followed = Some
 abbrev pub FollowAsks : List (List ℕ) → TailSettings → Type 0
 FollowAsks words asked = (calling : Calling)
     → settings_of calling (codes "tail" ∷ words ++ codes "f" ∷ []) ≡ Ok (Tail asked)
+
+-- of `tail` that is called by its own name this is followed of the file `f`, and `cutters` refuses it
+abbrev pub RefusedBut : List (List ℕ) → Option Followed → Type 0
+RefusedBut words followed =
+    (settings_of Cutters (codes "tail" ∷ words ++ codes "f" ∷ []) ≡ Err (Usage BadFollow 0))
+    × (settings_of OwnName (codes "tail" ∷ words ++ codes "f" ∷ [])
+    ≡ Ok (Tail (record following { followed = followed })))
 
 -- of `tail` this number of the last lines or bytes of the file `f`, or all from that one on
 abbrev pub of_file : Sign → Measured → ℕ → TailSettings

@@ -4,11 +4,14 @@ use Rattle.std.specs.{
   Prelude.bytes_eq,
   List.list_any,
 }
-use Rattle.ports_core.specs.declared.fault.{Fault.{Fault, TheVariants.Usage}, UsageKind.TheVariants.BadFollow}
+use Rattle.ports_core.specs.declared.{
+  calling.Calling.{Calling, TheVariants.OwnName},
+  fault.{Fault.{Fault, TheVariants.Usage}, UsageKind.TheVariants.BadFollow},
+}
 use Rattle.words_core.specs.{
   declared.choice.Choice.{Choice, TheVariants.{Follow, FollowNames, Retry, Looks, Pause, Process}},
   declared.spelled.Chosen.Chosen,
-  declared.value.Followed.{Followed, TheVariants.{Descriptor, Name}},
+  declared.value.Followed.{Followed, TheVariants.{Descriptor, Name, PresentName, FirstFile}},
   declared.tail_words.TailSettings.TailSettings,
   EndsWords.{EndsAsked, ends_by, names_asked, ten_lines},
   Given.{asked_by, Given, texts_of},
@@ -44,30 +47,36 @@ has_hyphen names = list_any (λ name. bytes_eq name (codes "-")) names
 abbrev pub bad_follow : {A : Type 0} → Result A Fault
 bad_follow = Err (Usage BadFollow 0)
 
--- Standard input can't be followed. Where it would be alone, following by descriptor is dropped.
+-- Standard input can't be followed. Where it would be alone, following files is dropped.
 
-abbrev pub by_descriptor : List (List ℕ) → Result (Option Followed) Fault
-by_descriptor [] = Ok None
-by_descriptor (name ∷ []) = if has_hyphen (name ∷ []) then Ok None else Ok (Some Descriptor)
-by_descriptor (name ∷ next ∷ names) = if has_hyphen (name ∷ next ∷ names) then bad_follow else Ok (Some Descriptor)
+abbrev pub by_file : Followed → List (List ℕ) → Result (Option Followed) Fault
+by_file how [] = Ok None
+by_file how (name ∷ []) = if has_hyphen (name ∷ []) then Ok None else Ok (Some how)
+by_file how (name ∷ next ∷ names) = if has_hyphen (name ∷ next ∷ names) then bad_follow else Ok (Some how)
 
-abbrev pub by_name : List (List ℕ) → Result (Option Followed) Fault
-by_name [] = bad_follow
-by_name (name ∷ names) = if has_hyphen (name ∷ names) then bad_follow else Ok (Some Name)
+abbrev pub by_name : Followed → List (List ℕ) → Result (Option Followed) Fault
+by_name how [] = bad_follow
+by_name how (name ∷ names) = if has_hyphen (name ∷ names) then bad_follow else Ok (Some how)
 
--- names are followed just where one that leads nowhere is looked for again
-abbrev pub followed_in : Option Followed → (retry : Bool) → List (List ℕ) → Result (Option Followed) Fault
-followed_in None false names = Ok None
-followed_in (Some Descriptor) false names = by_descriptor names
-followed_in (Some Name) true names = by_name names
-followed_in followed retry names = bad_follow
+-- By `cutters` names are followed just where one that leads nowhere is looked for again. By its own name `tail` drops
+-- such a name where it isn't looked for; a file that is followed may be looked for too, until it is there; and looking
+-- has no effect where nothing is followed.
+abbrev pub followed_in : Option Followed → (retry : Bool) → Calling → List (List ℕ) → Result (Option Followed) Fault
+followed_in None false calling names = Ok None
+followed_in None true OwnName names = Ok None
+followed_in (Some Descriptor) false calling names = by_file Descriptor names
+followed_in (Some Descriptor) true OwnName names = by_file FirstFile names
+followed_in (Some Name) true calling names = by_name Name names
+followed_in (Some Name) false OwnName names = by_name PresentName names
+followed_in followed retry calling names = bad_follow
 
 -- what options ask, of these inputs
 abbrev pub tail_of : List (List ℕ) → List Chosen → TailSettings
 tail_of names options = asked_by tail_by (unfollowed (ten_lines names)) options
 
-abbrev pub tail_asked : Given → Result TailSettings Fault
-tail_asked given =
+abbrev pub tail_asked : Calling → Given → Result TailSettings Fault
+tail_asked calling given =
     let asked = tail_of (names_asked given.operands) given.options in
-    then_check (followed_in asked.followed (asked_by retry_by false given.options) (texts_of given.operands))
+    then_check
+    (followed_in asked.followed (asked_by retry_by false given.options) calling (texts_of given.operands))
     (λ followed. Ok (record asked { followed = followed }))

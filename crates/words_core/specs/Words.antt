@@ -35,7 +35,7 @@ tool_named name = option_map (λ row. row.tool) (row_named tools name)
 -- what options and operands ask of a tool's work
 abbrev pub work_for : Calling → Tool → Given → Result Settings Fault
 work_for calling tool.Head given = Ok (Head (ends_asked given))
-work_for calling tool.Tail given = then_check (tail_asked given) (λ asked. Ok (Tail asked))
+work_for calling tool.Tail given = then_check (tail_asked calling given) (λ asked. Ok (Tail asked))
 work_for calling tool.Split given = then_check (split_asked given) (λ asked. Ok (Split asked))
 work_for calling tool.Csplit given = then_check (csplit_asked calling given) (λ asked. Ok (Csplit asked))
 work_for calling tool.Tee given = Ok (Tee (tee_asked calling given))

@@ -1,7 +1,7 @@
 //! Laws of what words spell and ask for, with no code: each stands on the contract of a function whose body is empty.
 ghost use Rattle.std.specs.{
   Prelude.{◌≡◌, ◌≢◌, ◌↔◌, ◌+◌, ◌-◌, ◌*◌, ◌^◌, ◌≤◌, ◌<◌, ◌++◌, ℕ, List, [], ◌∷◌, All, Some, None, Ok, Err, IsOk, true},
-  Prelude.{false, length, filter, codes, if◌then◌else◌, slice_get},
+  Prelude.{false, length, filter, codes, if◌then◌else◌, slice_get, ◌⊎◌},
   List.Contains,
 };
 ghost use Rattle.ports_core.specs.declared.fault.UsageKind.{
@@ -22,7 +22,7 @@ ghost use Rattle.words_core.specs.{
   Format.{Format, format_in},
   Laws.{AreAlike, AreAmong, AreNames, CsplitAsks, EndsAsk, FollowAsks, Gives, HasLetters, IsLetter, IsLong},
   Laws.{IsNumberWithLetters, IsSwitch, IsTold, LastDecides, LeaveTheRest, MeanTheSame, NumberAsks, OnBrokenAsks},
-  Laws.{SplitAsks, StartAsks, TeeAsks, amount_of, appends, as_operands, as_wide, begin_with_start, counts},
+  Laws.{RefusedBut, SplitAsks, StartAsks, TeeAsks, amount_of, appends, as_operands, as_wide, begin_with_start, counts},
   Laws.{by_own_name, counts_looks, counts_pause, drops_sizes, elides_files, ends_with_zero, following, fresh_file, gives_ending},
   Laws.{gives_format, has, heads, how_many, is_plain, keeps_files, kind_of, leave_open, leaves_lines_out, names_prefix},
   Laws.{names_process, plain_style, retries, says_followed, says_on_broken, separates, spells, tells_of_files},
@@ -351,14 +351,15 @@ pub fn letters_ask()
 {}
 
 /// What words mean doesn't depend on how the program is called, but for four things: a first word of `tail` that is a `+` and
-/// what may follow it, how patterns of `csplit` may be spelled and whether they may cut one line past the last, and what `tee`
-/// does once an output is broken where no option says it.
+/// what may follow it, what may be followed with and without `--retry`, how patterns of `csplit` may be spelled and whether they
+/// may cut one line past the last, and what `tee` does once an output is broken where no option says it.
 #[tactic(auto, unfolding(crate::specs::Spelling::foremost, crate::specs::Table::tools))]
 pub fn callings_mean_the_same()
     ensures none { MeanTheSame [] }
     ensures unknown { (name : List ℕ) (words : List (List ℕ)) → tool_named name ≡ None → MeanTheSame (name ∷ words) }
     ensures head { (words : List (List ℕ)) → MeanTheSame (codes "head" ∷ words) }
-    ensures tail { (words : List (List ℕ)) → begin_with_start words ≡ false → MeanTheSame (codes "tail" ∷ words) }
+    ensures tail { (words : List (List ℕ)) → begin_with_start words ≡ false → MeanTheSame (codes "tail" ∷ words)
+        ⊎ (settings_of Calling.Cutters (codes "tail" ∷ words) ≡ Err (Fault.Usage BadFollow 0)) }
     ensures split { (words : List (List ℕ)) → MeanTheSame (codes "split" ∷ words) }
     ensures csplit { (words : List (List ℕ)) → settings_of Calling.OwnName (codes "csplit" ∷ words)
         ≡ by_own_name (settings_of Calling.Cutters (codes "csplit" ∷ words)) }
@@ -426,7 +427,8 @@ pub fn ends_options_ask()
 {}
 
 /// What the options of `tail` for following ask for, and what is asked for without any: files that are opened once, or names,
-/// and these only with `--retry`; as many looks as can be, or this many; pauses of a second at most, or of this many
+/// and by `cutters` these only with `--retry`; by its own name names while they lead to a file, or the first file to which each leads;
+/// as many looks as can be, or this many; pauses of a second at most, or of this many
 /// milliseconds; the end of this process (POSIX.1-2017, XCU tail; GNU coreutils manual).
 #[tactic(auto, unfolding(crate::specs::Spelling::foremost, crate::specs::Table::tools, seg_core::specs::Count::digits_of))]
 pub fn tail_options_ask()
@@ -443,10 +445,12 @@ pub fn tail_options_ask()
     ensures names { FollowAsks (codes "-F" ∷ []) (record following { followed = Some Followed.Name }) }
     ensures retry { FollowAsks (codes "--follow=name" ∷ codes "--retry" ∷ [])
         (record following { followed = Some Followed.Name }) }
-    ensures names_alone { (calling : Calling)
-        → settings_of calling (codes "tail" ∷ codes "--follow=name" ∷ codes "f" ∷ []) ≡ Err (Fault.Usage BadFollow 0) }
-    ensures retry_alone { (calling : Calling)
-        → settings_of calling (codes "tail" ∷ codes "--retry" ∷ codes "f" ∷ []) ≡ Err (Fault.Usage BadFollow 0) }
+    ensures names_alone { RefusedBut (codes "--follow=name" ∷ []) (Some Followed.PresentName) }
+    ensures retry_alone { RefusedBut (codes "--retry" ∷ []) None }
+    ensures retry_files { RefusedBut (codes "-f" ∷ codes "--retry" ∷ []) (Some Followed.FirstFile) }
+    ensures last_files { RefusedBut (codes "-F" ∷ codes "-f" ∷ []) (Some Followed.FirstFile) }
+    ensures last_names { FollowAsks (codes "-f" ∷ codes "-F" ∷ [])
+        (record following { followed = Some Followed.Name }) }
     ensures looks { (value : List ℕ) → is_number value ≡ true → 1 ≤ value_of value → value_of value ≤ 2 ^ 63 - 1
         → FollowAsks (codes "-f" ∷ codes "--looks" ∷ value ∷ []) (record following { looks = value_of value }) }
     ensures pause { (value : List ℕ) (pause : ℕ) → pause_in value ≡ Ok pause

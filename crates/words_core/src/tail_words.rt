@@ -4,7 +4,7 @@ ghost use Rattle.std.specs.Prelude.{◌≡◌, map};
 ghost use Rattle.words_core.specs.{
   Given.{operand_seen, texts_of},
   Spelling.Reads,
-  TailWords.{by_descriptor, by_name, followed_in, has_hyphen, retry_by, tail_asked, tail_by, unfollowed},
+  TailWords.{by_file, by_name, followed_in, has_hyphen, retry_by, tail_asked, tail_by, unfollowed},
   Choice.seen,
 };
 
@@ -12,7 +12,7 @@ use crate::choice::Choice;
 use crate::ends_words::{EndsSettings, names_of, ten_lines};
 use crate::spelled::{Operand, Spelled};
 use crate::value::{Followed, MOST_LOOKS};
-use ports_core::{Fault, STANDARD_INPUT, UsageKind};
+use ports_core::{Calling, Fault, STANDARD_INPUT, UsageKind};
 use std::alloc::Global;
 
 /// What `tail` is to write of its inputs.
@@ -81,10 +81,14 @@ fn with_retry(retry: bool, choice: Choice<'_>) -> bool
 ///
 /// # Errors
 ///
-/// `Usage` with `BadFollow` where names are followed and not looked for again, or the reverse, or where standard input would
-/// be followed: by name, or beside other inputs. After these `Memory` where there is no room for the names.
-pub fn settle_tail<'a>(alloc: Global, spelled: &Spelled<'a>) -> Result<TailSettings<'a>, Fault>
-    ensures { Reads (tail_asked spelled.now) result }
+/// `Usage` with `BadFollow` where standard input would be followed, by name or beside other inputs; by `cutters` also where names
+/// are followed and not looked for again, or the reverse. After these `Memory` where there is no room for the names.
+pub fn settle_tail<'a>(
+    alloc: Global,
+    calling: Calling,
+    spelled: &Spelled<'a>,
+) -> Result<TailSettings<'a>, Fault>
+    ensures { Reads (tail_asked calling spelled.now) result }
 {
     let mut asked = unfollowed(ten_lines(Vec::new(alloc)));
     let mut retry = false;
@@ -92,7 +96,7 @@ pub fn settle_tail<'a>(alloc: Global, spelled: &Spelled<'a>) -> Result<TailSetti
         asked.take(option.choice);
         retry = with_retry(retry, option.choice);
     }
-    let followed = check_following(asked.followed, retry, &spelled.operands)?;
+    let followed = check_following(calling, asked.followed, retry, &spelled.operands)?;
     let names = names_of(alloc, &spelled.operands)?;
     Ok(TailSettings {
         ends: EndsSettings {
@@ -106,42 +110,47 @@ pub fn settle_tail<'a>(alloc: Global, spelled: &Spelled<'a>) -> Result<TailSetti
 
 /// What is followed of these operands.
 fn check_following(
+    calling: Calling,
     followed: Option<Followed>,
     retry: bool,
     operands: &[Operand<'_>],
 ) -> Result<Option<Followed>, Fault>
-    ensures { result ≡ followed_in followed retry (texts_of (map operand_seen operands.now)) }
+    ensures { result ≡ followed_in followed retry calling (texts_of (map operand_seen operands.now)) }
 {
-    match (followed, retry) {
-        (None, false) => Ok(None),
-        (Some(Followed::Descriptor), false) => follow_descriptors(operands),
-        (Some(Followed::Name), true) => follow_names(operands),
-        (None, true) | (Some(Followed::Descriptor), true) | (Some(Followed::Name), false) => {
-            Err(BAD_FOLLOW)
+    match (calling, followed, retry) {
+        (_, None, false) | (Calling::OwnName, None, true) => Ok(None),
+        (_, Some(Followed::Descriptor), false) => follow_files(Followed::Descriptor, operands),
+        (_, Some(Followed::Name), true) => follow_names(Followed::Name, operands),
+        (Calling::OwnName, Some(Followed::Descriptor), true) => {
+            follow_files(Followed::FirstFile, operands)
         }
+        (Calling::OwnName, Some(Followed::Name), false) => {
+            follow_names(Followed::PresentName, operands)
+        }
+        _ => Err(BAD_FOLLOW),
     }
 }
 
-/// Follows files by descriptor, unless there is only standard input.
-fn follow_descriptors(operands: &[Operand<'_>]) -> Result<Option<Followed>, Fault>
-    ensures { result ≡ by_descriptor (texts_of (map operand_seen operands.now)) }
+/// Follows files so, unless there is only standard input.
+fn follow_files(how: Followed, operands: &[Operand<'_>]) -> Result<Option<Followed>, Fault>
+    ensures { result ≡ by_file how (texts_of (map operand_seen operands.now)) }
 {
     match operands {
         [] => Ok(None),
         [_] if has_standard_input(operands) => Ok(None),
         _ if has_standard_input(operands) => Err(BAD_FOLLOW),
-        _ => Ok(Some(Followed::Descriptor)),
+        _ => Ok(Some(how)),
     }
 }
 
-/// Follows names, of which there has to be one at least.
-fn follow_names(operands: &[Operand<'_>]) -> Result<Option<Followed>, Fault>
-    ensures { result ≡ by_name (texts_of (map operand_seen operands.now)) }
+/// Follows names so, of which there has to be one at least.
+fn follow_names(how: Followed, operands: &[Operand<'_>]) -> Result<Option<Followed>, Fault>
+    ensures { result ≡ by_name how (texts_of (map operand_seen operands.now)) }
 {
     if operands.is_empty() || has_standard_input(operands) {
         return Err(BAD_FOLLOW);
     }
-    Ok(Some(Followed::Name))
+    Ok(Some(how))
 }
 
 /// Whether standard input is among the operands.

@@ -20,8 +20,12 @@ use seg_core::digits::{GREATEST, leading_number, read_digits};
 pub enum Followed {
     /// The files that were opened at first, wherever their names lead.
     Descriptor,
-    /// The files to which the names lead.
+    /// The files to which the names lead. A name that leads nowhere is looked for again.
     Name,
+    /// The files to which the names lead, while they lead to any. A name that leads nowhere is dropped. No value asks for it.
+    PresentName,
+    /// The first file to which each name leads at any time, wherever it leads later. No value asks for it.
+    FirstFile,
 }
 
 /// The greatest width of a suffix.

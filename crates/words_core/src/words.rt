@@ -157,7 +157,7 @@ fn settle_work<'a>(
 {
     match tool {
         Tool::Head => Ok(Settings::Head(settle_ends(alloc, spelled)?)),
-        Tool::Tail => Ok(Settings::Tail(settle_tail(alloc, spelled)?)),
+        Tool::Tail => Ok(Settings::Tail(settle_tail(alloc, calling, spelled)?)),
         Tool::Split => Ok(Settings::Split(settle_split(spelled)?)),
         Tool::Csplit => Ok(Settings::Csplit(settle_csplit(alloc, calling, spelled)?)),
         Tool::Tee => Ok(Settings::Tee(settle_tee(alloc, calling, spelled)?)),

@@ -2,7 +2,7 @@ ghost use Rattle.std.specs.Prelude.{◌≡◌, []};
 ghost use Rattle.ports_core.specs.Slot.{streams};
 
 use ends_core::Unit;
-use follow_core::{Limits, Start, follow_files};
+use follow_core::{Limits, Method, Start, follow_files};
 use ports_core::{Calling, Outs};
 use std::alloc::Global;
 use watch_core::Watch;
@@ -36,7 +36,7 @@ pub(crate) fn follow_file<W: Watch, O: Outs>(
         calling,
         &["log"],
         LAST_LINE,
-        true,
+        Method::Name,
         false,
         limits,
         watch,

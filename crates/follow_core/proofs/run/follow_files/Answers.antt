@@ -1,7 +1,7 @@
 use Rattle.ports_core.{proofs.Runs.as_status, specs.declared.reason.Reason.TheVariants.Other}
 use Rattle.std.proofs.Common.{Bor, arith, ℕ, List, map, ◌∙◌, ap, sym, refl, if◌then◌else◌}
 use Rattle.follow_core.{
-  specs.{Ending.{stopped, looked, unread, no_room, shows_by}, Look.ways_of},
+  specs.{Ending.{stopped, looked, unread, no_room, is_by_name, shows_by}, Look.ways_of},
   proofs.LookedLemmas.{ends_by, most_made, open_holds, watched_are},
 }
 use Rattle.follow_core.proofs.run.follow_files.Goals as goal
@@ -9,12 +9,12 @@ use Rattle.follow_core.proofs.run.follow_files.Goals as goal
 pub returns-in-Ok-Looked : goal.returns-in-Ok-Looked
 returns-in-Ok-Looked g c =
     let names : List (List ℕ) = map (λ (name : Bor (List ℕ)). name.now) c.args.names.now in
-    let ways = ways_of 0 c.args.by_name c.args.start in
+    let ways = ways_of 0 (is_by_name c.args.method) c.args.start in
     let slots = g.O.Outs.slots c.args.outs.now in
     let (most, are, gave) = c.make_looks.ensures.looked (rw c.in-Ok-Looked.field-0-is at c.in-Ok-Looked.is) in
     let all = gave c.args.calling ways c.args.headers names slots
-    (open_holds c.in-Ok.ensures.ok (c.forgive_by.ensures.watched ∙ c.requires.unwatched)) in
-    rw (← c.forgive_by.ensures.shows) (ends_by c.args.limits.process most are
+    (open_holds (rw c.is_by_name-by_name.ensures at c.in-Ok.ensures.ok) (c.treat_by.ensures.watched ∙ c.requires.unwatched)) in
+    rw (← c.treat_by.ensures.shows) (ends_by c.args.limits.process most are
     (looked all.looks all.holds.shares all.observed (watched_are all.holds) all.made all.within all.over all.holds.are all.holds.found
     (record {
       wrote = all.holds.shared.slots;
@@ -24,31 +24,31 @@ returns-in-Ok-Looked g c =
 pub returns-in-Ok-Unread : goal.returns-in-Ok-Unread
 returns-in-Ok-Unread g c =
     let names : List (List ℕ) = map (λ (name : Bor (List ℕ)). name.now) c.args.names.now in
-    let ways = ways_of 0 c.args.by_name c.args.start in
+    let ways = ways_of 0 (is_by_name c.args.method) c.args.start in
     let slots = g.O.Outs.slots c.args.outs.now in
     let (own, (most, are, gave)) = c.make_looks.ensures.unread (rw c.in-Ok-Unread.field-0-is at c.in-Ok-Unread.is) in
     let found = gave c.args.calling ways c.args.headers names slots
-    (open_holds c.in-Ok.ensures.ok (c.forgive_by.ensures.watched ∙ c.requires.unwatched)) in
-    rw (← c.forgive_by.ensures.shows) (ends_by c.args.limits.process most are
+    (open_holds (rw c.is_by_name-by_name.ensures at c.in-Ok.ensures.ok) (c.treat_by.ensures.watched ∙ c.requires.unwatched)) in
+    rw (← c.treat_by.ensures.shows) (ends_by c.args.limits.process most are
     (unread found.looks found.holds.shares found.before own found.observed (watched_are found.holds) found.made found.fewer
     found.alive found.holds.are found.holds.found found.holds.shared.slots found.broke refl))
 
 pub returns : goal.returns
 returns g c =
     let names : List (List ℕ) = map (λ (name : Bor (List ℕ)). name.now) c.args.names.now in
-    let ways = ways_of 0 c.args.by_name c.args.start in
+    let ways = ways_of 0 (is_by_name c.args.method) c.args.start in
     let slots = g.O.Outs.slots c.args.outs.now in
     let (most, are, stops) = c.in-Err-make_looks.ensures.stopped in
     let tells = c.tell-in-Err-make_looks.ensures in
-    let holds = open_holds c.in-Ok.ensures.ok (c.forgive_by.ensures.watched ∙ c.requires.unwatched) in
-    rw (← c.forgive_by.ensures.shows) (ends_by c.args.limits.process most are
+    let holds = open_holds (rw c.is_by_name-by_name.ensures at c.in-Ok.ensures.ok) (c.treat_by.ensures.watched ∙ c.requires.unwatched) in
+    rw (← c.treat_by.ensures.shows) (ends_by c.args.limits.process most are
     (stopped (g.O.Outs.slots c.make_looks.new.outs) c.in-Err-make_looks.fault
     (stops c.args.calling ways c.args.headers names slots holds) tells.told tells.status))
 
 pub returns-in-Err : goal.returns-in-Err
 returns-in-Err g c =
     let (most, are, above) = most_made g.W.Watch.told c.args.limits.process
-    (shows_by c.args.calling c.args.by_name (g.W.Watch.shows c.args.watch.now)) c.args.limits.looks 0 (omega arith)
+    (shows_by c.args.calling c.args.method (g.W.Watch.shows c.args.watch.now)) c.args.limits.looks 0 (omega arith)
     (λ t. omega arith) in
     let tells = rw c.in-Err.ensures.err at c.tell.ensures in
     ends_by c.args.limits.process most are (no_room Other c.requires.unseen c.requires.unwatched tells.told tells.status)

@@ -56,7 +56,7 @@ invariant_of-self g c = grind (arith, common_steps)
 pub copy-requires-clause-found : goal.copy-requires-clause-found
 copy-requires-clause-found g c = rw (c.open_len.ensures.seen, c.in-Ok.ensures.same)
     (is_held (latest (g.W.Watch.seen c.args.watch.now))
-    (watched_at (g.W.Watch.watched c.args.watch.now) c.args.place) c.in-Ok.ensures.found)
+    (watched_at (g.W.Watch.watched c.args.watch.now) c.args.place) c.in-Ok.len c.in-Ok.ensures.found)
 
 -- a line where the file is shorter, and then the bytes: from the front there, else from the position on
 pub returns-clause-adds : goal.returns-clause-adds

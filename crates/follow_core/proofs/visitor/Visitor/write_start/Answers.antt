@@ -31,12 +31,12 @@ invariant_of-self-2 g c = grind (arith, common_steps)
 
 pub copy-requires-clause-found : goal.copy-requires-clause-found
 copy-requires-clause-found g c = rw (c.find.ensures.seen, c.open_len.ensures.seen, c.in-Ok-find.ensures.same, c.in-Ok.ensures.same)
-    (is_held (latest (g.W.Watch.seen c.args.watch.now)) (watched_at (g.W.Watch.watched c.args.watch.now) c.args.place) c.in-Ok.ensures.found)
+    (is_held (latest (g.W.Watch.seen c.args.watch.now)) (watched_at (g.W.Watch.watched c.args.watch.now) c.args.place) c.in-Ok.len c.in-Ok.ensures.found)
 
 pub returns-clause-long : goal.returns-clause-long
 returns-clause-long g c = IfOk-weaker c.copy.result (λ n. n ≡ c.in-Ok.len) _
     (λ n whole. rw whole (is_held (latest (g.W.Watch.seen c.args.watch.now))
-    (watched_at (g.W.Watch.watched c.args.watch.now) c.args.place) c.in-Ok.ensures.found)) c.copy.ensures.len
+    (watched_at (g.W.Watch.watched c.args.watch.now) c.args.place) c.in-Ok.len c.in-Ok.ensures.found)) c.copy.ensures.len
 
 pub returns-clause-starts : goal.returns-clause-starts
 returns-clause-starts g c =

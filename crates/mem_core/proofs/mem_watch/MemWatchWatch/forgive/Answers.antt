@@ -1,9 +1,12 @@
-use Rattle.std.proofs.Common.{refl, true}
-use Rattle.mem_core.proofs.MemWatchLemmas.{forgives_all, forgives_none}
+use Rattle.std.proofs.Common.{refl, false, ◌≡◌, ◌∙◌, ℕ, ap}
+use Rattle.watch_core.specs.Snapshot.{Snapshot, forgiving}
+use Rattle.mem_core.specs.{MemWatchState.shows, inner.Leading.forgiven}
+use Rattle.mem_core.proofs.MemWatchLemmas.{forgives_all, none_seen, shows_now}
 use Rattle.mem_core.proofs.mem_watch.MemWatchWatch.forgive.Goals as goal
 
 pub returns-clause-shows : goal.returns-clause-shows
-returns-clause-shows c = forgives_all (record { worlds = c.self.inside.worlds.items; turns = c.self.inside.turns; watched = c.self.inside.names.items; forgives = true; within = c.self.inside.within; why = c.self.inside.why }) c.self.view_is refl refl refl
+returns-clause-shows c = rw c.forgiven.ensures (shows_now (record { leading = forgiven c.self.inside.manner.leading; insists = false })
+    (λ shown n. forgiving (shown n)) c.self.view_is (forgives_all c.self.inside.manner c.self.inside.within c.self.inside.worlds.items))
 
 pub returns-clause-seen : goal.returns-clause-seen
-returns-clause-seen c = forgives_none c.self.inside.turns true c.self.view_is c.requires
+returns-clause-seen c = none_seen c.self.inside.turns (record { leading = c.forgiven.result; insists = false }) c.self.view_is c.requires

@@ -1,4 +1,4 @@
-use Rattle.std.proofs.Common.{rules, refl}
+use Rattle.std.proofs.Common.{inl, refl}
 use Rattle.mem_core.proofs.MemWatchLemmas.{finds_any, may_break}
 use Rattle.watch_core.{specs.declared.watch.Broken.TheVariants.Read, proofs.NameLemmas.broke_so}
 use Rattle.mem_core.proofs.mem_watch.MemWatchWatch.read_at.Goals as goal
@@ -9,7 +9,7 @@ returns-then-fails-clause-err c =
     (refl, (c.fails.new.self.why, rw (c.break_off.ensures, broke, c.fails.ensures.same) refl))
 
 pub returns-clause-found : goal.returns-clause-found
-returns-clause-found c = search (rules, finds_any)
+returns-clause-found c = λ some. finds_any c.args.self.now.manner c.args.self.now.within c.args.self.now.worlds c.args.self.now.turns _ _ (λ is. refl)
 
 pub returns-then-fails-clause-breaks : goal.returns-then-fails-clause-breaks
-returns-then-fails-clause-breaks c = may_break c.args.self.now _ (c.fails.ensures.forgives c.if-fails.true)
+returns-then-fails-clause-breaks c = may_break c.args.self.now _ (inl (c.fails.ensures.plain c.if-fails.true))

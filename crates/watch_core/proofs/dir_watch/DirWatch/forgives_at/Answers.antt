@@ -1,10 +1,13 @@
 use Rattle.std.proofs.Common.{inl}
-use Rattle.watch_core.proofs.DirWatchLemmas.{may_break, zero_breaks}
+use Rattle.watch_core.proofs.DirWatchLemmas.{forgives_now, may_break, zero_breaks}
 use Rattle.watch_core.proofs.dir_watch.DirWatch.forgives_at.Goals as goal
 
-pub returns-then-self : goal.returns-then-self
-returns-then-self g c =
+pub returns-then-forgives-clause-no : goal.returns-then-forgives-clause-no
+returns-then-forgives-clause-no g c =
     zero_breaks _ c.args.place c.self.view_is c.requires c.index.ensures c.has_zero.ensures
 
-pub returns-else-self : goal.returns-else-self
-returns-else-self g c = λ none. may_break _ c.self.view_is (inl none)
+pub returns-then-forgives-clause-yes : goal.returns-then-forgives-clause-yes
+returns-then-forgives-clause-yes g c = λ other. forgives_now c.self.view_is (c.forgives.ensures.yes c.if-forgives.true)
+
+pub returns-else-forgives-clause-no : goal.returns-else-forgives-clause-no
+returns-else-forgives-clause-no g c = λ none. may_break _ c.self.view_is (inl (c.forgives.ensures.no none))

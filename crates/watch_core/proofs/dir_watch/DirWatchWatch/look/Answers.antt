@@ -1,7 +1,7 @@
-use Rattle.std.proofs.Common.{inl, refl, rules}
+use Rattle.std.proofs.Common.{inl, refl}
 use Rattle.watch_core.{
   specs.{declared.watch.Broken.TheVariants.Look, Watched.breaks},
-  proofs.DirWatchLemmas.{finds_any, may_break, one_changes},
+  proofs.DirWatchLemmas.{finds_any, finds_forgiven, forgives_now, insists_now, leads_there, may_break, one_changes},
 }
 use Rattle.watch_core.proofs.dir_watch.DirWatchWatch.look.Goals as goal
 
@@ -12,10 +12,11 @@ returns-in_default-clause-err g c =
     (refl, (why, one_changes _ c.args.place change c.self.view_is c.requires c.index_mut-2.ensures.value broke))
 
 pub returns-clause-found : goal.returns-clause-found
-returns-clause-found g c = search (rules, finds_any)
+returns-clause-found g c = finds_any c.args.self.now.manner c.args.self.now.within c.args.self.now.turns _ _ (λ is. leads_there c.in-Ok.found
+    (rw c.in-Ok.is at (c.look.ensures.there (c.insists-insists.ensures (insists_now c.self.view_is is)))))
 
 pub returns-in_default-clause-breaks : goal.returns-in_default-clause-breaks
-returns-in_default-clause-breaks g c = may_break _ c.self.view_is (inl c.if-self.false)
+returns-in_default-clause-breaks g c = may_break _ c.self.view_is (inl (c.forgives.ensures.no c.if-forgives.false))
 
-pub returns-then-self-clause-found : goal.returns-then-self-clause-found
-returns-then-self-clause-found g c = search (rules, finds_any)
+pub returns-then-forgives-clause-found : goal.returns-then-forgives-clause-found
+returns-then-forgives-clause-found g c = finds_forgiven c.args.self.now.within c.args.self.now.turns _ _ (forgives_now c.self.view_is (c.forgives.ensures.yes c.if-forgives.true))

@@ -1,4 +1,4 @@
-use Rattle.std.proofs.Common.{inl, refl, rules}
+use Rattle.std.proofs.Common.{inl, refl}
 use Rattle.watch_core.{
   specs.{declared.watch.Broken.TheVariants.Len, Watched.breaks},
   proofs.{DirWatchLemmas.{finds_any, may_break, one_changes}, NameLemmas.readable_watchable},
@@ -13,10 +13,10 @@ returns-in_default-clause-err g c =
     (refl, (why, one_changes _ c.args.place change c.self.view_is can c.index_mut-2.ensures.value broke))
 
 pub returns-clause-found : goal.returns-clause-found
-returns-clause-found g c = search (rules, finds_any)
+returns-clause-found g c = finds_any c.args.self.now.manner c.args.self.now.within c.args.self.now.turns _ _ (λ is. refl)
 
 pub returns-in_default-clause-breaks : goal.returns-in_default-clause-breaks
-returns-in_default-clause-breaks g c = may_break _ c.self.view_is (inl c.if-self.false)
+returns-in_default-clause-breaks g c = may_break _ c.self.view_is (inl (c.forgives.ensures.no c.if-forgives.false))
 
-pub returns-then-self-clause-found : goal.returns-then-self-clause-found
-returns-then-self-clause-found g c = search (rules, finds_any)
+pub returns-then-forgives-clause-found : goal.returns-then-forgives-clause-found
+returns-then-forgives-clause-found g c = finds_any c.args.self.now.manner c.args.self.now.within c.args.self.now.turns _ _ (λ is. refl)

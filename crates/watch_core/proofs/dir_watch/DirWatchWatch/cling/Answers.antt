@@ -1,0 +1,7 @@
+use Rattle.std.proofs.Common.{◌∙◌, ap, sym}
+use Rattle.watch_core.{specs.{DirWatchState.{DirWatchState, files_by}, Snapshot.{clinging, forgiving, insisting}}, proofs.DirWatchLemmas.clings_all}
+use Rattle.watch_core.proofs.dir_watch.DirWatchWatch.cling.Goals as goal
+
+pub returns-clause-shows : goal.returns-clause-shows
+returns-clause-shows g c = clings_all c.self.inside.manner c.self.inside.most
+    ∙ ap (λ (watch : DirWatchState). clinging (λ n. files_by watch.manner watch.within)) c.self.view_is
