@@ -1,4 +1,6 @@
 //! Names at the places where they widen or end, numbers in a form, and headers.
+ghost use Rattle.ports_core.specs.Name.{IsWide};
+
 use crate::compare::{same, same_bytes};
 use ports_core::{
     Alphabet, Base, Fault, Filling, Form, Names, Naming, Numbering, header, numbered,
@@ -114,7 +116,9 @@ fn name_of(
     prefix: &str,
     numbering: Numbering,
     place: u64,
-) -> Result<Option<String>, Fault> {
+) -> Result<Option<String>, Fault>
+    requires { IsWide numbering }
+{
     let naming = Naming::new(alloc, prefix, numbering, "")?;
     naming.name_at(place)
 }
