@@ -3,355 +3,244 @@ ghost use Rattle.std.specs.{Prelude.{◌≡◌, ◌+◌, ◌++◌, ◌∷◌, []
 ghost use Rattle.ports_core.specs.{Slot.{can_write, is_writable, opened, streams}, Source.is_readable};
 
 use crate::compare::same;
-use crate::folder::{holds, is_there, make_file, make_folder};
+use crate::dir_steps::{Step, is_left, play, play_in};
+use crate::folder::{holds, is_there, make_file, make_folder, remove_folder};
 use crate::reading::{Call, ask, inputs_of, open_and_ask, open_input};
-use crate::writing::{open_output, outs_of};
+use crate::writing::outs_of;
 use ports_core::{DirIn, DirOut, Fault, InputFiles, Inputs, Mode, Outs, Reason, write_whole};
 use std::fs;
-use std::os::unix::fs::{PermissionsExt, symlink};
 use std::process::Abort;
 use std::test::Fail;
 
-/// Compares the names of all outputs with these; the one after the last has none. None is broken.
-fn are_sound(rt: &impl Abort, outs: &DirOut<'_, HostRuntime>, names: &[&str]) {
-    let mut slot = 0usize;
-    for name in names {
-        assert!(rt; outs.name(slot) == *name && !outs.broken(slot), "at {slot}");
-        slot = slot.saturating_add(1);
-    }
-    assert!(rt; outs.name(slot).is_empty() && !outs.broken(slot));
-}
-
-/// The standard streams are read for all that is seen at first.
-#[test]
-fn standard_streams_are_still_read(rt: HostRuntime) -> Result<(), Fail> {
-    let inputs = InputFiles::new(rt.alloc());
-    let mut outs = outs_of(rt, &inputs);
+/// Asks whether the standard streams are still read.
+fn are_still_read(outs: &mut DirOut<'_, HostRuntime>) -> Result<(), Fault>
+    requires { outs.old ≡ streams }
+{
     outs.still_read(0)?;
-    outs.still_read(1)?;
-    are_sound(&rt, &outs, &["standard output", "standard error"]);
-    Ok(())
+    outs.still_read(1)
 }
 
-/// How a file is opened, what it then holds, what is written to it, and what it holds after that.
-#[derive(Clone, Copy)]
-struct Opening<'a> {
-    mode: Mode,
-    number: usize,
-    before: &'a [u8],
-    piece: &'a [u8],
-    after: &'a [u8],
+/// The standard streams are read for all that is seen at first, and both are sound.
+#[test]
+fn standard_streams_are_still_read(rt: HostRuntime) {
+    let noted = InputFiles::new(rt.alloc());
+    let mut outs = outs_of(rt, &noted);
+    same(&rt, &are_still_read(&mut outs), &Ok(()));
+    assert!(rt; is_left(&outs, 0, "standard output", false));
+    assert!(rt; is_left(&outs, 1, "standard error", false));
+    assert!(rt; is_left(&outs, 2, "", false));
 }
 
 /// A file that had bytes is made anew, and then appended to.
-const OPENINGS: &[Opening<'static>] = &[
-    Opening {
-        mode: Mode::Fresh,
-        number: 2,
-        before: b"",
-        piece: b"abc",
-        after: b"abc",
-    },
-    Opening {
-        mode: Mode::Append,
-        number: 3,
-        before: b"abc",
-        piece: b"de",
-        after: b"abcde",
-    },
+const WRITTEN: &[Step<'static>] = &[
+    Step::Make("ports_core_written/f", b"longer than that"),
+    Step::Write("ports_core_written/f", Mode::Fresh, 2, b"", b"abc"),
+    Step::Holds("ports_core_written/f", b"abc"),
+    Step::Write("ports_core_written/f", Mode::Append, 3, b"abc", b"de"),
+    Step::Holds("ports_core_written/f", b"abcde"),
+    Step::Left(0, "standard output", false),
+    Step::Left(1, "standard error", false),
+    Step::Left(2, "ports_core_written/f", false),
+    Step::Left(3, "ports_core_written/f", false),
+    Step::Left(4, "", false),
 ];
-
-/// Opens a file, writes to it, and compares what it holds.
-fn open_and_write(
-    abort: &impl Abort,
-    rt: &HostRuntime,
-    outs: &mut DirOut<'_, HostRuntime>,
-    name: &str,
-    opening: &Opening<'_>,
-) -> Result<(), Fail> {
-    let slot = open_output(abort, outs, name, opening.mode, opening.number)?;
-    assert!(abort; holds(rt, name, opening.before)?);
-    same(abort, &write_whole(outs, slot, opening.piece), &Ok(()));
-    assert!(abort; holds(rt, name, opening.after)?);
-    Ok(())
-}
 
 #[test]
 fn files_are_written(rt: HostRuntime) -> Result<(), Fail> {
-    let name = "ports_core_written/f";
-    make_file(&rt, "ports_core_written", name, b"longer than that")?;
-    let noted = InputFiles::new(rt.alloc());
-    let mut outs = outs_of(rt, &noted);
-    for opening in OPENINGS {
-        open_and_write(&rt, &rt, &mut outs, name, opening)?;
-    }
-    are_sound(
-        &rt,
-        &outs,
-        &["standard output", "standard error", name, name],
-    );
-    fs::remove_dir_all(&rt, "ports_core_written")?;
-    Ok(())
+    play_in(&rt, rt, "ports_core_written", WRITTEN)
 }
 
-/// Fails to open a file of these names in either mode. They are outputs from this number on.
-fn fail_to_write_over(rt: &impl Abort, outs: &mut DirOut<'_, HostRuntime>, names: &[&str]) {
-    let mut number = 2usize;
-    for name in names {
-        for mode in [Mode::Fresh, Mode::Append] {
-            fail_to_open(rt, outs, name, mode, number);
-            number = number.saturating_add(1);
-        }
-    }
-}
+/// What is asked of a file with three bytes to its end.
+const TO_THE_END: &[Call<'static>] = &[
+    Call::Read(4, 3, b"abc"),
+    Call::Read(4, 0, b""),
+    Call::Read(4, 0, b""),
+];
+
+/// An input that was read to its end and one that wasn't read can't be written over, by none of their names.
+const SPARED: &[Step<'static>] = &[
+    Step::Make("ports_core_spared/f", b"abc"),
+    Step::Link("ports_core_spared/f", "ports_core_spared/g"),
+    Step::Lead("ports_core_spared/h", "f"),
+    Step::Make("ports_core_spared/i", b"def"),
+    Step::Ask("ports_core_spared/f", 1, TO_THE_END),
+    Step::Ask("ports_core_spared/i", 2, &[]),
+    Step::Refuse("ports_core_spared/f", Mode::Fresh, 2),
+    Step::Refuse("ports_core_spared/f", Mode::Append, 3),
+    Step::Refuse("ports_core_spared/g", Mode::Fresh, 4),
+    Step::Refuse("ports_core_spared/g", Mode::Append, 5),
+    Step::Refuse("ports_core_spared/i", Mode::Fresh, 6),
+    Step::Refuse("ports_core_spared/i", Mode::Append, 7),
+    Step::Refuse("ports_core_spared/h", Mode::Fresh, 8),
+    Step::Refuse("ports_core_spared/h", Mode::Append, 9),
+    Step::Holds("ports_core_spared/f", b"abc"),
+    Step::Holds("ports_core_spared/i", b"def"),
+];
 
 #[test]
 fn an_input_is_not_written_over(rt: HostRuntime) -> Result<(), Fail> {
-    let name = "ports_core_spared/f";
-    let links = ["ports_core_spared/g", "ports_core_spared/h"];
-    let other = "ports_core_spared/i";
-    make_file(&rt, "ports_core_spared", name, b"abc")?;
-    fs::hard_link(&rt, name, links[0])?;
-    symlink(&rt, "f", links[1])?;
-    fs::write(&rt, other, b"def".as_slice())?;
-    let noted = InputFiles::new(rt.alloc());
-    let mut outs = outs_of(rt, &noted);
-    let mut inputs = inputs_of(rt, &noted);
-    open_and_ask(&rt, &mut inputs, name, 1, TO_THE_END)?;
-    open_input(&rt, &mut inputs, other, 2)?;
-    fail_to_write_over(&rt, &mut outs, &[name, links[0], other, links[1]]);
-    assert!(rt; holds(&rt, name, b"abc")? && holds(&rt, other, b"def")?);
-    fs::remove_dir_all(&rt, "ports_core_spared")?;
-    Ok(())
+    play_in(&rt, rt, "ports_core_spared", SPARED)
 }
+
+const DEVICE: &[Step<'static>] = &[
+    Step::Ask("/dev/null", 1, &[]),
+    Step::WriteOnce("/dev/null", Mode::Fresh, 2, b"abc", Ok(3)),
+];
 
 #[test]
 fn a_device_is_read_and_written(rt: HostRuntime) -> Result<(), Fail> {
-    let noted = InputFiles::new(rt.alloc());
-    let mut outs = outs_of(rt, &noted);
-    open_input(&rt, &mut inputs_of(rt, &noted), "/dev/null", 1)?;
-    let slot = open_output(&rt, &mut outs, "/dev/null", Mode::Fresh, 2)?;
-    same(&rt, &outs.write(slot, b"abc"), &Ok(3));
-    Ok(())
+    play(&rt, rt, DEVICE)
 }
+
+const APPENDED: &[Step<'static>] = &[
+    Step::WriteOnce("ports_core_append/f", Mode::Append, 2, b"", Ok(0)),
+    Step::Holds("ports_core_append/f", b""),
+];
 
 #[test]
 fn an_append_makes_the_file(rt: HostRuntime) -> Result<(), Fail> {
-    let name = "ports_core_append/f";
-    make_folder(&rt, "ports_core_append")?;
-    let noted = InputFiles::new(rt.alloc());
-    let mut outs = outs_of(rt, &noted);
-    let slot = open_output(&rt, &mut outs, name, Mode::Append, 2)?;
-    same(&rt, &outs.write(slot, b""), &Ok(0));
-    assert!(rt; holds(&rt, name, b"")?);
-    fs::remove_dir_all(&rt, "ports_core_append")?;
-    Ok(())
+    play_in(&rt, rt, "ports_core_append", APPENDED)
 }
 
-/// Opens a file and closes it. It is there, and not broken.
-fn open_and_close(
-    abort: &impl Abort,
-    rt: &HostRuntime,
-    outs: &mut DirOut<'_, HostRuntime>,
-    name: &str,
-    number: usize,
-) -> Result<(), Fault> {
-    let slot = open_output(abort, outs, name, Mode::Fresh, number)?;
-    same(abort, &outs.close(slot), &Ok(()));
-    assert!(abort; is_there(rt, name) && !outs.broken(slot));
-    Ok(())
-}
-
-/// Opens a file and removes it. It isn't there any more, and not broken.
-fn open_and_remove(
-    abort: &impl Abort,
-    rt: &HostRuntime,
-    outs: &mut DirOut<'_, HostRuntime>,
-    name: &str,
-    number: usize,
-) -> Result<(), Fault> {
-    let slot = open_output(abort, outs, name, Mode::Fresh, number)?;
-    outs.remove(slot)?;
-    assert!(abort; !is_there(rt, name) && !outs.broken(slot));
-    Ok(())
-}
+const REMOVED: &[Step<'static>] = &[
+    Step::Close("ports_core_removed/f", 2),
+    Step::Remove("ports_core_removed/g", 3),
+    Step::Lose("ports_core_removed/h", 4),
+];
 
 #[test]
 fn files_are_removed(rt: HostRuntime) -> Result<(), Fail> {
-    make_folder(&rt, "ports_core_removed")?;
-    let noted = InputFiles::new(rt.alloc());
-    let mut outs = outs_of(rt, &noted);
-    open_and_close(&rt, &rt, &mut outs, "ports_core_removed/f", 2)?;
-    open_and_remove(&rt, &rt, &mut outs, "ports_core_removed/g", 3)?;
-    fs::remove_dir_all(&rt, "ports_core_removed")?;
-    let name = "ports_core_removed_by_hand";
-    let gone = open_output(&rt, &mut outs, name, Mode::Fresh, 4)?;
-    fs::remove_file(&rt, name)?;
-    same(&rt, &outs.remove(gone), &Err(Fault::Write(4)));
-    assert!(rt; outs.broken(gone));
-    same(&rt, &outs.reason(gone), &Reason::Missing);
-    Ok(())
+    play_in(&rt, rt, "ports_core_removed", REMOVED)
 }
 
-/// Fails to open an output, which uses up this number.
-fn fail_to_open(
-    rt: &impl Abort,
-    outs: &mut DirOut<'_, HostRuntime>,
-    name: &str,
-    mode: Mode,
-    number: usize,
-) {
-    same(rt, &outs.open(name, mode), &Err(Fault::Open(number)));
-    assert!(rt; outs.broken(number) && outs.name(number) == name);
-}
-
-/// A name with a byte 0, and what would be opened by it if that ended the name.
-const WITH_ZERO: &str = "ports_core_zero/f\0";
-
-const BEFORE_ZERO: &str = "ports_core_zero/f";
+/// A name with a byte 0 opens nothing: neither does what stands before that byte.
+const ZERO: &[Step<'static>] = &[
+    Step::Refuse("ports_core_zero/f\0", Mode::Fresh, 2),
+    Step::Refuse("ports_core_zero/f\0", Mode::Append, 3),
+    Step::Says(2, Reason::NotUtf8),
+    Step::Says(3, Reason::NotUtf8),
+    Step::IsThere("ports_core_zero/f", false),
+    Step::Make("ports_core_zero/f", b"abc"),
+    Step::RefuseInput("ports_core_zero/f\0", 1),
+    Step::InputSays(1, Reason::NotUtf8),
+];
 
 #[test]
 fn nothing_is_opened_by_a_name_with_a_byte_0(rt: HostRuntime) -> Result<(), Fail> {
-    make_folder(&rt, "ports_core_zero")?;
-    let noted = InputFiles::new(rt.alloc());
-    let mut outs = outs_of(rt, &noted);
-    fail_to_open(&rt, &mut outs, WITH_ZERO, Mode::Fresh, 2);
-    fail_to_open(&rt, &mut outs, WITH_ZERO, Mode::Append, 3);
-    same(&rt, &outs.reason(2), &Reason::NotUtf8);
-    same(&rt, &outs.reason(3), &Reason::NotUtf8);
-    assert!(rt; !is_there(&rt, BEFORE_ZERO));
-    fs::write(&rt, BEFORE_ZERO, b"abc")?;
-    let mut inputs = DirIn::new(rt, rt.alloc(), rt.stdin(), &noted);
-    same(&rt, &inputs.open(WITH_ZERO), &Err(Fault::Open(1)));
-    same(&rt, &inputs.reason(1), &Reason::NotUtf8);
-    fs::remove_dir_all(&rt, "ports_core_zero")?;
-    Ok(())
+    play_in(&rt, rt, "ports_core_zero", ZERO)
 }
 
-/// Makes a file that no user but root may open, and fails to open it.
-fn close_off(
-    abort: &impl Abort,
-    rt: HostRuntime,
-    outs: &mut DirOut<'_, HostRuntime>,
-    name: &str,
-) -> Result<(), Fail> {
-    fs::write(&rt, name, b"abc".as_slice())?;
-    fs::set_permissions(&rt, name, fs::Permissions::from_mode(0))?;
-    // Root may open every file, and then there is no fault to see.
-    if fs::open(&rt, name).is_err() {
-        fail_to_open(abort, outs, name, Mode::Fresh, 4);
-        let noted = InputFiles::new(rt.alloc());
-        same(
-            abort,
-            &inputs_of(rt, &noted).open(name),
-            &Err(Fault::Open(1)),
-        );
-    }
-    Ok(())
-}
+/// A folder, a file in no folder, and a file that the user may not open.
+const CLOSED_OFF: &[Step<'static>] = &[
+    Step::Refuse("ports_core_closed_off", Mode::Fresh, 2),
+    Step::Refuse("ports_core_closed_off/no/f", Mode::Append, 3),
+    Step::CloseOff("ports_core_closed_off/f"),
+];
 
 #[test]
 fn outputs_that_do_not_open(rt: HostRuntime) -> Result<(), Fail> {
-    let folder = "ports_core_closed_off";
-    make_folder(&rt, folder)?;
-    let noted = InputFiles::new(rt.alloc());
-    let mut outs = outs_of(rt, &noted);
-    fail_to_open(&rt, &mut outs, folder, Mode::Fresh, 2);
-    fail_to_open(
-        &rt,
-        &mut outs,
-        "ports_core_closed_off/no/f",
-        Mode::Append,
-        3,
-    );
-    close_off(&rt, rt, &mut outs, "ports_core_closed_off/f")?;
-    fs::remove_dir_all(&rt, folder)?;
-    Ok(())
+    play_in(&rt, rt, "ports_core_closed_off", CLOSED_OFF)
 }
+
+const FULL: &[Step<'static>] = &[
+    Step::WriteOnce("/dev/full", Mode::Append, 2, b"abc", Err(Fault::Write(2))),
+    Step::Left(2, "/dev/full", true),
+    Step::Left(0, "standard output", false),
+];
 
 #[test]
 fn an_output_without_room(rt: HostRuntime) -> Result<(), Fail> {
-    let name = "/dev/full";
-    if !is_there(&rt, name) {
-        return Ok(());
+    if is_there(&rt, "/dev/full") {
+        return play(&rt, rt, FULL);
     }
-    let noted = InputFiles::new(rt.alloc());
-    let mut outs = outs_of(rt, &noted);
-    let full = open_output(&rt, &mut outs, name, Mode::Append, 2)?;
-    same(&rt, &outs.write(full, b"abc"), &Err(Fault::Write(2)));
-    assert!(rt; outs.broken(full) && !outs.broken(0) && outs.name(full) == name);
     Ok(())
 }
 
-/// What is asked of a file with four bytes, in pieces of three.
-const FOUR_BYTES: &[Call<'static>] = &[
-    Call::Read(3, 3, b"abc"),
-    Call::Read(3, 1, b"dbc"),
-    Call::Read(3, 0, b"dbc"),
+/// A file with four bytes is read in pieces of three, and then the first piece of it alone.
+const READ: &[Step<'static>] = &[
+    Step::Make("ports_core_read/f", b"abcd"),
+    Step::RefuseInput("ports_core_read/g", 1),
+    Step::Ask(
+        "ports_core_read/f",
+        2,
+        &[
+            Call::Read(3, 3, b"abc"),
+            Call::Read(3, 1, b"dbc"),
+            Call::Read(3, 0, b"dbc"),
+        ],
+    ),
+    Step::Ask("ports_core_read/f", 3, &[Call::Read(3, 3, b"abc")]),
 ];
-
-/// The first piece of it.
-const THREE_BYTES: &[Call<'static>] = &[Call::Read(3, 3, b"abc")];
 
 #[test]
 fn files_are_read(rt: HostRuntime) -> Result<(), Fail> {
-    let name = "ports_core_read/f";
-    make_file(&rt, "ports_core_read", name, b"abcd")?;
-    let noted = InputFiles::new(rt.alloc());
-    let mut inputs = inputs_of(rt, &noted);
-    same(&rt, &inputs.open("ports_core_read/g"), &Err(Fault::Open(1)));
-    open_and_ask(&rt, &mut inputs, name, 2, FOUR_BYTES)?;
-    open_and_ask(&rt, &mut inputs, name, 3, THREE_BYTES)?;
-    fs::remove_dir_all(&rt, "ports_core_read")?;
-    Ok(())
+    play_in(&rt, rt, "ports_core_read", READ)
 }
 
 /// A read into no room, and one into enough.
-const NO_ROOM: &[Call<'static>] = &[Call::Read(0, 0, b""), Call::Read(4, 3, b"abc")];
+const NO_ROOM: &[Step<'static>] = &[
+    Step::Make("ports_core_no_room/f", b"abc"),
+    Step::Ask(
+        "ports_core_no_room/f",
+        1,
+        &[Call::Read(0, 0, b""), Call::Read(4, 3, b"abc")],
+    ),
+];
 
 #[test]
 fn a_read_into_no_room_tells_no_end(rt: HostRuntime) -> Result<(), Fail> {
-    let name = "ports_core_no_room/f";
-    make_file(&rt, "ports_core_no_room", name, b"abc")?;
-    let noted = InputFiles::new(rt.alloc());
-    open_and_ask(&rt, &mut inputs_of(rt, &noted), name, 1, NO_ROOM)?;
-    fs::remove_dir_all(&rt, "ports_core_no_room")?;
-    Ok(())
+    play_in(&rt, rt, "ports_core_no_room", NO_ROOM)
 }
 
 /// A folder opens, and its first read fails.
-const NO_FILE: &[Call<'static>] = &[Call::Fails(8, Fault::Read(1))];
+const FOLDER: &[Step<'static>] = &[Step::Ask(".", 1, &[Call::Fails(8, Fault::Read(1))])];
 
 #[test]
 fn a_folder_is_read(rt: HostRuntime) -> Result<(), Fail> {
-    let noted = InputFiles::new(rt.alloc());
-    open_and_ask(&rt, &mut inputs_of(rt, &noted), ".", 1, NO_FILE)?;
-    Ok(())
+    play(&rt, rt, FOLDER)
 }
 
 /// This many outputs are open at once. Where `tests/files` sets a limit, it is more than the system lets be open, and
 /// files are put aside and opened again.
 const MANY: usize = 300;
 
-/// Outputs to the files 0, 1, .. of a folder, which spare these inputs' files.
-fn open_many<'a>(
-    rt: HostRuntime,
-    noted: &'a InputFiles,
+/// What is done with many outputs, and what must come of it.
+#[derive(Clone, Copy)]
+enum Deed<'a> {
+    /// Lines are written to each in turn, three times.
+    Write,
+    /// The first is closed, and its file is there.
+    Close(&'a str),
+    /// The first is removed, and its file isn't there.
+    Remove(&'a str),
+    /// The file of the first is removed, and the output is written to: that fails and breaks it just as is wanted, since the
+    /// file is missing, and it isn't there.
+    WriteToNone(&'a str, bool),
+}
+
+/// Opens outputs to the files 0, 1, .. of a folder.
+fn open_many(
+    rt: &HostRuntime,
+    outs: &mut DirOut<'_, HostRuntime>,
     folder: &str,
     mode: Mode,
-) -> Result<DirOut<'a, HostRuntime>, Fail>
-    ensures { IfOk result (λ outs. (length outs ≡ MANY + 2) × AllPass can_write outs) }
+) -> Result<(), Fail>
+    requires { outs.old ≡ streams }
+    ensures { OnOk result ((length outs.new ≡ MANY + 2) × AllPass can_write outs.new) }
 {
-    let mut outs = outs_of(rt, noted);
     for number in 0..MANY {
         let name = format!(in rt.alloc(); "{folder}/{number}")?;
         outs.open(name.as_str(), mode)?;
     }
-    Ok(outs)
+    Ok(())
 }
 
 /// Writes to each of the files in turn.
-fn write_many(rt: HostRuntime, outs: &mut DirOut<'_, HostRuntime>, round: usize) -> Result<(), Fail>
+fn write_many(
+    rt: &HostRuntime,
+    outs: &mut DirOut<'_, HostRuntime>,
+    round: usize,
+) -> Result<(), Fail>
     requires many { length outs.old ≡ MANY + 2 }
     requires open { AllPass can_write outs.old }
     ensures { IfOk result (λ _. outs.new ≡ outs.old) }
@@ -364,48 +253,86 @@ fn write_many(rt: HostRuntime, outs: &mut DirOut<'_, HostRuntime>, round: usize)
 }
 
 /// Writes to each of the files in turn, three times.
-fn write_rounds(rt: HostRuntime, folder: &str, mode: Mode) -> Result<(), Fail> {
-    let noted = InputFiles::new(rt.alloc());
-    let mut outs = open_many(rt, &noted, folder, mode)?;
+fn write_rounds(rt: &HostRuntime, outs: &mut DirOut<'_, HostRuntime>) -> Result<bool, Fail>
+    requires many { length outs.old ≡ MANY + 2 }
+    requires open { AllPass can_write outs.old }
+{
     for round in 0..3 {
-        write_many(rt, &mut outs, round)?;
+        write_many(rt, outs, round)?;
     }
-    Ok(())
+    Ok(true)
 }
 
-/// Whether a file of the folder holds the lines of all rounds twice.
-fn holds_rounds(rt: HostRuntime, folder: &str, number: usize) -> Result<bool, Fail> {
+/// Does with many outputs what is to be done, and returns whether that came of it which must.
+fn does(rt: &HostRuntime, outs: &mut DirOut<'_, HostRuntime>, deed: &Deed<'_>) -> Result<bool, Fail>
+    requires many { length outs.old ≡ MANY + 2 }
+    requires open { AllPass can_write outs.old }
+{
+    match deed {
+        Deed::Write => write_rounds(rt, outs),
+        Deed::Close(first) => {
+            let is_done = outs.close(2).is_ok();
+            Ok(is_done && is_there(rt, first) && !outs.broken(2))
+        }
+        Deed::Remove(first) => {
+            let is_done = outs.remove(2).is_ok();
+            Ok(is_done && !is_there(rt, first) && !outs.broken(2))
+        }
+        Deed::WriteToNone(first, is_wanted) => {
+            fs::remove_file(rt, first)?;
+            let fails = outs.write(2, b"abc").is_err();
+            let is_missing = outs.reason(2) == Reason::Missing;
+            let is_so = fails == *is_wanted && is_missing == *is_wanted;
+            Ok(is_so && outs.broken(2) == *is_wanted && !is_there(rt, first))
+        }
+    }
+}
+
+/// Opens many outputs, the first that are opened, and does with them what is to be done.
+fn open_and_do(
+    rt: &HostRuntime,
+    outs: &mut DirOut<'_, HostRuntime>,
+    folder: &str,
+    mode: Mode,
+    deed: &Deed<'_>,
+) -> Result<bool, Fail>
+    requires { outs.old ≡ streams }
+{
+    open_many(rt, outs, folder, mode)?;
+    does(rt, outs, deed)
+}
+
+/// Opens many outputs, does with them what is to be done, and returns whether that came of it which must.
+fn do_with_many(rt: HostRuntime, folder: &str, mode: Mode, deed: &Deed<'_>) -> Result<bool, Fail> {
+    let noted = InputFiles::new(rt.alloc());
+    let mut outs = outs_of(rt, &noted);
+    open_and_do(&rt, &mut outs, folder, mode, deed)
+}
+
+/// Whether a file holds the lines of all rounds twice, which name this number.
+fn holds_lines(rt: &HostRuntime, name: &str, number: usize) -> Result<bool, Fail> {
+    let lines = format!(in rt.alloc();
+        "{number} 0\n{number} 1\n{number} 2\n{number} 0\n{number} 1\n{number} 2\n"
+    )?;
+    holds(rt, name, lines.as_bytes())
+}
+
+/// Whether the file of this number in the folder does.
+fn holds_rounds(rt: &HostRuntime, folder: &str, number: usize) -> Result<bool, Fail> {
     let name = format!(in rt.alloc(); "{folder}/{number}")?;
-    let rounds = format!(in rt.alloc(); "{number} 0\n{number} 1\n{number} 2\n")?;
-    let wanted = format!(in rt.alloc(); "{rounds}{rounds}")?;
-    holds(&rt, name.as_str(), wanted.as_bytes())
+    holds_lines(rt, name.as_str(), number)
 }
 
 #[test]
 fn more_outputs_than_may_be_open(rt: HostRuntime) -> Result<(), Fail> {
     let folder = "ports_core_many";
     make_file(&rt, folder, "ports_core_many/7", b"old")?;
-    write_rounds(rt, folder, Mode::Fresh)?;
-    write_rounds(rt, folder, Mode::Append)?;
+    assert!(rt; do_with_many(rt, folder, Mode::Fresh, &Deed::Write)?);
+    assert!(rt; do_with_many(rt, folder, Mode::Append, &Deed::Write)?);
     for number in 0..MANY {
-        assert!(rt; holds_rounds(rt, folder, number)?, "at {number}");
+        assert!(rt; holds_rounds(&rt, folder, number)?, "at {number}");
     }
-    fs::remove_dir_all(&rt, folder)?;
-    Ok(())
-}
-
-/// Whether the first of many outputs is closed, and its file is there.
-fn is_closed(rt: HostRuntime, folder: &str, first: &str) -> Result<bool, Fail> {
-    let noted = InputFiles::new(rt.alloc());
-    let mut outs = open_many(rt, &noted, folder, Mode::Fresh)?;
-    Ok(outs.close(2).is_ok() && is_there(&rt, first) && !outs.broken(2))
-}
-
-/// Whether the first of many outputs is removed, and its file isn't there.
-fn is_removed(rt: HostRuntime, folder: &str, first: &str) -> Result<bool, Fail> {
-    let noted = InputFiles::new(rt.alloc());
-    let mut outs = open_many(rt, &noted, folder, Mode::Append)?;
-    Ok(outs.remove(2).is_ok() && !is_there(&rt, first) && !outs.broken(2))
+    remove_folder(&rt, folder)
 }
 
 #[test]
@@ -413,10 +340,9 @@ fn what_is_put_aside_is_closed_and_removed(rt: HostRuntime) -> Result<(), Fail> 
     let folder = "ports_core_aside";
     let first = "ports_core_aside/0";
     make_folder(&rt, folder)?;
-    assert!(rt; is_closed(rt, folder, first)?);
-    assert!(rt; is_removed(rt, folder, first)?);
-    fs::remove_dir_all(&rt, folder)?;
-    Ok(())
+    assert!(rt; do_with_many(rt, folder, Mode::Fresh, &Deed::Close(first))?);
+    assert!(rt; do_with_many(rt, folder, Mode::Append, &Deed::Remove(first))?);
+    remove_folder(&rt, folder)
 }
 
 /// Opens files until no more can be opened, or until there are `MANY`.
@@ -436,48 +362,13 @@ fn is_limited(rt: HostRuntime) -> Result<bool, Fail> {
     Ok(take_all(rt)?.len() < MANY)
 }
 
-/// Removes the file of the first of many outputs, and writes to it: whether that fails and breaks the output just as is
-/// wanted, since the file is missing, and it isn't there.
-fn write_to_none(
-    rt: HostRuntime,
-    folder: &str,
-    first: &str,
-    is_wanted: bool,
-) -> Result<bool, Fail> {
-    let noted = InputFiles::new(rt.alloc());
-    let mut outs = open_many(rt, &noted, folder, Mode::Fresh)?;
-    fs::remove_file(&rt, first)?;
-    let fails = outs.write(2, b"abc").is_err();
-    let is_missing = outs.reason(2) == Reason::Missing;
-    Ok(
-        fails == is_wanted
-            && is_missing == is_wanted
-            && outs.broken(2) == is_wanted
-            && !is_there(&rt, first),
-    )
-}
-
 #[test]
 fn what_is_put_aside_is_not_made_anew(rt: HostRuntime) -> Result<(), Fail> {
     let folder = "ports_core_anew";
     make_folder(&rt, folder)?;
-    let is_limited = is_limited(rt)?;
-    assert!(rt; write_to_none(rt, folder, "ports_core_anew/0", is_limited)?);
-    fs::remove_dir_all(&rt, folder)?;
-    Ok(())
-}
-
-/// Opens an output, the first one.
-fn open_first<'a>(
-    rt: HostRuntime,
-    noted: &'a InputFiles,
-    name: &str,
-) -> Result<DirOut<'a, HostRuntime>, Fault>
-    ensures { IfOk result (λ outs. outs ≡ streams ++ opened name.now Mode.Fresh ∷ []) }
-{
-    let mut outs = outs_of(rt, noted);
-    outs.open(name, Mode::Fresh)?;
-    Ok(outs)
+    let deed = Deed::WriteToNone("ports_core_anew/0", is_limited(rt)?);
+    assert!(rt; do_with_many(rt, folder, Mode::Fresh, &deed)?);
+    remove_folder(&rt, folder)
 }
 
 /// Opens a second output and writes to both in turns, and closes the first.
@@ -493,19 +384,62 @@ fn write_in_turns(
     outs.write(2, b"a")?;
     outs.write(3, b"b")?;
     outs.write(2, b"c")?;
-    outs.close(2)?;
-    Ok(())
+    outs.close(2)
+}
+
+/// Writes to the second of two outputs while no more files can be open, and nothing is left to put aside: whether the write
+/// fails, and breaks its output.
+fn write_last(rt: HostRuntime, outs: &mut DirOut<'_, HostRuntime>) -> Result<(bool, bool), Fail>
+    requires { IsTrue (is_writable outs.old 3) }
+{
+    let _last = take_all(rt)?;
+    Ok((outs.write(3, b"d").is_err(), outs.broken(3)))
+}
+
+/// Writes to two outputs, of which the first is open, and then once more to the second.
+fn write_to_both(
+    rt: HostRuntime,
+    outs: &mut DirOut<'_, HostRuntime>,
+    first: &str,
+    second: &str,
+) -> Result<(bool, bool), Fail>
+    requires { outs.old ≡ streams ++ opened first.now Mode.Fresh ∷ [] }
+{
+    write_in_turns(outs, first, second)?;
+    write_last(rt, outs)
+}
+
+/// Does that while no more files can be open than there are.
+fn write_without_files(
+    rt: HostRuntime,
+    outs: &mut DirOut<'_, HostRuntime>,
+    first: &str,
+    second: &str,
+) -> Result<(bool, bool), Fail>
+    requires { outs.old ≡ streams ++ opened first.now Mode.Fresh ∷ [] }
+{
+    let _taken = take_all(rt)?;
+    write_to_both(rt, outs, first, second)
+}
+
+/// Opens the first output, and then does that.
+fn open_and_write(
+    rt: HostRuntime,
+    outs: &mut DirOut<'_, HostRuntime>,
+    first: &str,
+    second: &str,
+) -> Result<(bool, bool), Fail>
+    requires { outs.old ≡ streams }
+{
+    outs.open(first, Mode::Fresh)?;
+    write_without_files(rt, outs, first, second)
 }
 
 /// Writes to two files while no more can be open: whether the last write fails, and breaks its output.
 fn write_to_two(rt: HostRuntime, first: &str, second: &str) -> Result<(bool, bool), Fail> {
     let noted = InputFiles::new(rt.alloc());
-    let mut outs = open_first(rt, &noted, first)?;
-    let _taken = take_all(rt)?;
-    write_in_turns(&mut outs, first, second)?;
-    // Nothing is left to put aside.
-    let _last = take_all(rt)?;
-    Ok((outs.write(3, b"d").is_err(), outs.broken(3)))
+    let mut outs = outs_of(rt, &noted);
+    open_and_write(rt, &mut outs, first, second)
 }
 
 #[test]
@@ -523,16 +457,8 @@ fn one_file_is_open_at_a_time(rt: HostRuntime) -> Result<(), Fail> {
         b"bd".as_slice()
     };
     assert!(rt; holds(&rt, second, written)?);
-    fs::remove_dir_all(&rt, "ports_core_one")?;
-    Ok(())
+    remove_folder(&rt, "ports_core_one")
 }
-
-/// What is asked of a file with three bytes to its end.
-const TO_THE_END: &[Call<'static>] = &[
-    Call::Read(4, 3, b"abc"),
-    Call::Read(4, 0, b""),
-    Call::Read(4, 0, b""),
-];
 
 /// Opens a file many times and reads it to its end. None is left for want of files.
 fn read_many(
@@ -555,16 +481,40 @@ fn open_all(inputs: &mut DirIn<'_, HostRuntime>, name: &str) -> Result<(), Fault
 }
 
 /// Opens a file many times and reads it to its end, and then opens it as often again.
+fn read_and_open_many(
+    abort: &impl Abort,
+    inputs: &mut DirIn<'_, HostRuntime>,
+    name: &str,
+) -> Result<(), Fault> {
+    read_many(abort, inputs, name)?;
+    open_all(inputs, name)
+}
+
+/// Does that with the inputs of a run of its own.
 fn open_and_read_many(rt: HostRuntime, abort: &impl Abort, name: &str) -> Result<(), Fault> {
     let noted = InputFiles::new(rt.alloc());
     let mut inputs = inputs_of(rt, &noted);
-    read_many(abort, &mut inputs, name)?;
-    open_all(&mut inputs, name)
+    read_and_open_many(abort, &mut inputs, name)
 }
 
-/// Reads two inputs, one that was read to its end and one that wasn't, while no more files can be open: whether a read of
-/// the second fails.
-fn read_two(
+/// Opens a third input and reads it, and then two inputs, one that was read to its end and one that wasn't: whether a read of the
+/// last fails.
+fn read_three(
+    abort: &impl Abort,
+    inputs: &mut DirIn<'_, HostRuntime>,
+    name: &str,
+) -> Result<bool, Fail>
+    requires left { IsTrue (is_readable inputs.old 1) }
+    requires ended { IsTrue (is_readable inputs.old 2) }
+{
+    open_input(abort, inputs, name, 3)?;
+    ask(abort, inputs, 3, &[Call::Read(2, 2, b"ab")]);
+    ask(abort, inputs, 2, &[Call::Read(2, 0, b"")]);
+    Ok(inputs.read(1, &mut [0; 2]).is_err())
+}
+
+/// Does that while no more files can be open.
+fn read_without_files(
     rt: HostRuntime,
     abort: &impl Abort,
     inputs: &mut DirIn<'_, HostRuntime>,
@@ -574,31 +524,38 @@ fn read_two(
     requires ended { IsTrue (is_readable inputs.old 2) }
 {
     let _taken = take_all(rt)?;
-    open_input(abort, inputs, name, 3)?;
-    ask(abort, inputs, 3, &[Call::Read(2, 2, b"ab")]);
-    ask(abort, inputs, 2, &[Call::Read(2, 0, b"")]);
-    Ok(inputs.read(1, &mut [0; 2]).is_err())
+    read_three(abort, inputs, name)
+}
+
+/// Opens two inputs and reads the second to its end, opens many more elsewhere, and reads both while no more files can be open: a
+/// read of the first fails if few may be open.
+fn read_two(
+    rt: HostRuntime,
+    abort: &impl Abort,
+    inputs: &mut DirIn<'_, HostRuntime>,
+    name: &str,
+) -> Result<(), Fail> {
+    open_input(abort, inputs, name, 1)?;
+    open_input(abort, inputs, name, 2)?;
+    let calls = &[Call::Read(4, 3, b"abc"), Call::Read(4, 0, b"")];
+    assert!(abort; ask(abort, inputs, 2, calls));
+    let is_limited = is_limited(rt)?;
+    open_and_read_many(rt, abort, name)?;
+    assert!(abort; read_without_files(rt, abort, inputs, name)? == is_limited);
+    Ok(())
+}
+
+/// Does that with the inputs of a run.
+fn open_and_read_two(rt: HostRuntime, abort: &impl Abort, name: &str) -> Result<(), Fail> {
+    let noted = InputFiles::new(rt.alloc());
+    let mut inputs = inputs_of(rt, &noted);
+    read_two(rt, abort, &mut inputs, name)
 }
 
 #[test]
 fn more_inputs_than_may_be_open(rt: HostRuntime) -> Result<(), Fail> {
     let name = "ports_core_inputs/f";
     make_file(&rt, "ports_core_inputs", name, b"abc")?;
-    let noted = InputFiles::new(rt.alloc());
-    let mut inputs = inputs_of(rt, &noted);
-    open_input(&rt, &mut inputs, name, 1)?;
-    open_input(&rt, &mut inputs, name, 2)?;
-    assert!(rt;
-        ask(
-            &rt,
-            &mut inputs,
-            2,
-            &[Call::Read(4, 3, b"abc"), Call::Read(4, 0, b"")]
-        )
-    );
-    let is_limited = is_limited(rt)?;
-    open_and_read_many(rt, &rt, name)?;
-    assert!(rt; read_two(rt, &rt, &mut inputs, name)? == is_limited);
-    fs::remove_dir_all(&rt, "ports_core_inputs")?;
-    Ok(())
+    open_and_read_two(rt, &rt, name)?;
+    remove_folder(&rt, "ports_core_inputs")
 }

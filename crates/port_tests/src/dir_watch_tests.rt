@@ -3,10 +3,10 @@ ghost use Rattle.std.specs.Prelude.{◌≡◌, IsTrue, IfOk, OnOk};
 ghost use Rattle.watch_core.specs.Watched.{is_readable, is_watchable};
 
 use crate::compare::same;
-use crate::folder::{append, make_file, make_folder};
+use crate::folder::{append, make_file, make_folder, remove_folder};
 use ports_core::{Fault, Reason};
 use std::fs;
-use std::io::{self, PipeWriter, Write};
+use std::io::{self, PipeReader, PipeWriter, Write};
 use std::os::fd::AsRawFd;
 use std::os::unix::fs::symlink;
 use std::process::Abort;
@@ -193,8 +193,7 @@ fn play_with(
         assert!(abort; is_so, "at step {number}");
         number = number.saturating_add(1);
     }
-    fs::remove_dir_all(rt, folder)?;
-    Ok(())
+    remove_folder(rt, folder)
 }
 
 /// Takes a step, and returns whether that came of it which must.
@@ -448,21 +447,32 @@ fn looks_wait_for_a_name_at_rest(rt: HostRuntime) -> Result<(), Fail> {
 /// How many milliseconds a look is waited for at most.
 const WAITS: &[u64] = &[20, 300];
 
-/// Whether a second look begins after this number of milliseconds or later, and before a second, where that was asked for.
-fn begins_within(rt: HostRuntime, most: u64) -> Result<bool, Fail> {
-    let mut watch = DirWatch::new(rt, rt.alloc());
+/// How long a second look is waited for.
+fn waits(rt: &HostRuntime, watch: &mut DirWatch<HostRuntime>) -> Result<Duration, Fail> {
+    watch.turn()?;
+    let start = Instant::now(rt)?;
+    watch.turn()?;
+    let passed = start.elapsed(rt)?;
+    Ok(passed)
+}
+
+/// How long a second look is waited for where a look is asked for within this number of milliseconds.
+fn waits_at_most(rt: &HostRuntime, most: u64) -> Result<Duration, Fail> {
+    let mut watch = DirWatch::new(*rt, rt.alloc());
     watch.wait_at_most(most);
-    watch.turn()?;
-    let start = Instant::now(&rt)?;
-    watch.turn()?;
-    let passed = start.elapsed(&rt)?;
+    waits(rt, &mut watch)
+}
+
+/// Whether a second look begins after this number of milliseconds or later, and before a second, where that was asked for.
+fn begins_within(rt: &HostRuntime, most: u64) -> Result<bool, Fail> {
+    let passed = waits_at_most(rt, most)?;
     Ok(passed >= Duration::from_millis(most) && passed < Duration::from_secs(1))
 }
 
 #[test]
 fn looks_begin_within_what_was_asked(rt: HostRuntime) -> Result<(), Fail> {
     for most in WAITS {
-        assert!(rt; begins_within(rt, *most)?, "{most} milliseconds");
+        assert!(rt; begins_within(&rt, *most)?, "{most} milliseconds");
     }
     Ok(())
 }
@@ -543,18 +553,32 @@ fn a_name_that_leads_to_itself_is_forgiven(rt: HostRuntime) -> Result<(), Fail> 
     play_forgiving(&rt, &rt, "watch_core_looped", "watch_core_looped/f", LOOPED)
 }
 
+/// Whether the next look sees a file, and whether one is opened.
+fn is_found(watch: &mut DirWatch<HostRuntime>) -> Result<(bool, bool), Fault>
+    requires { IsTrue (is_watchable watch.old.watched 0) }
+    ensures { OnOk result (IsTrue (is_watchable watch.new.watched 0)) }
+{
+    let found = next_seen(watch)?;
+    let is_there = opened(watch)?;
+    Ok((found.is_some(), is_there))
+}
+
 #[test]
 fn a_name_in_no_folder(rt: HostRuntime) -> Result<(), Fail> {
     let mut watch = watch_of(rt, "watch_core_no_folder/f")?;
-    let found = next_seen(&mut watch)?;
-    let is_there = opened(&mut watch)?;
-    assert!(rt; found.is_none() && !is_there);
+    same(&rt, &is_found(&mut watch), &Ok((false, false)));
     Ok(())
+}
+
+/// Whether a first look at this name returns that it can't be opened.
+fn fails_to_look(rt: HostRuntime, name: &str) -> Result<bool, Fault> {
+    let mut watch = watch_of(rt, name)?;
+    Ok(watch.look(0) == Err(Fault::Open(0)))
 }
 
 /// Whether a first look at this name, and a first opening, return that it can't be opened. Then no file is open.
 fn fails_to_open(rt: HostRuntime, name: &str) -> Result<bool, Fault> {
-    let looked = watch_of(rt, name)?.look(0) == Err(Fault::Open(0));
+    let looked = fails_to_look(rt, name)?;
     let mut watch = watch_of(rt, name)?;
     let opened = watch.reopen(0) == Err(Fault::Open(0));
     Ok(looked && opened && watch.open_id(0).is_none())
@@ -565,8 +589,7 @@ fn a_file_as_a_folder(rt: HostRuntime) -> Result<(), Fail> {
     let folder = "watch_core_as_folder";
     make_file(&rt, folder, "watch_core_as_folder/f", b"abc")?;
     assert!(rt; fails_to_open(rt, "watch_core_as_folder/f/g")?);
-    fs::remove_dir_all(&rt, folder)?;
-    Ok(())
+    remove_folder(&rt, folder)
 }
 
 /// A name that no file can have, since it has a byte 0.
@@ -581,34 +604,28 @@ fn a_name_with_a_byte_0_breaks_though_the_watch_forgives(rt: HostRuntime) -> Res
     Ok(())
 }
 
-/// The file that a name leads to and that is opened: its first read fails.
-fn breaks_at_its_first_read(
-    abort: &impl Abort,
-    watch: &mut DirWatch<HostRuntime>,
-) -> Result<(), Fault>
+/// Whether the file that a name leads to is opened, and its first read fails and gives it back: no file of the name is open then.
+fn breaks_at_its_first_read(watch: &mut DirWatch<HostRuntime>) -> Result<bool, Fault>
     requires { IsTrue (is_watchable watch.old.watched 0) }
 {
-    let found = next_seen(watch)?;
-    let is_there = opened(watch)?;
-    assert!(abort; is_there && found.is_some());
-    same(
-        abort,
-        &read_at(watch, 0, &mut [0u8; 3]),
-        &Err(Fault::Read(0)),
-    );
+    let found = is_found(watch)?;
+    let is_refused = read_at(watch, 0, &mut [0u8; 3]) == Err(Fault::Read(0));
+    Ok(found == (true, true) && is_refused && watch.open_id(0).is_none())
+}
+
+/// Reads a folder, once that is opened.
+fn read_folder(rt: HostRuntime, abort: &impl Abort, folder: &str) -> Result<(), Fault> {
+    let mut watch = watch_of(rt, folder)?;
+    same(abort, &breaks_at_its_first_read(&mut watch), &Ok(true));
+    same(abort, &watch.reason(0), &Reason::Folder);
     Ok(())
 }
 
 #[test]
 fn a_folder_breaks_at_its_first_read(rt: HostRuntime) -> Result<(), Fail> {
     make_folder(&rt, "watch_core_folder")?;
-    let mut watch = watch_of(rt, "watch_core_folder")?;
-    breaks_at_its_first_read(&rt, &mut watch)?;
-    // It is given back, so that no file of the name is open.
-    same(&rt, &watch.open_id(0), &None);
-    same(&rt, &watch.reason(0), &Reason::Folder);
-    fs::remove_dir_all(&rt, "watch_core_folder")?;
-    Ok(())
+    read_folder(rt, &rt, "watch_core_folder")?;
+    remove_folder(&rt, "watch_core_folder")
 }
 
 /// Whether what is open has this length, and a read of three bytes from a place on gives these.
@@ -623,13 +640,13 @@ fn has(watch: &mut DirWatch<HostRuntime>, len: u64, from: u64, bytes: &[u8]) -> 
     Ok(held == len && given == bytes)
 }
 
-/// Opens a pipe that holds four bytes, and looks at it again after more were written, and after its writer is gone: whether it
-/// opens, and has what was written.
+/// Opens a pipe that holds four bytes, and looks at it again after more were written: whether it opens, and has what was written.
 fn is_read_as_it_comes(
     watch: &mut DirWatch<HostRuntime>,
-    mut writer: PipeWriter,
+    writer: &mut PipeWriter,
 ) -> Result<bool, Fail>
     requires { IsTrue (is_watchable watch.old.watched 0) }
+    ensures { IfOk result (λ is_so. IsTrue is_so → IsTrue (is_readable watch.new.watched 0)) }
 {
     watch.turn()?;
     if !opened(watch)? {
@@ -640,43 +657,83 @@ fn is_read_as_it_comes(
     writer.write_all(b"ef")?;
     watch.turn()?;
     let more = has(watch, 6, 4, b"ef")?;
-    drop(writer);
+    Ok(front && last && more)
+}
+
+/// The same, and then the writer is gone.
+fn is_read_until_the_end(
+    watch: &mut DirWatch<HostRuntime>,
+    mut writer: PipeWriter,
+) -> Result<bool, Fail>
+    requires { IsTrue (is_watchable watch.old.watched 0) }
+    ensures { IfOk result (λ is_so. IsTrue is_so → IsTrue (is_readable watch.new.watched 0)) }
+{
+    is_read_as_it_comes(watch, &mut writer)
+}
+
+/// The same, and then looks at the pipe once more: whether it has what was written, and no more.
+fn is_read_to_the_end(watch: &mut DirWatch<HostRuntime>, writer: PipeWriter) -> Result<bool, Fail>
+    requires { IsTrue (is_watchable watch.old.watched 0) }
+{
+    if !is_read_until_the_end(watch, writer)? {
+        return Ok(false);
+    }
     watch.turn()?;
     let end = has(watch, 6, 6, b"")?;
-    Ok(front && last && more && end)
+    Ok(end)
+}
+
+/// Writes four bytes to a pipe, and returns the name of the end from which they are read.
+fn fill(rt: &HostRuntime, reader: &PipeReader, writer: &mut PipeWriter) -> Result<String, Fail> {
+    writer.write_all(b"abcd")?;
+    let number = reader.as_raw_fd();
+    let name = format!(in rt.alloc(); "/proc/self/fd/{number}")?;
+    Ok(name)
+}
+
+/// Watches a pipe of this name.
+fn watch_pipe(rt: HostRuntime, name: &str, writer: PipeWriter) -> Result<bool, Fail> {
+    let mut watch = watch_of(rt, name)?;
+    is_read_to_the_end(&mut watch, writer)
+}
+
+/// Whether what is written to a pipe is read as it comes.
+fn is_pipe_read(rt: HostRuntime) -> Result<bool, Fail> {
+    let (reader, mut writer) = io::pipe(&rt)?;
+    let name = fill(&rt, &reader, &mut writer)?;
+    watch_pipe(rt, name.as_str(), writer)
 }
 
 #[test]
 fn a_pipe_is_read_as_it_comes(rt: HostRuntime) -> Result<(), Fail> {
-    let (reader, mut writer) = io::pipe(&rt)?;
-    let number = reader.as_raw_fd();
-    let name = format!(in rt.alloc(); "/proc/self/fd/{number}")?;
-    writer.write_all(b"abcd")?;
-    let mut watch = watch_of(rt, name.as_str())?;
-    assert!(rt; is_read_as_it_comes(&mut watch, writer)?);
+    assert!(rt; is_pipe_read(rt)?);
     Ok(())
 }
 
-/// The length of what a name leads to, once it is opened. None where it can't be.
-fn len_at(rt: HostRuntime, name: &str) -> Result<Option<u64>, Fail> {
-    let mut watch = watch_of(rt, name)?;
+/// The length of what the watched name leads to, once it is opened. None where it can't be.
+fn next_len(watch: &mut DirWatch<HostRuntime>) -> Result<Option<u64>, Fault>
+    requires { IsTrue (is_watchable watch.old.watched 0) }
+{
     watch.turn()?;
-    if !opened(&mut watch)? {
+    if !opened(watch)? {
         return Ok(None);
     }
     let len = watch.open_len(0)?;
     Ok(Some(len))
 }
 
+/// The length of what this name leads to, once it is opened. None where it can't be.
+fn len_at(rt: HostRuntime, name: &str) -> Result<Option<u64>, Fault> {
+    let mut watch = watch_of(rt, name)?;
+    next_len(&mut watch)
+}
+
 #[test]
 fn files_without_a_length(rt: HostRuntime) -> Result<(), Fail> {
-    same(&rt, &len_at(rt, "/dev/null")?, &Some(0));
+    same(&rt, &len_at(rt, "/dev/null"), &Ok(Some(0)));
     let version = fs::read(&rt, "/proc/version")?;
     assert!(rt; !version.is_empty());
-    same(
-        &rt,
-        &len_at(rt, "/proc/version")?,
-        &Some(version.len() as u64),
-    );
+    let wanted = Ok(Some(version.len() as u64));
+    same(&rt, &len_at(rt, "/proc/version"), &wanted);
     Ok(())
 }

@@ -11,6 +11,12 @@ pub(crate) fn make_folder(rt: &HostRuntime, folder: &str) -> Result<(), Fail> {
     Ok(())
 }
 
+/// Removes a folder and all that is in it.
+pub(crate) fn remove_folder(rt: &HostRuntime, folder: &str) -> Result<(), Fail> {
+    fs::remove_dir_all(rt, folder)?;
+    Ok(())
+}
+
 /// A folder with one file, which has this name and these bytes.
 pub(crate) fn make_file(
     rt: &HostRuntime,

@@ -1,7 +1,7 @@
 //! Calls of which `tests/refusals` refuses each growth of memory in turn. Without a refusal both tests of a pair pass; where one
 //! growth is refused, the test `NAME` fails, and `NAME_or_are_refused` passes: the call says so, what was there stays, and the same
 //! call made again has its result.
-use crate::compare::same;
+use crate::compare::{same, same_bytes};
 use mem_core::{Edit, MemIn, MemOut, MemWatch};
 use ports_core::{
     Alphabet, Base, Fault, Filling, Form, Inputs, Mode, Names, Naming, Numbering, Outs, Tool,
@@ -98,14 +98,12 @@ fn is_refusal(call: Call, fault: Fault) -> bool {
 /// Makes a call, after others, and checks what it gives; and makes it again where it was refused. Returns the first refusal.
 fn makes(rt: &impl Abort, alloc: Global, call: Call) -> Result<(), Fault> {
     match call {
-        Call::Inputs => MemIn::new(alloc).map(|_| ()),
-        Call::Input => input(rt, alloc),
-        Call::InputShowing => input_showing(rt, alloc),
-        Call::File => file(rt, alloc),
-        Call::FileShowing => file_showing(rt, alloc),
-        Call::Break => break_off(rt, alloc),
+        Call::Inputs => end_of(MemIn::new(alloc)),
+        Call::Input | Call::InputShowing | Call::File | Call::FileShowing | Call::Break => {
+            give_inputs(rt, alloc, call)
+        }
         Call::OpenInput => open_input(rt, alloc),
-        Call::Outputs => MemOut::new(alloc).map(|_| ()),
+        Call::Outputs => end_of(MemOut::new(alloc)),
         Call::Limit => limit(rt, alloc),
         Call::OpenOutput => open_output(rt, alloc),
         Call::Write => write(rt, alloc),
@@ -115,16 +113,24 @@ fn makes(rt: &impl Abort, alloc: Global, call: Call) -> Result<(), Fault> {
 
 fn makes_more(rt: &impl Abort, alloc: Global, call: Call) -> Result<(), Fault> {
     match call {
-        Call::Watch => MemWatch::new(alloc).map(|_| ()),
+        Call::Watch => end_of(MemWatch::new(alloc)),
         Call::Then => then(rt, alloc),
         Call::Add => add(rt, alloc),
         Call::Turn => turn(rt, alloc),
-        Call::Names => Names::new(alloc, "x", Alphabet::Letters, 2, true, ".txt").map(|_| ()),
+        Call::Names => end_of(Names::new(alloc, "x", Alphabet::Letters, 2, true, ".txt")),
         Call::Next => next(rt, alloc),
-        Call::Numbered => numbered(alloc, "xx", 2, 7).map(|_| ()),
+        Call::Numbered => end_of(numbered(alloc, "xx", 2, 7)),
         Call::Formatted => formatted(alloc),
-        Call::Header => header(alloc, "f", false).map(|_| ()),
-        _ => message(alloc, Tool::Head, &Fault::Open(1), "g").map(|_| ()),
+        Call::Header => end_of(header(alloc, "f", false)),
+        _ => end_of(message(alloc, Tool::Head, &Fault::Open(1), "g")),
+    }
+}
+
+/// How a call ended, whatever it made.
+fn end_of<T: Drop>(made: Result<T, Fault>) -> Result<(), Fault> {
+    match made {
+        Ok(_) => Ok(()),
+        Err(fault) => Err(fault),
     }
 }
 
@@ -138,68 +144,47 @@ fn formatted(alloc: Global) -> Result<(), Fault> {
         precision: 30,
     };
     let naming = Naming::new(alloc, "xx", Numbering::Formatted(form), ".txt")?;
-    naming.name_at(7).map(|_| ())
+    end_of(naming.name_at(7))
 }
 
-fn input(rt: &impl Abort, alloc: Global) -> Result<(), Fault> {
-    let mut inputs = MemIn::new(alloc)?;
-    let first = inputs.input(b"abc");
-    if first.is_err() {
-        same(rt, &inputs.input(b"abc"), &Ok(()));
+/// Gives inputs something to read, or lets one break off.
+fn give(inputs: &mut MemIn, call: Call) -> Result<(), Fault> {
+    match call {
+        Call::Input => inputs.input(b"abc"),
+        Call::InputShowing => inputs.input_showing(b"abc", b"xyz"),
+        Call::File => inputs.file("f", b"abc"),
+        Call::FileShowing => inputs.file_showing("f", b"abc", b"xyz"),
+        _ => inputs.break_at(1, 2),
     }
-    first
 }
 
-fn input_showing(rt: &impl Abort, alloc: Global) -> Result<(), Fault> {
+fn give_inputs(rt: &impl Abort, alloc: Global, call: Call) -> Result<(), Fault> {
     let mut inputs = MemIn::new(alloc)?;
-    let first = inputs.input_showing(b"abc", b"xyz");
+    let first = give(&mut inputs, call);
     if first.is_err() {
-        same(rt, &inputs.input_showing(b"abc", b"xyz"), &Ok(()));
-    }
-    first
-}
-
-fn file(rt: &impl Abort, alloc: Global) -> Result<(), Fault> {
-    let mut inputs = MemIn::new(alloc)?;
-    let first = inputs.file("f", b"abc");
-    if first.is_err() {
-        same(rt, &inputs.file("f", b"abc"), &Ok(()));
-    }
-    first
-}
-
-fn file_showing(rt: &impl Abort, alloc: Global) -> Result<(), Fault> {
-    let mut inputs = MemIn::new(alloc)?;
-    let first = inputs.file_showing("f", b"abc", b"xyz");
-    if first.is_err() {
-        same(rt, &inputs.file_showing("f", b"abc", b"xyz"), &Ok(()));
-    }
-    first
-}
-
-fn break_off(rt: &impl Abort, alloc: Global) -> Result<(), Fault> {
-    let mut inputs = MemIn::new(alloc)?;
-    let first = inputs.break_at(1, 2);
-    if first.is_err() {
-        same(rt, &inputs.break_at(1, 2), &Ok(()));
+        same(rt, &give(&mut inputs, call), &Ok(()));
     }
     first
 }
 
 /// An input that found no room has no number, and gets the same one at the second try.
-fn open_input(rt: &impl Abort, alloc: Global) -> Result<(), Fault> {
-    let mut inputs = MemIn::new(alloc)?;
+fn open_file(rt: &impl Abort, inputs: &mut MemIn) -> Result<(), Fault> {
     inputs.file("f", b"abc")?;
     match inputs.open("f") {
         Ok(slot) => {
-            assert_eq!(rt; slot, 1);
+            same(rt, &slot, &1);
             Ok(())
         }
         Err(fault) => {
-            assert_eq!(rt; inputs.open("f"), Ok(1));
+            same(rt, &inputs.open("f"), &Ok(1));
             Err(fault)
         }
     }
+}
+
+fn open_input(rt: &impl Abort, alloc: Global) -> Result<(), Fault> {
+    let mut inputs = MemIn::new(alloc)?;
+    open_file(rt, &mut inputs)
 }
 
 fn limit(rt: &impl Abort, alloc: Global) -> Result<(), Fault> {
@@ -216,12 +201,12 @@ fn open_output(rt: &impl Abort, alloc: Global) -> Result<(), Fault> {
     let mut outs = MemOut::new(alloc)?;
     match outs.open("f", Mode::Fresh) {
         Ok(slot) => {
-            assert_eq!(rt; slot, 2);
+            same(rt, &slot, &2);
             Ok(())
         }
         Err(fault) => {
             assert!(rt; outs.broken(2) && outs.bytes(2).is_empty());
-            assert_eq!(rt; outs.open("f", Mode::Fresh), Ok(3));
+            same(rt, &outs.open("f", Mode::Fresh), &Ok(3));
             Err(fault)
         }
     }
@@ -232,7 +217,7 @@ fn write(rt: &impl Abort, alloc: Global) -> Result<(), Fault> {
     let mut outs = MemOut::new(alloc)?;
     match write_whole(&mut outs, 0, b"abc") {
         Ok(()) => {
-            assert_eq!(rt; outs.bytes(0), b"abc".as_slice());
+            same_bytes(rt, outs.bytes(0), b"abc");
             Ok(())
         }
         Err(cut) => {
@@ -243,8 +228,8 @@ fn write(rt: &impl Abort, alloc: Global) -> Result<(), Fault> {
     }
 }
 
-fn then(rt: &impl Abort, alloc: Global) -> Result<(), Fault> {
-    let mut watch = MemWatch::new(alloc)?;
+/// Plans a look, and then another one.
+fn plan_two(rt: &impl Abort, watch: &mut MemWatch) -> Result<(), Fault> {
     watch.then(&[Edit::Replace("f", b"abc")])?;
     let edits = &[
         Edit::Append("f", b"d"),
@@ -258,24 +243,28 @@ fn then(rt: &impl Abort, alloc: Global) -> Result<(), Fault> {
     first
 }
 
+fn then(rt: &impl Abort, alloc: Global) -> Result<(), Fault> {
+    let mut watch = MemWatch::new(alloc)?;
+    plan_two(rt, &mut watch)
+}
+
 /// A name that found no room has no number.
 fn add(rt: &impl Abort, alloc: Global) -> Result<(), Fault> {
     let mut watch = MemWatch::new(alloc)?;
     match watch.add("f") {
         Ok(place) => {
-            assert_eq!(rt; place, 0);
+            same(rt, &place, &0);
             Ok(())
         }
         Err(fault) => {
-            assert_eq!(rt; watch.add("f"), Ok(0));
+            same(rt, &watch.add("f"), &Ok(0));
             Err(fault)
         }
     }
 }
 
 /// A look that wasn't planned needs room for what it sees.
-fn turn(rt: &impl Abort, alloc: Global) -> Result<(), Fault> {
-    let mut watch = MemWatch::new(alloc)?;
+fn look_on(rt: &impl Abort, watch: &mut MemWatch) -> Result<(), Fault> {
     watch.then(&[Edit::Replace("f", b"abc")])?;
     watch.turn()?;
     let first = watch.turn();
@@ -285,21 +274,37 @@ fn turn(rt: &impl Abort, alloc: Global) -> Result<(), Fault> {
     first
 }
 
+fn turn(rt: &impl Abort, alloc: Global) -> Result<(), Fault> {
+    let mut watch = MemWatch::new(alloc)?;
+    look_on(rt, &mut watch)
+}
+
+/// Whether this name was drawn.
+fn is_name(drawn: Option<String>, wanted: &str) -> bool {
+    match drawn {
+        Some(name) => name.as_str() == wanted,
+        None => false,
+    }
+}
+
+/// Draws a name, which is this one.
+fn draw(rt: &impl Abort, names: &mut Names, wanted: &str) -> Result<(), Fault> {
+    let drawn = names.next()?;
+    assert!(rt; is_name(drawn, wanted));
+    Ok(())
+}
+
 /// A name that wasn't drawn is the next one.
+fn draw_two(rt: &impl Abort, names: &mut Names) -> Result<(), Fault> {
+    let first = draw(rt, names, "xaa");
+    if first.is_err() {
+        draw(rt, names, "xaa")?;
+    }
+    draw(rt, names, "xab")?;
+    first
+}
+
 fn next(rt: &impl Abort, alloc: Global) -> Result<(), Fault> {
     let mut names = Names::new(alloc, "x", Alphabet::Letters, 2, true, "")?;
-    let first = match names.next() {
-        Ok(drawn) => {
-            assert!(rt; drawn.is_some_and(|name| name.as_str() == "xaa"));
-            Ok(())
-        }
-        Err(fault) => {
-            let again = names.next()?;
-            assert!(rt; again.is_some_and(|name| name.as_str() == "xaa"));
-            Err(fault)
-        }
-    };
-    let second = names.next()?;
-    assert!(rt; second.is_some_and(|name| name.as_str() == "xab"));
-    first
+    draw_two(rt, &mut names)
 }

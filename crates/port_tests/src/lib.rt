@@ -4,6 +4,8 @@
 #[cfg(test)]
 mod compare;
 #[cfg(test)]
+mod dir_steps;
+#[cfg(test)]
 mod dir_tests;
 #[cfg(test)]
 mod dir_watch_tests;

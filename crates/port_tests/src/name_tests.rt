@@ -1,16 +1,25 @@
 //! Names at the places where they widen or end, numbers in a form, and headers.
-use crate::compare::same_bytes;
+ghost use Rattle.ports_core.specs.Name.{IsWide};
+
+use crate::compare::{same, same_bytes};
 use ports_core::{
     Alphabet, Base, Fault, Filling, Form, Names, Naming, Numbering, header, numbered,
 };
+use std::alloc::Global;
+use std::process::Abort;
 use std::test::Fail;
 
 /// Draws names up to a place, and returns the one there.
-fn name_at(mut names: Names, place: u64) -> Result<Option<String>, Fault> {
+fn next_at(names: &mut Names, place: u64) -> Result<Option<String>, Fault> {
     for _ in 0..place {
         names.next()?;
     }
     names.next()
+}
+
+/// Draws names up to a place, of these alone, and returns the one there.
+fn name_at(mut names: Names, place: u64) -> Result<Option<String>, Fault> {
+    next_at(&mut names, place)
 }
 
 /// Whether a name was drawn and is as wanted, or none was drawn and none is wanted.
@@ -50,18 +59,23 @@ fn names_widen(rt: HostRuntime) -> Result<(), Fail> {
     Ok(())
 }
 
+/// Draws names of one letter: all that there are, and then none.
+fn draw_letters(abort: &impl Abort, names: &mut Names) -> Result<(), Fault> {
+    for letter in b'a'..=b'z' {
+        let drawn = names.next()?;
+        assert!(abort; is_name(drawn, Some(&[b'x', letter])), "at {letter}");
+    }
+    for _ in 0..2 {
+        let drawn = names.next()?;
+        assert!(abort; is_name(drawn, None));
+    }
+    Ok(())
+}
+
 #[test]
 fn a_fixed_width_ends(rt: HostRuntime) -> Result<(), Fail> {
     let mut names = Names::new(rt.alloc(), "x", Alphabet::Letters, 1, false, "")?;
-    for letter in b'a'..=b'z' {
-        assert!(rt;
-            is_name(names.next()?, Some(&[b'x', letter])),
-            "at {letter}"
-        );
-    }
-    for _ in 0..2 {
-        assert!(rt; is_name(names.next()?, None));
-    }
+    same(&rt, &draw_letters(&rt, &mut names), &Ok(()));
     Ok(())
 }
 
@@ -96,16 +110,26 @@ const FROM_A_NUMBER: &[Numbered<'static>] = &[
     (Alphabet::Hex, 16, 1, 18_446_744_073_709_551_615, None),
 ];
 
+/// The name at a place.
+fn name_of(
+    alloc: Global,
+    prefix: &str,
+    numbering: Numbering,
+    place: u64,
+) -> Result<Option<String>, Fault>
+    requires { IsWide numbering }
+{
+    let naming = Naming::new(alloc, prefix, numbering, "")?;
+    naming.name_at(place)
+}
+
 #[test]
 fn names_begin_at_a_number(rt: HostRuntime) -> Result<(), Fail> {
     for (alphabet, width, from, place, wanted) in FROM_A_NUMBER {
         let numbering = Numbering::Fixed(*alphabet, *width, *from);
-        let naming = Naming::new(rt.alloc(), "x", numbering, "")?;
+        let drawn = name_of(rt.alloc(), "x", numbering, *place)?;
         let wanted = wanted.map(|name| name.as_bytes());
-        assert!(rt;
-            is_name(naming.name_at(*place)?, wanted),
-            "at {from} and {place}"
-        );
+        assert!(rt; is_name(drawn, wanted), "at {from} and {place}");
     }
     Ok(())
 }
@@ -277,11 +301,9 @@ const FORMATTED: &[(Written, u64, &str)] = &[
 fn numbers_have_a_form(rt: HostRuntime) -> Result<(), Fail> {
     for (written, number, wanted) in FORMATTED {
         let numbering = Numbering::Formatted(form(*written));
-        let naming = Naming::new(rt.alloc(), "", numbering, "")?;
-        assert!(rt;
-            is_name(naming.name_at(*number)?, Some(wanted.as_bytes())),
-            "{wanted} at {number}"
-        );
+        let drawn = name_of(rt.alloc(), "", numbering, *number)?;
+        let is_so = is_name(drawn, Some(wanted.as_bytes()));
+        assert!(rt; is_so, "{wanted} at {number}");
     }
     Ok(())
 }

@@ -1,8 +1,10 @@
 //! Looking at what inputs show, and passing over a front of them: in memory, and over real files.
-ghost use Rattle.std.specs.Prelude.{IsTrue};
-ghost use Rattle.ports_core.specs.Source.{is_readable};
+ghost use Rattle.std.specs.Prelude.{◌≡◌, ◌∷◌, [], IsTrue};
+ghost use Rattle.ports_core.specs.Source.{is_readable, source_of, unshown};
 
-use crate::folder::{is_there, make_file};
+use crate::compare::same;
+use crate::dir_steps::{Step, play, play_in};
+use crate::folder::{is_there, make_file, remove_folder};
 use crate::reading::{Call, ask, broken_input, inputs_of, open_and_ask, open_input};
 use mem_core::MemIn;
 use ports_core::{DirIn, Fault, InputFiles, Inputs};
@@ -29,12 +31,17 @@ const SIX_LETTERS: &[Call<'static>] = &[
     Call::Shows(3, b"def"),
 ];
 
+/// Asks a file that gives one byte at a time.
+fn ask_in_pieces(abort: &impl Abort, inputs: &mut MemIn) -> Result<(), Fault> {
+    inputs.file("f", b"abcdef")?;
+    inputs.pieces(1);
+    open_and_ask(abort, inputs, "f", 1, SIX_LETTERS)
+}
+
 #[test]
 fn memory_is_looked_at_from_any_place(rt: HostRuntime) -> Result<(), Fail> {
     let mut inputs = MemIn::new(rt.alloc())?;
-    inputs.file("f", b"abcdef")?;
-    inputs.pieces(1);
-    open_and_ask(&rt, &mut inputs, "f", 1, SIX_LETTERS)?;
+    same(&rt, &ask_in_pieces(&rt, &mut inputs), &Ok(()));
     Ok(())
 }
 
@@ -100,31 +107,45 @@ const CHANGING: &[Row<'static>] = &[
 #[test]
 fn memory_shows_what_it_was_given_to_show(rt: HostRuntime) -> Result<(), Fail> {
     for row in CHANGING {
-        ask_both(&rt, rt.alloc(), row)?;
+        ask_new(&rt, rt.alloc(), row)?;
     }
     Ok(())
 }
 
 /// Asks a file and standard input.
-fn ask_both(rt: &impl Abort, alloc: Global, row: &Row<'_>) -> Result<(), Fault> {
+fn ask_both(abort: &impl Abort, inputs: &mut MemIn, row: &Row<'_>) -> Result<(), Fault>
+    requires { inputs.old.sources ≡ source_of (unshown []) ∷ [] }
+{
     let (bytes, shown, calls) = *row;
-    let mut inputs = MemIn::new(alloc)?;
     inputs.input_showing(bytes, shown)?;
     inputs.file_showing("f", bytes, shown)?;
-    ask(rt, &mut inputs, 0, calls);
-    open_and_ask(rt, &mut inputs, "f", 1, calls)
+    ask(abort, inputs, 0, calls);
+    open_and_ask(abort, inputs, "f", 1, calls)
+}
+
+/// Asks a file and standard input of inputs that are new.
+fn ask_new(abort: &impl Abort, alloc: Global, row: &Row<'_>) -> Result<(), Fault> {
+    let mut inputs = MemIn::new(alloc)?;
+    ask_both(abort, &mut inputs, row)
 }
 
 /// What is asked of an input of which nothing is shown.
 const UNKNOWN: &[Call<'static>] = &[Call::Shown(None), Call::Hides(0, 1)];
 
+/// Asks standard input, and a file without a byte: both show nothing.
+fn ask_unknown(abort: &impl Abort, inputs: &mut MemIn) -> Result<(), Fault>
+    requires { inputs.old.sources ≡ source_of (unshown []) ∷ [] }
+{
+    inputs.input(b"abc")?;
+    inputs.file("f", b"")?;
+    ask(abort, inputs, 0, UNKNOWN);
+    open_and_ask(abort, inputs, "f", 1, UNKNOWN)
+}
+
 #[test]
 fn memory_shows_files_alone_that_have_a_byte(rt: HostRuntime) -> Result<(), Fail> {
     let mut inputs = MemIn::new(rt.alloc())?;
-    inputs.input(b"abc")?;
-    inputs.file("f", b"")?;
-    ask(&rt, &mut inputs, 0, UNKNOWN);
-    open_and_ask(&rt, &mut inputs, "f", 1, UNKNOWN)?;
+    same(&rt, &ask_unknown(&rt, &mut inputs), &Ok(()));
     Ok(())
 }
 
@@ -163,15 +184,15 @@ const SIXTEEN_LETTERS: &[Call<'static>] = &[
     Call::Keeps(0),
 ];
 
+/// A file is asked that holds sixteen bytes.
+const LOOKED_AT: &[Step<'static>] = &[
+    Step::Make("ports_core_looks/f", b"abcdefghijklmnop"),
+    Step::Ask("ports_core_looks/f", 1, SIXTEEN_LETTERS),
+];
+
 #[test]
 fn files_are_looked_at_from_any_place(rt: HostRuntime) -> Result<(), Fail> {
-    let name = "ports_core_looks/f";
-    make_file(&rt, "ports_core_looks", name, b"abcdefghijklmnop")?;
-    let noted = InputFiles::new(rt.alloc());
-    let mut inputs = inputs_of(rt, &noted);
-    open_and_ask(&rt, &mut inputs, name, 1, SIXTEEN_LETTERS)?;
-    fs::remove_dir_all(&rt, "ports_core_looks")?;
-    Ok(())
+    play_in(&rt, rt, "ports_core_looks", LOOKED_AT)
 }
 
 /// What is asked of a file with the bytes `abcdef`, the bytes that it has after that, and what is asked of it then.
@@ -228,41 +249,58 @@ const CHANGES: &[Change<'static>] = &[
     ),
 ];
 
-#[test]
-fn files_may_change(rt: HostRuntime) -> Result<(), Fail> {
-    for change in CHANGES {
-        ask_around(&rt, rt, change)?;
-    }
-    fs::remove_dir_all(&rt, "ports_core_changes")?;
+/// The file that changes.
+const CHANGING_FILE: &str = "ports_core_changes/f";
+
+/// Asks an input before its file changes, and after that.
+fn ask_around(
+    abort: &impl Abort,
+    rt: &HostRuntime,
+    inputs: &mut DirIn<'_, HostRuntime>,
+    change: &Change<'_>,
+) -> Result<(), Fail> {
+    let (before, bytes, after) = *change;
+    open_input(abort, inputs, CHANGING_FILE, 1)?;
+    assert!(abort; ask(abort, inputs, 1, before));
+    fs::write(rt, CHANGING_FILE, bytes)?;
+    ask(abort, inputs, 1, after);
     Ok(())
 }
 
-/// Asks an input before its file changes, and after that.
-fn ask_around(abort: &impl Abort, rt: HostRuntime, change: &Change<'_>) -> Result<(), Fail> {
-    let (before, bytes, after) = *change;
-    let name = "ports_core_changes/f";
-    make_file(&rt, "ports_core_changes", name, b"abcdef")?;
+/// Asks an input that is the first of a run.
+fn ask_first(abort: &impl Abort, rt: HostRuntime, change: &Change<'_>) -> Result<(), Fail> {
     let noted = InputFiles::new(rt.alloc());
     let mut inputs = inputs_of(rt, &noted);
-    open_input(abort, &mut inputs, name, 1)?;
-    assert!(abort; ask(abort, &mut inputs, 1, before));
-    fs::write(&rt, name, bytes)?;
-    ask(abort, &mut inputs, 1, after);
-    Ok(())
+    ask_around(abort, &rt, &mut inputs, change)
+}
+
+#[test]
+fn files_may_change(rt: HostRuntime) -> Result<(), Fail> {
+    for change in CHANGES {
+        make_file(&rt, "ports_core_changes", CHANGING_FILE, b"abcdef")?;
+        ask_first(&rt, rt, change)?;
+    }
+    remove_folder(&rt, "ports_core_changes")
 }
 
 /// What is asked of a device that has no end.
 const ENDLESS: &[Call<'static>] = &[Call::Shown(None), Call::Read(1, 1, b"\0")];
 
+/// A folder is asked.
+const FOLDER: &[Step<'static>] = &[Step::Ask(".", 1, UNKNOWN)];
+
+/// A folder is asked, and a device that has no end.
+const FOLDER_AND_DEVICE: &[Step<'static>] = &[
+    Step::Ask(".", 1, UNKNOWN),
+    Step::Ask("/dev/zero", 2, ENDLESS),
+];
+
 #[test]
 fn what_is_no_file_shows_nothing(rt: HostRuntime) -> Result<(), Fail> {
-    let noted = InputFiles::new(rt.alloc());
-    let mut inputs = inputs_of(rt, &noted);
-    open_and_ask(&rt, &mut inputs, ".", 1, UNKNOWN)?;
     if is_there(&rt, "/dev/zero") {
-        open_and_ask(&rt, &mut inputs, "/dev/zero", 2, ENDLESS)?;
+        return play(&rt, rt, FOLDER_AND_DEVICE);
     }
-    Ok(())
+    play(&rt, rt, FOLDER)
 }
 
 #[test]
