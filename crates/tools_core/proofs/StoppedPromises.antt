@@ -112,10 +112,10 @@ stops_run run asked TooLong step between long stops broke = long stops
 stops_run run asked fault step between long stops broke = absurd stops
 
 -- that fault is none of words
-plain_message : (run : Run) (fault : Fault) (step : Step) (name : List ℕ) {reached : List Slot}
+plain_message : (run : Run) (fault : Fault) (step : Step) (name : List ℕ) (reached : List Slot)
     → Stops step reached fault → message_of fault name ≡ message_by run fault name
-plain_message run (Usage kind place) step name stops = absurd stops
-plain_message run fault step name stops = refl
+plain_message run (Usage kind place) step name reached stops = absurd stops
+plain_message run fault step name reached stops = refl
 
 -- Why an output is broken: it was told by its name, or the output was to be removed.
 
@@ -262,7 +262,7 @@ ends_or {run} {asked} {task} of
           let told : SaysLines run asked (lines ++ message_by run fault name ∷ []) = record {
             are = All-append (TellsMet run asked) lines _ fits.are
                 (one_line (TellsMet run asked) (message_by run fault name) (fault, name, inl stop, refl));
-            said = subst (λ line. Said (lines ++ line ∷ [])) (plain_message run fault step name stops) said;
+            said = subst (λ line. Said (lines ++ line ∷ [])) (plain_message run fault step name reached stops) said;
           } in
           inr (inl (record {
             failed = rw loud at is;
