@@ -257,7 +257,7 @@ ends_or {run} {asked} {task} of
       | inr loud ↦
           let all = says_more true task.speaker lines (message_of fault name) standard_error said error says (reason, rw loud at tells) in
           let Said : List Message → Type 0 = λ those.
-              SaysAll true (speaker_of run.calling asked) those standard_error (slot_at run.outputs 1) in
+          SaysAll true (speaker_of run.calling asked) those standard_error (slot_at run.outputs 1) in
           let said : Said (lines ++ message_of fault name ∷ []) = grind (arith, common_steps, stopped_error) in
           let told : SaysLines run asked (lines ++ message_by run fault name ∷ []) = record {
             are = All-append (TellsMet run asked) lines _ fits.are
