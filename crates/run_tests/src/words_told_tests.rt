@@ -30,7 +30,10 @@ fn refuses(rt: &impl Abort, alloc: Global, words: &[&str], said: &str) -> Result
     );
     let tool = words[0];
     let wanted = format!(in alloc; "{tool}: {said}\nTry '{tool} --help'.\n")?;
-    assert!(rt; status == 1 && outs.bytes(1) == wanted.as_bytes(), "at {words:?}");
+    assert!(rt;
+        status == 1 && outs.bytes(1) == wanted.as_bytes(),
+        "at {words:?}"
+    );
     Ok(())
 }
 
@@ -50,10 +53,16 @@ const ROWS: &[(&[&str], &str)] = &[
     // A value in a word of its own was for the option before it.
     (&["head", "-n", "0.5M"], "invalid number '0.5M' for '-n'"),
     (&["head", "-qn", "-n"], "invalid number '-n' for '-qn'"),
-    (&["head", "-n", "--", "-n", "x"], "invalid number '--' for '-n'"),
+    (
+        &["head", "-n", "--", "-n", "x"],
+        "invalid number '--' for '-n'",
+    ),
     (&["head", "-n", "-n"], "invalid number '-n' for '-n'"),
     (&["head", "--line", "x"], "invalid number 'x' for '--line'"),
-    (&["split", "-t", "-t", "-n", "0"], "invalid separator '-t' for '-t': one byte, or \\0"),
+    (
+        &["split", "-t", "-t", "-n", "0"],
+        "invalid separator '-t' for '-t': one byte, or \\0",
+    ),
     (&["split", "-b", "0"], "number is zero '0' for '-b'"),
     (&["split", "-a", "256"], "number too large '256' for '-a'"),
     (&["tail", "--pid", "+9"], "invalid number '+9' for '--pid'"),
@@ -69,9 +78,18 @@ const ROWS: &[(&[&str], &str)] = &[
     (&["head", "-nx"], "invalid number '-nx'"),
     (&["head", "-n", "1", "-nx"], "invalid number '-nx'"),
     (&["head", "--lines=x"], "invalid number '--lines=x'"),
-    (&["split", "-tab"], "invalid separator '-tab': one byte, or \\0"),
-    (&["tail", "-99999999999999999999"], "number too large '-99999999999999999999'"),
-    (&["tail", "--follow=x"], "invalid following '--follow=x': name or descriptor"),
+    (
+        &["split", "-tab"],
+        "invalid separator '-tab': one byte, or \\0",
+    ),
+    (
+        &["tail", "-99999999999999999999"],
+        "number too large '-99999999999999999999'",
+    ),
+    (
+        &["tail", "--follow=x"],
+        "invalid following '--follow=x': name or descriptor",
+    ),
     (
         &["tee", "--output-error=later"],
         "invalid mode '--output-error=later': warn, warn-nopipe, exit or exit-nopipe",
@@ -79,15 +97,33 @@ const ROWS: &[(&[&str], &str)] = &[
     // None was missing.
     (&["head", "-qn"], "missing value for '-qn'"),
     (&["head", "--quiet=1"], "unexpected value '--quiet=1'"),
-    (&["split", "-l", "2", "-b", "3"], "more than one way to split"),
+    (
+        &["split", "-l", "2", "-b", "3"],
+        "more than one way to split",
+    ),
     (&["split", "a", "b", "c"], "extra operand 'c'"),
     (&["csplit", "-n", "2", "f"], "missing operand"),
     // The rules of operands.
-    (&["csplit", "f", "/a"], "invalid operand '/a': no closing delimiter"),
-    (&["csplit", "f", "/a/x"], "invalid operand '/a/x': what follows the pattern is no offset"),
-    (&["csplit", "f", "0"], "invalid operand '0': line number is zero"),
-    (&["csplit", "f", "{2}"], "invalid operand '{2}': nothing to repeat"),
-    (&["csplit", "f", "2", "{x}"], "invalid operand '{x}': neither {NUMBER} nor {*}"),
+    (
+        &["csplit", "f", "/a"],
+        "invalid operand '/a': no closing delimiter",
+    ),
+    (
+        &["csplit", "f", "/a/x"],
+        "invalid operand '/a/x': what follows the pattern is no offset",
+    ),
+    (
+        &["csplit", "f", "0"],
+        "invalid operand '0': line number is zero",
+    ),
+    (
+        &["csplit", "f", "{2}"],
+        "invalid operand '{2}': nothing to repeat",
+    ),
+    (
+        &["csplit", "f", "2", "{x}"],
+        "invalid operand '{x}': neither {NUMBER} nor {*}",
+    ),
     (
         &["csplit", "f", "5", "3"],
         "invalid operand '3': line number is smaller than the one before it",
@@ -97,12 +133,36 @@ const ROWS: &[(&[&str], &str)] = &[
         "invalid operand 'x': neither a pattern nor a line number up to 9223372036854775807",
     ),
     // The rules of patterns.
-    (&["csplit", "f", "/\\(a\\)\\1/"], "invalid pattern '/\\(a\\)\\1/': back-reference at byte 5"),
-    (&["csplit", "f", "/a\\|b/"], "invalid pattern '/a\\|b/': unknown escape at byte 1"),
-    (&["csplit", "f", "/ab\\(/"], "invalid pattern '/ab\\(/': \\( is not closed at byte 2"),
-    (&["csplit", "f", "%\\)%"], "invalid pattern '%\\)%': \\) closes nothing at byte 0"),
-    (&["csplit", "f", "/\\+a/"], "invalid pattern '/\\+a/': invalid repetition at byte 0"),
-    (&["csplit", "f", "/x[a/"], "invalid pattern '/x[a/': invalid bracket expression at byte 1"),
-    (&["csplit", "f", "/[b-a]/"], "invalid pattern '/[b-a]/': invalid range at byte 2"),
-    (&["csplit", "f", "/[[:no:]]/"], "invalid pattern '/[[:no:]]/': unknown class at byte 1"),
+    (
+        &["csplit", "f", "/\\(a\\)\\1/"],
+        "invalid pattern '/\\(a\\)\\1/': back-reference at byte 5",
+    ),
+    (
+        &["csplit", "f", "/a\\|b/"],
+        "invalid pattern '/a\\|b/': unknown escape at byte 1",
+    ),
+    (
+        &["csplit", "f", "/ab\\(/"],
+        "invalid pattern '/ab\\(/': \\( is not closed at byte 2",
+    ),
+    (
+        &["csplit", "f", "%\\)%"],
+        "invalid pattern '%\\)%': \\) closes nothing at byte 0",
+    ),
+    (
+        &["csplit", "f", "/\\+a/"],
+        "invalid pattern '/\\+a/': invalid repetition at byte 0",
+    ),
+    (
+        &["csplit", "f", "/x[a/"],
+        "invalid pattern '/x[a/': invalid bracket expression at byte 1",
+    ),
+    (
+        &["csplit", "f", "/[b-a]/"],
+        "invalid pattern '/[b-a]/': invalid range at byte 2",
+    ),
+    (
+        &["csplit", "f", "/[[:no:]]/"],
+        "invalid pattern '/[[:no:]]/': unknown class at byte 1",
+    ),
 ];

@@ -655,7 +655,7 @@ not_refused (inl did) = inl did
 not_refused (inr (same, refuses)) = inr refuses
 
 pub ran_over : {run : Run} {asked : Settings} → Ran run asked
-    → Did run asked ⊎ RefusesOperands true run.words asked run.outputs run.status
+    → Did run asked ⊎ RefusesOperands run.calling true run.words asked run.outputs run.status
 ran_over ran = grind (arith, common_steps, not_refused)
 
 -- Two runs that were asked for the same, over the same inputs

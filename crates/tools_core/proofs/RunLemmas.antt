@@ -5,15 +5,16 @@ use Rattle.std.{
   proofs.Common.{take, Bool, true, false, length, map, Bor, inl, inr, codes, arith, max},
 }
 use Rattle.ports_core.specs.{
-  declared.fault.{Fault.{Fault, TheVariants.{Memory, Usage, Write}}, UsageKind.TheVariants.BadFollow},
+  declared.fault.{Fault.{Fault, TheVariants.{Memory, Usage, Write}}, UsageKind.{UsageKind, TheVariants.BadFollow}},
+  declared.reason.Reason.TheVariants.Other,
   declared.calling.Speaker.Speaker,
   Write.BrokeAfter,
   declared.tool.Tool.Tool,
   declared.calling.Calling.{Calling, TheVariants.{Cutters, OwnName}},
   Slot.{Slot, adds, breaks, changed_at, slot_at, streams, told_of},
   Source.{Content, Source, source_at, IsFresh},
-  Text.{Message, message_of, status_after},
-  Message.{Says, SaysAll, SaysFor, TellsOn, output_named, output_reason},
+  Text.{Message, message_of, refusal_of, status_after},
+  Message.{Says, SaysAll, SaysFor, SaysOn, TellsOn, output_named, output_reason},
   Inputs.{CameFrom, OfContent, empty},
   Streams.{standard_error, standard_output},
 }
@@ -29,6 +30,7 @@ use Rattle.words_core.specs.{
   TailWords.tail_asked,
   TeeWords.{tee_asked},
   Given.Given,
+  Refusal.{detail_of, word_at},
   Spelling.{given_by, IsRefused},
   Value.then_check,
   Table.{ToolRow, row_named, tools},
@@ -38,7 +40,7 @@ use Rattle.words_core.specs.{
 use Rattle.words_core.proofs.LimitLemmas.{read-can}
 use Rattle.follow_core.{proofs.LookedLemmas.{ends_by, most_made}, specs.{Ending.{no_room as no_room_yet, shows_by}, declared.run.Method.{Method, TheVariants.{Descriptor, Name, PresentName, FirstFile}}}}
 use Rattle.tools_core.specs.{
-  Outcome.{speaker, RefusesFor, RunEndsAt, names_at},
+  Outcome.{refusal, refuser, speaker, RefusesFor, RunEndsAt, names_at},
   Tasks.{by, speaker_of, tool_of},
   About.{TellsText, no_text, text_cut},
   Following.{FollowingEnds, FollowingEndsAt, FollowsTail, method_of, pause_by},
@@ -169,6 +171,27 @@ refused_memory words fault refuses = record {
   slots = refuses.slots;
   failed = refuses.failed;
 }
+
+-- the message that refuses words was said, and nothing else was done
+pub refused_by_line : {calling : Calling} {told : Bool} {words : List (List ℕ)} (fault : Fault) {old new : List Slot}
+    → old ≡ streams → SaysOn told (refuser calling words) Other (refusal calling words fault) old new
+    → RefusesFor calling told words fault new 1
+refused_by_line fault fresh says =
+    let (after, said, are) = says standard_output standard_error [] fresh in
+    record { error = after; says = (Other, said); slots = are; failed = refl }
+
+pub refused_usage : {calling : Calling} {told : Bool} {words : List (List ℕ)} (kind : UsageKind) (place : ℕ)
+    {speaker : Speaker} {old new : List Slot} → speaker ≡ refuser calling words → old ≡ streams
+    → SaysOn told speaker Other
+    (refusal_of speaker kind (word_at words place) (detail_of speaker.calling words kind place)) old new
+    → RefusesFor calling told words (Usage kind place) new 1
+refused_usage kind place is fresh says = refused_by_line (Usage kind place) fresh (rw is at says)
+
+-- a fault that is none of words has the message of any fault
+pub plain_refusal : (calling : Calling) (words : List (List ℕ)) (fault : Fault)
+    → ((kind : UsageKind) (place : ℕ) → fault ≡ Usage kind place → ⊥) → message_of fault [] ≡ refusal calling words fault
+plain_refusal calling words (Usage kind place) none = absurd (none kind place refl)
+plain_refusal calling words fault none = refl
 
 -- what is said of the words is said by the tool that they ask for
 pub worded_by : {told : Bool} {message : Message} (calling : Calling) {which tool : Tool} {old new : Slot}

@@ -112,10 +112,10 @@ stops_run run asked TooLong step between long stops broke = long stops
 stops_run run asked fault step between long stops broke = absurd stops
 
 -- that fault is none of words
-plain_message : (run : Run) (fault : Fault) (step : Step) (name : List ℕ) {reached : List Slot}
+plain_message : (run : Run) (fault : Fault) (step : Step) (name : List ℕ) (reached : List Slot)
     → Stops step reached fault → message_of fault name ≡ message_by run fault name
-plain_message run (Usage kind place) step name stops = absurd stops
-plain_message run fault step name stops = refl
+plain_message run (Usage kind place) step name reached stops = absurd stops
+plain_message run fault step name reached stops = refl
 
 -- Why an output is broken: it was told by its name, or the output was to be removed.
 
@@ -257,12 +257,12 @@ ends_or {run} {asked} {task} of
       | inr loud ↦
           let all = says_more true task.speaker lines (message_of fault name) standard_error said error says (reason, rw loud at tells) in
           let Said : List Message → Type 0 = λ those.
-              SaysAll true (speaker_of run.calling asked) those standard_error (slot_at run.outputs 1) in
+          SaysAll true (speaker_of run.calling asked) those standard_error (slot_at run.outputs 1) in
           let said : Said (lines ++ message_of fault name ∷ []) = grind (arith, common_steps, stopped_error) in
           let told : SaysLines run asked (lines ++ message_by run fault name ∷ []) = record {
             are = All-append (TellsMet run asked) lines _ fits.are
                 (one_line (TellsMet run asked) (message_by run fault name) (fault, name, inl stop, refl));
-            said = subst (λ line. Said (lines ++ line ∷ [])) (plain_message run fault step name stops) said;
+            said = subst (λ line. Said (lines ++ line ∷ [])) (plain_message run fault step name reached stops) said;
           } in
           inr (inl (record {
             failed = rw loud at is;

@@ -266,9 +266,12 @@ module _ (run : Run) (asked : TeeAsked) {mode : Mode} {pieces names : List (List
       let Line = TellsMet run (Tee asked) in
       let tell : TellEach Line asked.on_broken (output_names names) (first ∷ broke) = each_number _ (λ place differs one is.
       let here = has_broken place differs is in
-      let which = (slot_at run.outputs place).state in
-      (failing place which, _, inl (failing_stops run (Tee asked) which (differs, here.called, here.broken, refl)),
-          here.same place ∙ failing_message run place which _)) in
+      let which = (slot_at run.outputs place).state in (
+        failing place which,
+        _,
+        inl (failing_stops run (Tee asked) which (differs, here.called, here.broken, refl)),
+        here.same place ∙ failing_message run place which _,
+      )) in
       record {
         are = All-append Line _ _ (All-append Line _ _
             (before_are Line asked.on_broken (suc (length pieces)) (output_names names) (first ∷ broke) tell) of_input)

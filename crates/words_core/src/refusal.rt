@@ -83,11 +83,7 @@ fn letters_of(word: &[u8]) -> &[u8]
     }
 }
 
-fn unknown_among(
-    alloc: Global,
-    rows: &[OptionRow],
-    letters: &[u8],
-) -> Result<Vec<u8>, AllocError>
+fn unknown_among(alloc: Global, rows: &[OptionRow], letters: &[u8]) -> Result<Vec<u8>, AllocError>
     ensures { IfOk result (λ text. text.items ≡ unknown_among (map row_seen rows.now) letters.now) }
 {
     for letter in letters {
