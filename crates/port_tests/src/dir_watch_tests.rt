@@ -47,6 +47,26 @@ fn forgiving_watch_of(rt: HostRuntime, name: &str) -> Result<DirWatch<HostRuntim
     Ok(watch)
 }
 
+/// One that clings.
+fn clinging_watch_of(rt: HostRuntime, name: &str) -> Result<DirWatch<HostRuntime>, Fault>
+    ensures { IfOk result (λ watch. IsTrue (is_watchable watch.watched 0)) }
+{
+    let mut watch = DirWatch::new(rt, rt.alloc());
+    watch.cling();
+    watch.add(name)?;
+    Ok(watch)
+}
+
+/// One that insists.
+fn insisting_watch_of(rt: HostRuntime, name: &str) -> Result<DirWatch<HostRuntime>, Fault>
+    ensures { IfOk result (λ watch. IsTrue (is_watchable watch.watched 0)) }
+{
+    let mut watch = DirWatch::new(rt, rt.alloc());
+    watch.insist();
+    watch.add(name)?;
+    Ok(watch)
+}
+
 /// What the name leads to at the next look.
 fn next_seen(watch: &mut DirWatch<HostRuntime>) -> Result<Option<Seen>, Fault>
     requires { IsTrue (is_watchable watch.old.watched 0) }
@@ -561,6 +581,53 @@ fn is_found(watch: &mut DirWatch<HostRuntime>) -> Result<(bool, bool), Fault>
     let found = next_seen(watch)?;
     let is_there = opened(watch)?;
     Ok((found.is_some(), is_there))
+}
+
+/// A name that is missing at first, and then leads to a file, which gets another name.
+const CLUNG: &[Step<'static>] = &[
+    Step::Turn,
+    Step::Opens(false),
+    Step::Says(Reason::Missing),
+    Step::Sees(None),
+    Step::Make("watch_core_clung/f", b"abc"),
+    Step::Sees(Some(3)),
+    Step::Opens(true),
+    Step::LatestIsOpen(true),
+    Step::Rename("watch_core_clung/f", "watch_core_clung/g"),
+    Step::Sees(Some(3)),
+    Step::SawSame(true),
+    Step::Make("watch_core_clung/f", b"x"),
+    Step::Append("watch_core_clung/g", b"de"),
+    Step::Sees(Some(5)),
+    Step::SawSame(true),
+    Step::Remove("watch_core_clung/g"),
+    Step::Sees(Some(5)),
+    Step::SawSame(true),
+    Step::LatestIsOpen(true),
+];
+
+#[test]
+fn a_name_stays_with_its_first_file_if_the_watch_clings(rt: HostRuntime) -> Result<(), Fail> {
+    let mut watch = clinging_watch_of(rt, "watch_core_clung/f")?;
+    play_with(&rt, &rt, "watch_core_clung", &mut watch, CLUNG)
+}
+
+#[test]
+fn a_missing_name_breaks_if_the_watch_insists(rt: HostRuntime) -> Result<(), Fail> {
+    let mut watch = insisting_watch_of(rt, "watch_core_insisted/f")?;
+    watch.turn()?;
+    same(&rt, &watch.reopen(0), &Err(Fault::Open(0)));
+    same(&rt, &watch.reason(0), &Reason::Missing);
+    make_file(&rt, "watch_core_insisted", "watch_core_insisted/f", b"abc")?;
+    let mut watch = insisting_watch_of(rt, "watch_core_insisted/f")?;
+    watch.turn()?;
+    let is_there = opened(&mut watch)?;
+    fs::remove_dir_all(&rt, "watch_core_insisted")?;
+    watch.turn()?;
+    same(&rt, &watch.look(0), &Err(Fault::Open(0)));
+    same(&rt, &watch.reason(0), &Reason::Missing);
+    assert!(rt; is_there && watch.open_id(0).is_none());
+    Ok(())
 }
 
 #[test]

@@ -218,7 +218,7 @@ impl DirName {
         ensures same { self.new ≡ self.old }
     {
         if let Some(id) = self.kept() {
-            let len = self.last_len;
+            let len = self.len_forgiving();
             return Some(Seen { id, len });
         }
         self.lens = 0;
