@@ -133,13 +133,7 @@ impl<'a> Cutting<'a> {
     }
 
     /// Cuts at a line, unless it is above the last one where this may be or below the current one.
-    fn cut(
-        &mut self,
-        is_kept: bool,
-        line: u64,
-        most: u64,
-        range: Verdict,
-    ) -> Result<Next, Fault> {
+    fn cut(&mut self, is_kept: bool, line: u64, most: u64, range: Verdict) -> Result<Next, Fault> {
         if line > most {
             self.put(is_kept, u64::MAX)?;
             return Ok(Next::End(Some(range)));

@@ -382,14 +382,7 @@ const PAST: [Row<'static>; 14] = [
         b"2\n2\n",
         &[b"b\n", b"d\n"],
     ),
-    (
-        Options::Past,
-        &["%b%+1"],
-        b"a\nb\n",
-        None,
-        b"0\n",
-        &[b""],
-    ),
+    (Options::Past, &["%b%+1"], b"a\nb\n", None, b"0\n", &[b""]),
     (
         Options::Past,
         &["/b/+2"],
@@ -438,14 +431,7 @@ const PAST: [Row<'static>; 14] = [
         b"4\n0\n",
         &[],
     ),
-    (
-        Options::Past,
-        &["/b/+1", "{*}"],
-        b"",
-        None,
-        b"0\n",
-        &[b""],
-    ),
+    (Options::Past, &["/b/+1", "{*}"], b"", None, b"0\n", &[b""]),
 ];
 
 const WAITS: &[Wait<'static>] = &[
@@ -525,9 +511,18 @@ pub(crate) fn style_of(alloc: Global, options: Options) -> Result<Style, AllocEr
         ending: String::new(alloc),
         keep: matches!(options, Options::Keep),
         quiet: matches!(options, Options::Quiet),
-        elide: matches!(options, Options::Elide | Options::SuppressElide | Options::PastElide),
-        suppress: matches!(options, Options::Suppress | Options::SuppressElide | Options::PastSuppress),
-        one_past: matches!(options, Options::Past | Options::PastSuppress | Options::PastElide),
+        elide: matches!(
+            options,
+            Options::Elide | Options::SuppressElide | Options::PastElide
+        ),
+        suppress: matches!(
+            options,
+            Options::Suppress | Options::SuppressElide | Options::PastSuppress
+        ),
+        one_past: matches!(
+            options,
+            Options::Past | Options::PastSuppress | Options::PastElide
+        ),
     })
 }
 
