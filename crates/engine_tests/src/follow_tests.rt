@@ -443,7 +443,15 @@ fn tells_why(
     };
     let names = ["f", "g"];
     let status = follow_files(
-        alloc, row.0, &names, LAST_LINE, Method::Descriptor, false, limits, &mut watch, &mut outs,
+        alloc,
+        row.0,
+        &names,
+        LAST_LINE,
+        Method::Descriptor,
+        false,
+        limits,
+        &mut watch,
+        &mut outs,
     );
     assert_eq!(rt; (status, outs.bytes(1)), (1, row.2));
     Ok(())
