@@ -68,10 +68,9 @@ enum End {
 }
 
 /// A whole run of `tail` that follows these names (POSIX.1-2017, XCU tail, `-f`; GNU's `--follow=name` too): looks, one directly
-/// after another, up to the limits. It ends sooner where after a look no further one can give anything. Its status is 1 where a name was
-/// missing at the first look or failed, or a fault ended following, and else 0; where `tail` was called by its own name and the reader
-/// of its output is gone, 141. Names that are followed while they are there end it once each is dropped. Called so, it asks before each look whether standard output is still read, and ends without a word
-/// where it isn't.
+/// after another, up to the limits. It ends sooner if after a look no further one can give anything, as once each name is dropped. Its
+/// status is 1 if a name was missing at the first look or failed, or if a fault ended following, and else 0. If `tail` was called by its
+/// own name, it asks before each look whether standard output is still read. If it isn't, the run ends without a word, with status 141.
 ///
 /// Standard output has exactly what the looks saw: of each file the part that `start` says, then what it has past the length that the
 /// look before saw; all of a file that was truncated, that came back, or that the name leads to in place of another. Standard error has

@@ -189,7 +189,8 @@ refused_usage kind place is fresh says = refused_by_line (Usage kind place) fres
 
 -- a fault that is none of words has the message of any fault
 pub plain_refusal : (calling : Calling) (words : List (List ℕ)) (fault : Fault)
-    → ((kind : UsageKind) (place : ℕ) → fault ≡ Usage kind place → ⊥) → message_of fault [] ≡ refusal calling words fault
+    → ((kind : UsageKind) (place : ℕ) → fault ≡ Usage kind place → ⊥)
+    → message_of fault [] ≡ refusal calling words fault
 plain_refusal calling words (Usage kind place) none = absurd (none kind place refl)
 plain_refusal calling words fault none = refl
 
