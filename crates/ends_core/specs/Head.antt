@@ -4,8 +4,8 @@ use Rattle.ports_core.specs.{Part.only_out, Work.{Work, on_output, always_well}}
 use Rattle.seg_core.specs.declared.unit.Unit.{Unit as Counted, TheVariants.{Lines, Bytes}}
 use Rattle.ends_core.specs.Ends.{measure, last_of, head_of}
 
--- how many bytes past the last that it uses a head may be given: of lines, its last line may end within a piece; of
--- bytes none
+-- How many bytes a head may be given past the last byte that it uses. Bytes are counted before they are read, so none.
+-- Of lines, the last one may end within a piece; one read asks for 4,096 bytes at most if others read the input later.
 abbrev pub ahead_of : Counted → ℕ
 ahead_of Lines = 4096
 ahead_of Bytes = 0

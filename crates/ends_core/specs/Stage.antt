@@ -113,7 +113,7 @@ missing_of (FromNth count front) = 0
 missing_of (Last kept) = 0
 missing_of (Between span) = span.end - span.came
 
--- how many bytes of an input stand after the last byte that is written
+-- how many bytes of an input stand past what its first lines or bytes, or a stretch up to an offset, take
 abbrev pub past_in : Stretch → ℕ → Counted → ℕ → List ℕ → ℕ
 past_in the_first delim unit n x = length x - length (first_of delim unit n x)
 past_in all_but_last delim unit n x = 0
@@ -154,7 +154,7 @@ pub record Holds (ends : Ends) (x : List ℕ) : Type 0 where
   pub missing : missing_of ends ≡ least_in (stretch_of ends) - length x
   -- if nothing waits, no memory can be lacking
   pub none : keeps (stretch_of ends) ≡ false → may_lack ends ≡ false
-  -- once as many bytes came in as are kept, no memory can be lacking
+  -- if bytes are kept, and as many came in, no memory can be lacking
   pub full : unit_of ends ≡ Bytes → count_of ends ≤ length x → may_lack ends ≡ false
 
 -- Nothing after x changes the output: the head of x stays; between two places all bytes came. A tail is never done.

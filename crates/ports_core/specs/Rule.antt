@@ -11,10 +11,10 @@ use Rattle.ports_core.specs.declared.fault.UsageKind.{
 abbrev pub operand_rule : ℕ → List ℕ
 operand_rule rule =
     if rule == 2 then codes "no closing delimiter"
-    else (if rule == 3 then codes "what follows the pattern is no offset"
+    else (if rule == 3 then codes "offset is no number up to 9223372036854775807"
     else (if rule == 4 then codes "line number is zero"
     else (if rule == 5 then codes "nothing to repeat"
-    else (if rule == 6 then codes "neither {NUMBER} nor {*}"
+    else (if rule == 6 then codes "repetition is neither {NUMBER}, up to 9223372036854775807, nor {*}"
     else (if rule == 8 then codes "line number is smaller than the one before it"
     else (if rule == 10 then codes "neither a pattern nor a line number up to 9223372036854775807"
     else codes "invalid"))))))

@@ -10,10 +10,10 @@ pub(crate) fn operand_rule(rule: u8) -> &'static [u8]
 {
     match rule {
         2 => b"no closing delimiter",
-        3 => b"what follows the pattern is no offset",
+        3 => b"offset is no number up to 9223372036854775807",
         4 => b"line number is zero",
         5 => b"nothing to repeat",
-        6 => b"neither {NUMBER} nor {*}",
+        6 => b"repetition is neither {NUMBER}, up to 9223372036854775807, nor {*}",
         8 => b"line number is smaller than the one before it",
         10 => b"neither a pattern nor a line number up to 9223372036854775807",
         _ => b"invalid",

@@ -110,7 +110,7 @@ const ROWS: &[(&[&str], &str)] = &[
     ),
     (
         &["csplit", "f", "/a/x"],
-        "invalid operand '/a/x': what follows the pattern is no offset",
+        "invalid operand '/a/x': offset is no number up to 9223372036854775807",
     ),
     (
         &["csplit", "f", "0"],
@@ -122,7 +122,7 @@ const ROWS: &[(&[&str], &str)] = &[
     ),
     (
         &["csplit", "f", "2", "{x}"],
-        "invalid operand '{x}': neither {NUMBER} nor {*}",
+        "invalid operand '{x}': repetition is neither {NUMBER}, up to 9223372036854775807, nor {*}",
     ),
     (
         &["csplit", "f", "5", "3"],

@@ -1,5 +1,5 @@
--- What a tool says by its own name of words that are refused, beside what is wrong, the word and the rule. It is seen from
--- the words.
+-- What a tool adds by its own name to a message that refuses words: which letter is no option, for which option a value
+-- was, or what a value may be. It follows from the words alone.
 use Rattle.std.specs.{
   Prelude.{ℕ, ◌-◌, ◌==◌, nat_lt, Bool, true, false, List, [], ◌∷◌, ◌++◌, codes, is_some, take},
   Prelude.{Option, Some, None, Result, Ok, Err, if◌then◌else◌, slice_index_or},
