@@ -92,7 +92,8 @@ low_taken t live whole (below operand repetition) (operands, matched, cut, are, 
     omega (arith, live_taken live, live_before t live matched cut are (rw (all_lines-append t (inl whole)) at at))
 
 pub took_held : {told : Bool} {cutter next : CutterState} {lines : ℕ} {aim : Attempt} {t : List ℕ} (more : List ℕ)
-    {old new : List Slot} {fault : Option Fault} → IsSound (more_lines cutter lines aim) → IsFit cutter → (cutter.aim ≡ Below → ⊥)
+    {old new : List Slot} {fault : Option Fault} → IsSound (more_lines cutter lines aim) → IsFit cutter
+    → (cutter.aim ≡ Below → ⊥)
     → lines ≤ cutter.lines + length t → length more ≤ length t
     → ((x : List ℕ) → IsWhole x → (live : IsLive cutter x)
     → cutter.window.held ++ more ≡ text_from (cutter.progress.current + live.at.taken) (x ++ t))

@@ -163,7 +163,8 @@ repeated_again style total state next (Search pattern kept offset) cut at some w
 fits_after : (style : Style) {total : ℕ} {state : State} {operand : Operand} {operands : List Operand}
     (matched cut : ℕ) → Fits total state → state.operands ≡ operand ∷ operands
     → Moves total state operand.target matched cut → matched ≤ total → state.current ≤ cut
-    → cut ≤ total + past_last style operand.target → Fits total (state_after style.suppress operand operands state.repetition matched cut)
+    → cut ≤ total + past_last style operand.target
+    → Fits total (state_after style.suppress operand operands state.repetition matched cut)
 fits_after style {total} {state} {operand} {operands} matched cut fits are at few least within = search
     (rules, line_some, after_within, past_near, repeated_again)
 
@@ -249,7 +250,8 @@ still_over : {cutter : CutterState} (lines : ℕ) (text : List ℕ) → IsFit cu
     → lines ≡ cutter.lines + line_count newline text → cutter.lines ≡ line_count newline x → (aim : Attempt)
     (ending : Ending) → EndsAs cutter.style (all_lines x) (state_in cutter) ending → AimsAt aim ending
     → StaysOver cutter text lines aim
-    → EndsStill cutter.style (length (all_lines x)) (all_lines text) (length (all_lines x ++ all_lines text)) (state_in cutter) ending
+    → EndsStill cutter.style (length (all_lines x)) (all_lines text) (length (all_lines x ++ all_lines text))
+    (state_in cutter) ending
 still_over lines text fit x count counted UsedUp used_up ends aims stays = tt
 still_over {cutter} lines text fit x count counted Missed (missed operand repetition) ends aims stays = λ one more are.
     rw (length-all_lines x, ← counted) (stays one (fit.sought ∙ ap pattern_by are))

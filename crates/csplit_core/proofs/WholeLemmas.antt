@@ -34,7 +34,8 @@ between_rest first cut lines some least =
     (drop-drop (cut - first) (first - 1) lines))
     ∙ take-append-drop (cut - first) (drop (first - 1) lines)
 
-steps_and_rest : {style : Style} {lines : List Line} {first : State} {steps : List Step} {last : State} {ending : Ending}
+steps_and_rest : {style : Style} {lines : List Line} {first : State} {steps : List Step} {last : State} {ending :
+    Ending}
     → Runs style lines first steps last ending → style.suppress ≡ false → 1 ≤ first.current
     → lines_in (map (section_of lines) steps) ++ drop (last.current - 1) lines ≡ drop (first.current - 1) lines
 steps_and_rest {lines} (cuts state operand operands matched cut steps' last' ending' is at from within rest) whole some =
@@ -42,7 +43,8 @@ steps_and_rest {lines} (cuts state operand operands matched cut steps' last' end
 steps_and_rest run whole some = refl
 
 -- the steps' sections, then these lines, where they are what is left
-pub all_with : (style : Style) → style.suppress ≡ false → (closed : Bool) (operands : List Operand) {x : List Line} (end rest : List Line)
+pub all_with : (style : Style) → style.suppress ≡ false
+    → (closed : Bool) (operands : List Operand) {x : List Line} (end rest : List Line)
     → end ++ rest ≡ drop ((plan style operands x).last.current - 1) x
     → lines_in (map (section_of x) (plan style operands x).steps
     ++ section (is_last_kept (plan style operands x).ending) closed end ∷ []) ++ rest ≡ x
@@ -58,7 +60,8 @@ pub rest_is_all : (x : List Line) (current : ℕ) → 1 ≤ current
     → lines_between current (suc (length x)) x ≡ drop (current - 1) x
 rest_is_all x current some = grind (arith, common_steps)
 
-pub none_lost_at_end : (style : Style) → style.suppress ≡ false → (operands : List Operand) (x : List Line) → is_final (plan style operands x).ending ≡ false
+pub none_lost_at_end : (style : Style) → style.suppress ≡ false → (operands : List Operand) (x : List Line)
+    → is_final (plan style operands x).ending ≡ false
     → lines_in (whole_sections x (plan style operands x)) ≡ x
 none_lost_at_end style whole operands x live =
     let plan' = plan style operands x in

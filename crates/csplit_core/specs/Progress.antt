@@ -17,7 +17,8 @@ state_of operands progress = record {
 }
 
 -- the cut that is above the last line will move on once that line is there
-pub record WillMove (style : Style) (operands : List Operand) (total : ℕ) (progress : Progress) (matched line : ℕ) : Type 0 where
+pub record WillMove (style : Style) (operands : List Operand) (total : ℕ) (progress : Progress) (matched line : ℕ) :
+    Type 0 where
   pub operand : Operand
   pub rest : List Operand
   pub within : progress.done < length operands
