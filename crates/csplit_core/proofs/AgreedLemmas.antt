@@ -213,8 +213,8 @@ decided_by : (style : Style) (a b : List Line) {last : State} (ending : Ending) 
     → EndsAs style a last ending → (line : ℕ) → last.current ≤ line → line ≤ length a
     → ((is_final ending ≡ false) → settled_end (length a) ending ≤ line → ⊥)
     → (index : ℕ) (more : List Step) (end : State) {how : Ending} → Runs style (a ++ b) last more end how
-    → place_from style.suppress (length (a ++ b)) index more how line
-    ≡ cond (is_final ending) nowhere (in_section index)
+    → place_from style.suppress (length (a ++ b)) index more how line ≡ cond (is_final ending) nowhere (in_section
+    index)
 decided_by style a b (missed operand repetition) some is line from within not index more end rest =
     settled_place a b (missed operand repetition) is more end rest line from
     (search (rules, cases_lt))

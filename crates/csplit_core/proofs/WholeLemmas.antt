@@ -34,8 +34,8 @@ between_rest first cut lines some least =
     (drop-drop (cut - first) (first - 1) lines))
     ∙ take-append-drop (cut - first) (drop (first - 1) lines)
 
-steps_and_rest : {style : Style} {lines : List Line} {first : State} {steps : List Step} {last : State}
-    {ending : Ending}
+steps_and_rest : {style : Style} {lines : List Line} {first : State} {steps : List Step} {last : State} {ending :
+    Ending}
     → Runs style lines first steps last ending → style.suppress ≡ false → 1 ≤ first.current
     → lines_in (map (section_of lines) steps) ++ drop (last.current - 1) lines ≡ drop (first.current - 1) lines
 steps_and_rest {lines} (cuts state operand operands matched cut steps' last' ending' is at from within rest) whole some =
@@ -43,8 +43,8 @@ steps_and_rest {lines} (cuts state operand operands matched cut steps' last' end
 steps_and_rest run whole some = refl
 
 -- the steps' sections, then these lines, where they are what is left
-pub all_with : (style : Style) → style.suppress ≡ false → (closed : Bool) (operands : List Operand) {x : List Line}
-    (end rest : List Line)
+pub all_with : (style : Style) → style.suppress ≡ false
+    → (closed : Bool) (operands : List Operand) {x : List Line} (end rest : List Line)
     → end ++ rest ≡ drop ((plan style operands x).last.current - 1) x
     → lines_in (map (section_of x) (plan style operands x).steps
     ++ section (is_last_kept (plan style operands x).ending) closed end ∷ []) ++ rest ≡ x

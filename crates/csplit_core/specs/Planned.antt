@@ -32,8 +32,8 @@ abbrev pub attempt_at : Style → (total : ℕ) → State → Operand → List O
 attempt_at style total state operand operands matched cut =
     if nat_lt cut state.current then ends (below operand state.repetition)
     else if nat_lt (total + past_last style operand.target) cut then ends (above operand state.repetition matched cut)
-    else goes (step_of state operand matched cut)
-    (state_after style.suppress operand operands state.repetition matched cut)
+    else goes (step_of state operand matched cut) (state_after style.suppress operand operands state.repetition
+    matched cut)
 
 abbrev pub attempt_from : Style → (total : ℕ) → State → Operand → List Operand → Offset → Option ℕ → PlannedAttempt
 attempt_from style total state operand operands offset None = ends (missed operand state.repetition)

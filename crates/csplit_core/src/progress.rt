@@ -75,7 +75,7 @@ impl Progress {
         requires repetition { self.now.repetition < 2 ^ 64 - 1 }
         requires few { total < 2 ^ 64 - 2 }
         ensures says { (lines : List Line)
-        → AreSeen style.now.suppress lines total (state_of operands.now self.now) found
+            → AreSeen style.now.suppress lines total (state_of operands.now self.now) found
             → AgreesWithPlan style.now lines (state_of operands.now self.now) result }
         ensures moves { self.now.matched ≤ total → MovesOn style.now operands.now total self.now result }
     {

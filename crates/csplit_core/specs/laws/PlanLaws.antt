@@ -108,8 +108,10 @@ fewer_by : (style : Style) (total : ℕ) (state : State) (operand : Operand) (op
     → needed total next < needed_by total state (operand ∷ operands)
 fewer_by style total state operand operands cut at some within true next left again same =
     let less = fewer_left style total state next operand.target cut at some within again same in rw left (omega arith)
-fewer_by style total state operand operands cut at some within false next left again same =
-    search (rules, fewer_operands)
+fewer_by style total state operand operands cut at some within false next left again same = search (
+  rules,
+  fewer_operands,
+)
 
 pub fewer_moves : (style : Style) (total : ℕ) (state : State) {operand : Operand} {operands : List Operand}
     (matched cut : ℕ) → state.operands ≡ operand ∷ operands → Moves total state operand.target matched cut → 1 ≤ cut
@@ -174,8 +176,8 @@ computed {style} {lines} all end (cuts state operand operands matched cut steps 
       not_less_test,
     ))
     ∙ ap (with_step (step_of state operand matched cut)) (computed steps last rest bound
-    (let less : needed (length lines) (state_after style.suppress operand operands state.repetition matched cut)
-    < needed
+    (let less : needed (length lines) (state_after style.suppress operand operands state.repetition matched cut) <
+    needed
     (length lines) state = search (rules, fewer) in omega arith)
     (omega (arith, line_some style.suppress cut)))
 
@@ -192,8 +194,8 @@ module _ (style : Style) (lines : List Line) (state : State) (some : 1 ≤ state
       → nat_lt cut state.current ≡ low → nat_lt (length lines + past_last style operand.target) cut ≡ far
       → Attempted style lines state
       (cond low (ends (below operand state.repetition)) (cond far (ends (above operand state.repetition matched cut))
-      (goes (step_of state operand matched cut)
-      (state_after style.suppress operand operands state.repetition matched cut))))
+      (goes (step_of state operand matched cut) (state_after style.suppress operand operands state.repetition matched
+      cut))))
   attempted_at is matched cut at low far low_is far_is =
       search (rules, is_above, is_below, cuts, fewer, line_some, from_less, from_not_less)
 
