@@ -16,7 +16,7 @@ state_of operands progress = record {
   matched = progress.matched;
 }
 
--- the cut that is above the last line will move on once that line is there
+-- a cut that is further than it may be now moves on once more lines are there
 pub record WillMove (style : Style) (operands : List Operand) (total : ℕ) (progress : Progress) (matched line : ℕ) :
     Type 0 where
   pub operand : Operand

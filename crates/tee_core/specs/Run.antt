@@ -243,8 +243,8 @@ FilesLeft told mode pieces = EachFile (FileLeft told mode pieces)
 pub data EndsAs (told_in told : Bool) (calling : Calling) (mode : Mode) (on_broken : OnBroken)
     (names : List (List ℕ)) (content : Content) (source : Source) (new : List Slot) (status : ℕ) : Type 0 where
   -- The input came in pieces, and outputs that broke before the last piece didn't end the run. The outputs are left
-  -- as they must be by what broke and when. The messages for that are reported, each with some reason, and the status says whether
-  -- anything failed.
+  -- as they must be by what broke and when. The messages for that are reported, each with some reason, and the status
+  -- says whether anything failed.
   copied : (pieces : List (List ℕ)) (fault : Option Fault) (first : Option Break) (broke : List (Option Break))
       (output error : Slot) (files : List Slot)
       → ComesIn told_in content source (is_done on_broken (standings_before (suc (length pieces)) (first ∷ broke)))
