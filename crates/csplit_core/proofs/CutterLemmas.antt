@@ -42,9 +42,9 @@ use Rattle.csplit_core.specs.{
   inner.{
     PlanLaws.EndsAs,
     Cutter.{Joins, settled_part, Keeps, KeepsBy, part_at, draft_at, bare, Puts, CutsIn, Arrives, HoldsLines},
-    Cutter.{search_after, CutsNow, WentOn, IsAfter, CutAt, CutsAll, WillCut, WillSkip, IsEnd},
+    Cutter.{suppress_in, search_after, CutsNow, WentOn, IsAfter, CutAt, CutsAll, WillCut, WillSkip, IsEnd},
   },
-  Cutter.{kept_by, most_by, text_from, draft_by, settled_draft, CutterState, suppress_in, state_in, IsAt, EndsNow},
+  Cutter.{kept_by, most_by, text_from, draft_by, settled_draft, CutterState, state_in, IsAt, EndsNow},
   Cutter.{IsLive, IsFit, Leads},
 }
 use Rattle.csplit_core.proofs.{LineLemmas.{all_lines-append, bytes_between, length-all_lines, count-append, count_from, first_still, rest_more}, LineLemmas.{from_further, first_further}}

@@ -21,7 +21,7 @@ use Rattle.csplit_core.specs.{
   },
   Progress.{state_of, EndsHere, AimsAt},
   inner.Cutter.{AreSeen, AgreesWithPlan, FallsAt, GoesPast, WillCut, WillSkip, PassesOn, PassesCut, IsWhole, IsLine},
-  inner.Cutter.{Joins, past_in, search_after},
+  inner.Cutter.{Joins, past_in, past_by, suppress_in, search_after},
   inner.Cutter.{Looked, IsFound, IsNoCut, StaysNear, Tries, TriesNext, AreClear, IsNextFound, Lacks, equipped},
   inner.Cutter.{PassesClear, PassesOver, StopsAt},
   inner.PlanLaws.{needed, EndsAs},
@@ -31,7 +31,7 @@ use Rattle.csplit_core.specs.{
   },
   Measure.{Moves, IsRepeatedBy, Fits},
   Input.{newline, without_newline, marked, all_lines, is_match_of},
-  Cutter.{CutterState, state_in, suppress_in, IsFit, pattern_by, pattern_in, past_by, IsLive, EndsNow, IsSound},
+  Cutter.{CutterState, state_in, IsFit, pattern_by, pattern_in, IsLive, EndsNow, IsSound},
 }
 use Rattle.csplit_core.proofs.{
   WholeLemmas.after_within,

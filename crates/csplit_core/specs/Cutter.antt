@@ -12,7 +12,7 @@ use Rattle.csplit_core.specs.{
   Measure.Fits,
   Operand.{Target, Number, Search, Operand, Line, is_kept, most_held},
   Output.{Style, manner_of, opening_of, file_in},
-  Plan.{State, start, Step, Ending, Runs, past_last},
+  Plan.{State, start, Step, Ending, Runs},
   Planned.plan,
   Progress.{state_of, EndsHere, WillMove},
   Section.{section_of, lines_between, is_last_kept, settled_end, is_final, most_waiting, bytes_of},
@@ -50,9 +50,6 @@ seen cutter = record {
   sought = cutter.matcher;
 }
 
-abbrev pub suppress_in : CutterState → Bool
-suppress_in cutter = cutter.style.suppress
-
 abbrev pub state_in : CutterState → State
 state_in cutter = state_of cutter.operands cutter.progress
 
@@ -61,7 +58,7 @@ pattern_in (Number n) = None
 pattern_in (Search pattern kept offset) = Some pattern
 
 -- What the next operand says, if one is left: how many lines may wait, which pattern is searched for, whether the
--- section is kept, how many lines past the last one its cut may stand.
+-- section is kept.
 abbrev pub most_next : Option Operand → ℕ
 most_next None = 0
 most_next (Some operand) = most_held operand.target
@@ -74,10 +71,6 @@ abbrev pub kept_next : Option Operand → Bool
 kept_next None = true
 kept_next (Some operand) = is_kept operand.target
 
-abbrev pub past_next : Style → Option Operand → ℕ
-past_next style None = 0
-past_next style (Some operand) = past_last style operand.target
-
 abbrev pub next_of : List Operand → Option Operand
 next_of [] = None
 next_of (operand ∷ operands) = Some operand
@@ -87,9 +80,6 @@ most_by operands = most_next (next_of operands)
 
 abbrev pub pattern_by : List Operand → Option Pattern
 pattern_by operands = pattern_next (next_of operands)
-
-abbrev pub past_by : Style → List Operand → ℕ
-past_by style operands = past_next style (next_of operands)
 
 abbrev pub kept_by : List Operand → Bool
 kept_by operands = kept_next (next_of operands)

@@ -1,6 +1,10 @@
 //! What the next operand needs.
 ghost use Rattle.std.specs.Prelude.{◌≡◌, [], drop, IfOk, IfErr, option_map};
-ghost use Rattle.csplit_core.specs.{Cutter.{kept_next, most_next, next_of, past_next, pattern_next}, Input.newline};
+ghost use Rattle.csplit_core.specs.{
+  Cutter.{kept_next, most_next, next_of, pattern_next},
+  inner.Cutter.past_next,
+  Input.newline,
+};
 
 use crate::matcher::Matcher;
 use crate::progress::past_last;

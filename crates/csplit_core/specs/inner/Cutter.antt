@@ -18,7 +18,7 @@ use Rattle.csplit_core.specs.{
   Planned.{Plan, plan},
   inner.PlanLaws.needed,
   Section.is_final,
-  Cutter.{CutterState, AimHolds, most_by, pattern_by, seen, suppress_in, state_in, kept_by, past_by, IsFit, IsSound, load},
+  Cutter.{CutterState, AimHolds, most_by, pattern_by, seen, state_in, next_of, kept_by, IsFit, IsSound, load},
   Cutter.{draft_by, IsAt, EndsNow, IsLive, Stands},
   CsplitState.{CsplitState, terms, whole_lines},
 }
@@ -40,6 +40,17 @@ use Rattle.ports_core.specs.{
   Engine.Sweeps,
 }
 use Rattle.ports_core.specs.declared.fault.Fault.TheVariants as fault_is
+
+abbrev pub suppress_in : CutterState → Bool
+suppress_in cutter = cutter.style.suppress
+
+-- how many lines past the last one the next cut may stand, if an operand is left
+abbrev pub past_next : Style → Option Operand → ℕ
+past_next style None = 0
+past_next style (Some operand) = past_last style operand.target
+
+abbrev pub past_by : Style → List Operand → ℕ
+past_by style operands = past_next style (next_of operands)
 
 -- There are `total` lines; of the next operand it is known whether it matches the last one, if its search reaches that
 -- line, and that it matches none between the beginning of its search and the last line.
