@@ -9,7 +9,7 @@ returns-in-Ok c =
     let now = c.run_words.new in
     let Ends : List (List ℕ) → DirWatchState → Type 0 = λ words watch.
     ProgramEnds c.args.args.now.calling false false false words (λ slot name. None) c.args.inputs.now now.inputs
-    (λ n. files_by watch.forgives watch.within) (seen now.watch) now.watch.watched now.outs c.run_words.result in
+    (λ n. files_by watch.manner watch.within) (seen now.watch) now.watch.watched now.outs c.run_words.result in
     inl (
       _,
       _,
