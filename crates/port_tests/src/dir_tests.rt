@@ -12,12 +12,14 @@ use std::fs;
 use std::process::Abort;
 use std::test::Fail;
 
-/// Asks whether the standard streams are still read.
-fn are_still_read(outs: &mut DirOut<'_, HostRuntime>) -> Result<(), Fault>
+/// Asks whether the standard streams are still read, and returns whether both are sound after that.
+fn are_still_read(outs: &mut DirOut<'_, HostRuntime>) -> Result<bool, Fault>
     requires { outs.old ≡ streams }
 {
     outs.still_read(0)?;
-    outs.still_read(1)
+    outs.still_read(1)?;
+    let is_sound = is_left(outs, 0, "standard output", false);
+    Ok(is_sound && is_left(outs, 1, "standard error", false) && is_left(outs, 2, "", false))
 }
 
 /// The standard streams are read for all that is seen at first, and both are sound.
@@ -25,10 +27,7 @@ fn are_still_read(outs: &mut DirOut<'_, HostRuntime>) -> Result<(), Fault>
 fn standard_streams_are_still_read(rt: HostRuntime) {
     let noted = InputFiles::new(rt.alloc());
     let mut outs = outs_of(rt, &noted);
-    same(&rt, &are_still_read(&mut outs), &Ok(()));
-    assert!(rt; is_left(&outs, 0, "standard output", false));
-    assert!(rt; is_left(&outs, 1, "standard error", false));
-    assert!(rt; is_left(&outs, 2, "", false));
+    same(&rt, &are_still_read(&mut outs), &Ok(true));
 }
 
 /// A file that had bytes is made anew, and then appended to.
