@@ -12,12 +12,14 @@ use std::fs;
 use std::process::Abort;
 use std::test::Fail;
 
-/// Asks whether the standard streams are still read.
-fn are_still_read(outs: &mut DirOut<'_, HostRuntime>) -> Result<(), Fault>
+/// Asks whether the standard streams are still read, and returns whether both are sound after that.
+fn are_still_read(outs: &mut DirOut<'_, HostRuntime>) -> Result<bool, Fault>
     requires { outs.old ≡ streams }
 {
     outs.still_read(0)?;
-    outs.still_read(1)
+    outs.still_read(1)?;
+    let is_sound = is_left(outs, 0, "standard output", false);
+    Ok(is_sound && is_left(outs, 1, "standard error", false) && is_left(outs, 2, "", false))
 }
 
 /// The standard streams are read for all that is seen at first, and both are sound.
@@ -25,10 +27,7 @@ fn are_still_read(outs: &mut DirOut<'_, HostRuntime>) -> Result<(), Fault>
 fn standard_streams_are_still_read(rt: HostRuntime) {
     let noted = InputFiles::new(rt.alloc());
     let mut outs = outs_of(rt, &noted);
-    same(&rt, &are_still_read(&mut outs), &Ok(()));
-    assert!(rt; is_left(&outs, 0, "standard output", false));
-    assert!(rt; is_left(&outs, 1, "standard error", false));
-    assert!(rt; is_left(&outs, 2, "", false));
+    same(&rt, &are_still_read(&mut outs), &Ok(true));
 }
 
 /// A file that had bytes is made anew, and then appended to.
@@ -290,23 +289,31 @@ fn does(rt: &HostRuntime, outs: &mut DirOut<'_, HostRuntime>, deed: &Deed<'_>) -
 
 /// Opens many outputs, the first that are opened, and does with them what is to be done.
 fn open_and_do(
+    abort: &impl Abort,
     rt: &HostRuntime,
     outs: &mut DirOut<'_, HostRuntime>,
     folder: &str,
     mode: Mode,
     deed: &Deed<'_>,
-) -> Result<bool, Fail>
+) -> Result<(), Fail>
     requires { outs.old ≡ streams }
 {
     open_many(rt, outs, folder, mode)?;
-    does(rt, outs, deed)
+    assert!(abort; does(rt, outs, deed)?);
+    Ok(())
 }
 
-/// Opens many outputs, does with them what is to be done, and returns whether that came of it which must.
-fn do_with_many(rt: HostRuntime, folder: &str, mode: Mode, deed: &Deed<'_>) -> Result<bool, Fail> {
+/// Does with many outputs what is to be done.
+fn do_with_many(
+    abort: &impl Abort,
+    rt: HostRuntime,
+    folder: &str,
+    mode: Mode,
+    deed: &Deed<'_>,
+) -> Result<(), Fail> {
     let noted = InputFiles::new(rt.alloc());
     let mut outs = outs_of(rt, &noted);
-    open_and_do(&rt, &mut outs, folder, mode, deed)
+    open_and_do(abort, &rt, &mut outs, folder, mode, deed)
 }
 
 /// Whether a file holds the lines of all rounds twice, which name this number.
@@ -327,8 +334,8 @@ fn holds_rounds(rt: &HostRuntime, folder: &str, number: usize) -> Result<bool, F
 fn more_outputs_than_may_be_open(rt: HostRuntime) -> Result<(), Fail> {
     let folder = "ports_core_many";
     make_file(&rt, folder, "ports_core_many/7", b"old")?;
-    assert!(rt; do_with_many(rt, folder, Mode::Fresh, &Deed::Write)?);
-    assert!(rt; do_with_many(rt, folder, Mode::Append, &Deed::Write)?);
+    do_with_many(&rt, rt, folder, Mode::Fresh, &Deed::Write)?;
+    do_with_many(&rt, rt, folder, Mode::Append, &Deed::Write)?;
     for number in 0..MANY {
         assert!(rt; holds_rounds(&rt, folder, number)?, "at {number}");
     }
@@ -340,8 +347,8 @@ fn what_is_put_aside_is_closed_and_removed(rt: HostRuntime) -> Result<(), Fail> 
     let folder = "ports_core_aside";
     let first = "ports_core_aside/0";
     make_folder(&rt, folder)?;
-    assert!(rt; do_with_many(rt, folder, Mode::Fresh, &Deed::Close(first))?);
-    assert!(rt; do_with_many(rt, folder, Mode::Append, &Deed::Remove(first))?);
+    do_with_many(&rt, rt, folder, Mode::Fresh, &Deed::Close(first))?;
+    do_with_many(&rt, rt, folder, Mode::Append, &Deed::Remove(first))?;
     remove_folder(&rt, folder)
 }
 
@@ -367,7 +374,7 @@ fn what_is_put_aside_is_not_made_anew(rt: HostRuntime) -> Result<(), Fail> {
     let folder = "ports_core_anew";
     make_folder(&rt, folder)?;
     let deed = Deed::WriteToNone("ports_core_anew/0", is_limited(rt)?);
-    assert!(rt; do_with_many(rt, folder, Mode::Fresh, &deed)?);
+    do_with_many(&rt, rt, folder, Mode::Fresh, &deed)?;
     remove_folder(&rt, folder)
 }
 

@@ -6,7 +6,7 @@ use crate::compare::same;
 use crate::folder::{append, make_file, make_folder, remove_folder};
 use ports_core::{Fault, Reason};
 use std::fs;
-use std::io::{self, PipeReader, PipeWriter, Write};
+use std::io::{self, PipeWriter, Write};
 use std::os::fd::AsRawFd;
 use std::os::unix::fs::symlink;
 use std::process::Abort;
@@ -467,32 +467,21 @@ fn looks_wait_for_a_name_at_rest(rt: HostRuntime) -> Result<(), Fail> {
 /// How many milliseconds a look is waited for at most.
 const WAITS: &[u64] = &[20, 300];
 
-/// How long a second look is waited for.
-fn waits(rt: &HostRuntime, watch: &mut DirWatch<HostRuntime>) -> Result<Duration, Fail> {
-    watch.turn()?;
-    let start = Instant::now(rt)?;
-    watch.turn()?;
-    let passed = start.elapsed(rt)?;
-    Ok(passed)
-}
-
-/// How long a second look is waited for where a look is asked for within this number of milliseconds.
-fn waits_at_most(rt: &HostRuntime, most: u64) -> Result<Duration, Fail> {
-    let mut watch = DirWatch::new(*rt, rt.alloc());
-    watch.wait_at_most(most);
-    waits(rt, &mut watch)
-}
-
 /// Whether a second look begins after this number of milliseconds or later, and before a second, where that was asked for.
-fn begins_within(rt: &HostRuntime, most: u64) -> Result<bool, Fail> {
-    let passed = waits_at_most(rt, most)?;
+fn begins_within(rt: HostRuntime, most: u64) -> Result<bool, Fail> {
+    let mut watch = DirWatch::new(rt, rt.alloc());
+    watch.wait_at_most(most);
+    watch.turn()?;
+    let start = Instant::now(&rt)?;
+    watch.turn()?;
+    let passed = start.elapsed(&rt)?;
     Ok(passed >= Duration::from_millis(most) && passed < Duration::from_secs(1))
 }
 
 #[test]
 fn looks_begin_within_what_was_asked(rt: HostRuntime) -> Result<(), Fail> {
     for most in WAITS {
-        assert!(rt; begins_within(&rt, *most)?, "{most} milliseconds");
+        assert!(rt; begins_within(rt, *most)?, "{most} milliseconds");
     }
     Ok(())
 }
@@ -637,15 +626,9 @@ fn a_name_in_no_folder(rt: HostRuntime) -> Result<(), Fail> {
     Ok(())
 }
 
-/// Whether a first look at this name returns that it can't be opened.
-fn fails_to_look(rt: HostRuntime, name: &str) -> Result<bool, Fault> {
-    let mut watch = watch_of(rt, name)?;
-    Ok(watch.look(0) == Err(Fault::Open(0)))
-}
-
 /// Whether a first look at this name, and a first opening, return that it can't be opened. Then no file is open.
 fn fails_to_open(rt: HostRuntime, name: &str) -> Result<bool, Fault> {
-    let looked = fails_to_look(rt, name)?;
+    let looked = watch_of(rt, name)?.look(0) == Err(Fault::Open(0));
     let mut watch = watch_of(rt, name)?;
     let opened = watch.reopen(0) == Err(Fault::Open(0));
     Ok(looked && opened && watch.open_id(0).is_none())
@@ -655,7 +638,8 @@ fn fails_to_open(rt: HostRuntime, name: &str) -> Result<bool, Fault> {
 fn a_file_as_a_folder(rt: HostRuntime) -> Result<(), Fail> {
     let folder = "watch_core_as_folder";
     make_file(&rt, folder, "watch_core_as_folder/f", b"abc")?;
-    assert!(rt; fails_to_open(rt, "watch_core_as_folder/f/g")?);
+    let is_refused = fails_to_open(rt, "watch_core_as_folder/f/g");
+    same(&rt, &is_refused, &Ok(true));
     remove_folder(&rt, folder)
 }
 
@@ -664,7 +648,7 @@ const WITH_ZERO: &str = "watch_core_zero\0";
 
 #[test]
 fn a_name_with_a_byte_0_breaks_though_the_watch_forgives(rt: HostRuntime) -> Result<(), Fail> {
-    assert!(rt; fails_to_open(rt, WITH_ZERO)?);
+    same(&rt, &fails_to_open(rt, WITH_ZERO), &Ok(true));
     let mut watch = forgiving_watch_of(rt, WITH_ZERO)?;
     same(&rt, &watch.reopen(0), &Err(Fault::Open(0)));
     same(&rt, &watch.reason(0), &Reason::NotUtf8);
@@ -707,13 +691,13 @@ fn has(watch: &mut DirWatch<HostRuntime>, len: u64, from: u64, bytes: &[u8]) -> 
     Ok(held == len && given == bytes)
 }
 
-/// Opens a pipe that holds four bytes, and looks at it again after more were written: whether it opens, and has what was written.
+/// Opens a pipe that holds four bytes, and looks at it again after more were written, and after its writer is gone: whether it
+/// opens, and has what was written.
 fn is_read_as_it_comes(
     watch: &mut DirWatch<HostRuntime>,
-    writer: &mut PipeWriter,
+    mut writer: PipeWriter,
 ) -> Result<bool, Fail>
     requires { IsTrue (is_watchable watch.old.watched 0) }
-    ensures { IfOk result (λ is_so. IsTrue is_so → IsTrue (is_readable watch.new.watched 0)) }
 {
     watch.turn()?;
     if !opened(watch)? {
@@ -724,56 +708,20 @@ fn is_read_as_it_comes(
     writer.write_all(b"ef")?;
     watch.turn()?;
     let more = has(watch, 6, 4, b"ef")?;
-    Ok(front && last && more)
-}
-
-/// The same, and then the writer is gone.
-fn is_read_until_the_end(
-    watch: &mut DirWatch<HostRuntime>,
-    mut writer: PipeWriter,
-) -> Result<bool, Fail>
-    requires { IsTrue (is_watchable watch.old.watched 0) }
-    ensures { IfOk result (λ is_so. IsTrue is_so → IsTrue (is_readable watch.new.watched 0)) }
-{
-    is_read_as_it_comes(watch, &mut writer)
-}
-
-/// The same, and then looks at the pipe once more: whether it has what was written, and no more.
-fn is_read_to_the_end(watch: &mut DirWatch<HostRuntime>, writer: PipeWriter) -> Result<bool, Fail>
-    requires { IsTrue (is_watchable watch.old.watched 0) }
-{
-    if !is_read_until_the_end(watch, writer)? {
-        return Ok(false);
-    }
+    drop(writer);
     watch.turn()?;
     let end = has(watch, 6, 6, b"")?;
-    Ok(end)
-}
-
-/// Writes four bytes to a pipe, and returns the name of the end from which they are read.
-fn fill(rt: &HostRuntime, reader: &PipeReader, writer: &mut PipeWriter) -> Result<String, Fail> {
-    writer.write_all(b"abcd")?;
-    let number = reader.as_raw_fd();
-    let name = format!(in rt.alloc(); "/proc/self/fd/{number}")?;
-    Ok(name)
-}
-
-/// Watches a pipe of this name.
-fn watch_pipe(rt: HostRuntime, name: &str, writer: PipeWriter) -> Result<bool, Fail> {
-    let mut watch = watch_of(rt, name)?;
-    is_read_to_the_end(&mut watch, writer)
-}
-
-/// Whether what is written to a pipe is read as it comes.
-fn is_pipe_read(rt: HostRuntime) -> Result<bool, Fail> {
-    let (reader, mut writer) = io::pipe(&rt)?;
-    let name = fill(&rt, &reader, &mut writer)?;
-    watch_pipe(rt, name.as_str(), writer)
+    Ok(front && last && more && end)
 }
 
 #[test]
 fn a_pipe_is_read_as_it_comes(rt: HostRuntime) -> Result<(), Fail> {
-    assert!(rt; is_pipe_read(rt)?);
+    let (reader, mut writer) = io::pipe(&rt)?;
+    let number = reader.as_raw_fd();
+    let name = format!(in rt.alloc(); "/proc/self/fd/{number}")?;
+    writer.write_all(b"abcd")?;
+    let mut watch = watch_of(rt, name.as_str())?;
+    assert!(rt; is_read_as_it_comes(&mut watch, writer)?);
     Ok(())
 }
 

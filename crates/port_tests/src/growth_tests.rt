@@ -1,6 +1,9 @@
 //! Calls of which `tests/refusals` refuses each growth of memory in turn. Without a refusal both tests of a pair pass; where one
 //! growth is refused, the test `NAME` fails, and `NAME_or_are_refused` passes: the call says so, what was there stays, and the same
 //! call made again has its result.
+ghost use Rattle.std.specs.Prelude.{◌≡◌};
+ghost use Rattle.ports_core.specs.Slot.{streams};
+
 use crate::compare::{same, same_bytes};
 use mem_core::{Edit, MemIn, MemOut, MemWatch};
 use ports_core::{
@@ -98,25 +101,24 @@ fn is_refusal(call: Call, fault: Fault) -> bool {
 /// Makes a call, after others, and checks what it gives; and makes it again where it was refused. Returns the first refusal.
 fn makes(rt: &impl Abort, alloc: Global, call: Call) -> Result<(), Fault> {
     match call {
-        Call::Inputs => end_of(MemIn::new(alloc)),
-        Call::Input | Call::InputShowing | Call::File | Call::FileShowing | Call::Break => {
-            give_inputs(rt, alloc, call)
+        Call::Inputs
+        | Call::Input
+        | Call::InputShowing
+        | Call::File
+        | Call::FileShowing
+        | Call::Break
+        | Call::OpenInput => with_inputs(rt, alloc, call),
+        Call::Outputs | Call::Limit | Call::OpenOutput | Call::Write => {
+            with_outputs(rt, alloc, call)
         }
-        Call::OpenInput => open_input(rt, alloc),
-        Call::Outputs => end_of(MemOut::new(alloc)),
-        Call::Limit => limit(rt, alloc),
-        Call::OpenOutput => open_output(rt, alloc),
-        Call::Write => write(rt, alloc),
-        _ => makes_more(rt, alloc, call),
+        Call::Watch | Call::Then | Call::Add | Call::Turn => with_watch(rt, alloc, call),
+        _ => makes_text(rt, alloc, call),
     }
 }
 
-fn makes_more(rt: &impl Abort, alloc: Global, call: Call) -> Result<(), Fault> {
+/// Makes a call that makes a name or another text.
+fn makes_text(rt: &impl Abort, alloc: Global, call: Call) -> Result<(), Fault> {
     match call {
-        Call::Watch => end_of(MemWatch::new(alloc)),
-        Call::Then => then(rt, alloc),
-        Call::Add => add(rt, alloc),
-        Call::Turn => turn(rt, alloc),
         Call::Names => end_of(Names::new(alloc, "x", Alphabet::Letters, 2, true, ".txt")),
         Call::Next => next(rt, alloc),
         Call::Numbered => end_of(numbered(alloc, "xx", 2, 7)),
@@ -158,11 +160,11 @@ fn give(inputs: &mut MemIn, call: Call) -> Result<(), Fault> {
     }
 }
 
-fn give_inputs(rt: &impl Abort, alloc: Global, call: Call) -> Result<(), Fault> {
-    let mut inputs = MemIn::new(alloc)?;
-    let first = give(&mut inputs, call);
+/// Gives inputs something, and again if it was refused.
+fn give_again(rt: &impl Abort, inputs: &mut MemIn, call: Call) -> Result<(), Fault> {
+    let first = give(inputs, call);
     if first.is_err() {
-        same(rt, &give(&mut inputs, call), &Ok(()));
+        same(rt, &give(inputs, call), &Ok(()));
     }
     first
 }
@@ -182,13 +184,17 @@ fn open_file(rt: &impl Abort, inputs: &mut MemIn) -> Result<(), Fault> {
     }
 }
 
-fn open_input(rt: &impl Abort, alloc: Global) -> Result<(), Fault> {
+/// Makes a call with new inputs.
+fn with_inputs(rt: &impl Abort, alloc: Global, call: Call) -> Result<(), Fault> {
     let mut inputs = MemIn::new(alloc)?;
-    open_file(rt, &mut inputs)
+    match call {
+        Call::Inputs => Ok(()),
+        Call::OpenInput => open_file(rt, &mut inputs),
+        _ => give_again(rt, &mut inputs, call),
+    }
 }
 
-fn limit(rt: &impl Abort, alloc: Global) -> Result<(), Fault> {
-    let mut outs = MemOut::new(alloc)?;
+fn limit(rt: &impl Abort, outs: &mut MemOut) -> Result<(), Fault> {
     let first = outs.limit(2, 3);
     if first.is_err() {
         same(rt, &outs.limit(2, 3), &Ok(()));
@@ -197,8 +203,7 @@ fn limit(rt: &impl Abort, alloc: Global) -> Result<(), Fault> {
 }
 
 /// An output that found no room has used up its number.
-fn open_output(rt: &impl Abort, alloc: Global) -> Result<(), Fault> {
-    let mut outs = MemOut::new(alloc)?;
+fn open_output(rt: &impl Abort, outs: &mut MemOut) -> Result<(), Fault> {
     match outs.open("f", Mode::Fresh) {
         Ok(slot) => {
             same(rt, &slot, &2);
@@ -213,9 +218,10 @@ fn open_output(rt: &impl Abort, alloc: Global) -> Result<(), Fault> {
 }
 
 /// An output that finds no room breaks, and keeps what it has.
-fn write(rt: &impl Abort, alloc: Global) -> Result<(), Fault> {
-    let mut outs = MemOut::new(alloc)?;
-    match write_whole(&mut outs, 0, b"abc") {
+fn write(rt: &impl Abort, outs: &mut MemOut) -> Result<(), Fault>
+    requires { outs.old ≡ streams }
+{
+    match write_whole(outs, 0, b"abc") {
         Ok(()) => {
             same_bytes(rt, outs.bytes(0), b"abc");
             Ok(())
@@ -225,6 +231,17 @@ fn write(rt: &impl Abort, alloc: Global) -> Result<(), Fault> {
             assert!(rt; outs.bytes(0).is_empty());
             Err(Fault::Write(0))
         }
+    }
+}
+
+/// Makes a call with new outputs.
+fn with_outputs(rt: &impl Abort, alloc: Global, call: Call) -> Result<(), Fault> {
+    let mut outs = MemOut::new(alloc)?;
+    match call {
+        Call::Outputs => Ok(()),
+        Call::Limit => limit(rt, &mut outs),
+        Call::OpenOutput => open_output(rt, &mut outs),
+        _ => write(rt, &mut outs),
     }
 }
 
@@ -243,14 +260,8 @@ fn plan_two(rt: &impl Abort, watch: &mut MemWatch) -> Result<(), Fault> {
     first
 }
 
-fn then(rt: &impl Abort, alloc: Global) -> Result<(), Fault> {
-    let mut watch = MemWatch::new(alloc)?;
-    plan_two(rt, &mut watch)
-}
-
 /// A name that found no room has no number.
-fn add(rt: &impl Abort, alloc: Global) -> Result<(), Fault> {
-    let mut watch = MemWatch::new(alloc)?;
+fn add(rt: &impl Abort, watch: &mut MemWatch) -> Result<(), Fault> {
     match watch.add("f") {
         Ok(place) => {
             same(rt, &place, &0);
@@ -274,9 +285,15 @@ fn look_on(rt: &impl Abort, watch: &mut MemWatch) -> Result<(), Fault> {
     first
 }
 
-fn turn(rt: &impl Abort, alloc: Global) -> Result<(), Fault> {
+/// Makes a call with a new watch.
+fn with_watch(rt: &impl Abort, alloc: Global, call: Call) -> Result<(), Fault> {
     let mut watch = MemWatch::new(alloc)?;
-    look_on(rt, &mut watch)
+    match call {
+        Call::Watch => Ok(()),
+        Call::Then => plan_two(rt, &mut watch),
+        Call::Add => add(rt, &mut watch),
+        _ => look_on(rt, &mut watch),
+    }
 }
 
 /// Whether this name was drawn.

@@ -1,6 +1,6 @@
 //! Calls that may return `Memory`, made with ample memory, and texts compared with the manual's.
-ghost use Rattle.std.specs.Prelude.{◌≡◌, ◌∷◌, [], IsTrue, OnOk};
-ghost use Rattle.ports_core.specs.{Slot.{is_removable, streams}, Source.{is_readable, source_of, unshown}};
+ghost use Rattle.std.specs.Prelude.{IfOk, IsTrue, OnOk};
+ghost use Rattle.ports_core.specs.{Slot.is_removable, Source.is_readable};
 
 use crate::compare::{same, same_bytes};
 use crate::reading::{Call, ask, broken_input, open_and_ask};
@@ -10,6 +10,7 @@ use ports_core::{
     Fault, Inputs, Mode, Outs, Tool, UsageKind, Verdict, WriteCut, fed_with, memory_exhausted,
     message, write_whole,
 };
+use std::alloc::Global;
 use std::process::Abort;
 use std::test::Fail;
 
@@ -70,40 +71,25 @@ const LIMITED: &[Left<'static>] = &[
     },
 ];
 
-/// Writes to standard output and to a limited output, which takes two bytes.
-fn write_limited(abort: &impl Abort, outs: &mut MemOut) -> Result<(), Fault>
-    requires { outs.old ≡ streams }
-{
-    same(abort, &write_whole(outs, 0, b"abc"), &Ok(()));
-    let slot = open_output(abort, outs, "f", Mode::Append, 2)?;
-    outs.limit(slot, 2)?;
-    let cut = WriteCut { slot, written: 2 };
-    same(abort, &write_whole(outs, slot, b"xyz"), &Err(cut));
-    Ok(())
-}
-
 #[test]
 fn outputs_in_memory(rt: HostRuntime) -> Result<(), Fail> {
     let mut outs = MemOut::new(rt.alloc())?;
-    same(&rt, &write_limited(&rt, &mut outs), &Ok(()));
+    same(&rt, &write_whole(&mut outs, 0, b"abc"), &Ok(()));
+    let slot = open_output(&rt, &mut outs, "f", Mode::Append, 2)?;
+    outs.limit(slot, 2)?;
+    let cut = WriteCut { slot, written: 2 };
+    same(&rt, &write_whole(&mut outs, slot, b"xyz"), &Err(cut));
     are_left(&rt, &outs, LIMITED);
     Ok(())
-}
-
-/// Opens a file, closes it and removes it, and returns whether it is broken.
-fn end_file(outs: &mut MemOut) -> Result<bool, Fault>
-    requires { outs.old ≡ streams }
-{
-    let slot = outs.open("f", Mode::Fresh)?;
-    outs.close(slot)?;
-    outs.remove(slot)?;
-    Ok(outs.broken(slot))
 }
 
 #[test]
 fn files_end(rt: HostRuntime) -> Result<(), Fail> {
     let mut outs = MemOut::new(rt.alloc())?;
-    same(&rt, &end_file(&mut outs), &Ok(false));
+    let slot = outs.open("f", Mode::Fresh)?;
+    same(&rt, &outs.close(slot), &Ok(()));
+    same(&rt, &outs.remove(slot), &Ok(()));
+    assert!(rt; !outs.broken(slot));
     Ok(())
 }
 
@@ -125,22 +111,14 @@ fn an_input_in_memory(rt: HostRuntime) -> Result<(), Fail> {
     Ok(())
 }
 
-/// Gives back what was read of standard input, and reads it again.
-fn read_again(abort: &impl Abort, inputs: &mut MemIn) -> Result<(), Fault>
-    requires { inputs.old.sources ≡ source_of (unshown []) ∷ [] }
-{
-    inputs.input(b"abcd")?;
-    inputs.pieces(3);
-    let last = read_and_give_back(inputs, 2)?;
-    same(abort, &last, &3);
-    ask(abort, inputs, 0, &[Call::Read(9, 3, b"bcd")]);
-    Ok(())
-}
-
 #[test]
 fn what_is_given_back_is_read_again(rt: HostRuntime) -> Result<(), Fail> {
     let mut inputs = MemIn::new(rt.alloc())?;
-    same(&rt, &read_again(&rt, &mut inputs), &Ok(()));
+    inputs.input(b"abcd")?;
+    inputs.pieces(3);
+    let last = read_and_give_back(&mut inputs, 2)?;
+    same(&rt, &last, &3);
+    ask(&rt, &mut inputs, 0, &[Call::Read(9, 3, b"bcd")]);
     Ok(())
 }
 
@@ -175,14 +153,14 @@ fn short_writes(rt: HostRuntime) -> Result<(), Fail> {
 }
 
 /// Opens the file `f`, and fails to open `g`.
-fn open_one_of_two(rt: &impl Abort, outs: &mut MemOut) -> Result<(), Fault>
-    requires { outs.old ≡ streams }
-    ensures { OnOk result (is_removable outs.new 2) }
+fn open_one_of_two(rt: &impl Abort, alloc: Global) -> Result<MemOut, Fault>
+    ensures { IfOk result (λ outs. is_removable outs 2) }
 {
+    let mut outs = MemOut::new(alloc)?;
     outs.fail_at(2);
     outs.open("f", Mode::Fresh)?;
     same(rt, &outs.open("g", Mode::Fresh), &Err(Fault::Open(3)));
-    Ok(())
+    Ok(outs)
 }
 
 /// Fails to remove the file of an output.
@@ -191,18 +169,6 @@ fn fail_to_remove(rt: &impl Abort, outs: &mut MemOut, slot: usize)
 {
     outs.fail_at(1);
     same(rt, &outs.remove(slot), &Err(Fault::Write(slot)));
-}
-
-/// Opens a file, fails to open another and to remove the first, and opens a third and removes it.
-fn make_failing_calls(rt: &impl Abort, outs: &mut MemOut) -> Result<(), Fault>
-    requires { outs.old ≡ streams }
-{
-    open_one_of_two(rt, outs)?;
-    assert!(rt; outs.broken(3) && !outs.broken(2) && !outs.removed(2));
-    fail_to_remove(rt, outs, 2);
-    assert!(rt; outs.broken(2) && !outs.removed(2));
-    let other = open_output(rt, outs, "h", Mode::Fresh, 4)?;
-    outs.remove(other)
 }
 
 /// What two calls that failed leave, and a file that was removed.
@@ -239,8 +205,12 @@ const FAILED: &[Left<'static>] = &[
 
 #[test]
 fn calls_that_fail(rt: HostRuntime) -> Result<(), Fail> {
-    let mut outs = MemOut::new(rt.alloc())?;
-    same(&rt, &make_failing_calls(&rt, &mut outs), &Ok(()));
+    let mut outs = open_one_of_two(&rt, rt.alloc())?;
+    assert!(rt; outs.broken(3) && !outs.broken(2) && !outs.removed(2));
+    fail_to_remove(&rt, &mut outs, 2);
+    assert!(rt; outs.broken(2) && !outs.removed(2));
+    let other = open_output(&rt, &mut outs, "h", Mode::Fresh, 4)?;
+    outs.remove(other)?;
     are_left(&rt, &outs, FAILED);
     Ok(())
 }
@@ -251,18 +221,13 @@ const WHOLE: &[Call<'static>] = &[Call::Read(8, 3, b"abc"), Call::Read(8, 0, b""
 /// What is asked of it where it breaks off after two.
 const CUT: &[Call<'static>] = &[Call::Read(8, 2, b"ab"), Call::Fails(8, Fault::Read(2))];
 
-/// Reads a file as a whole, and then as an input that breaks off.
-fn read_twice(abort: &impl Abort, inputs: &mut MemIn) -> Result<(), Fault> {
-    inputs.file("f", b"abc")?;
-    inputs.break_at(2, 2)?;
-    open_and_ask(abort, inputs, "f", 1, WHOLE)?;
-    open_and_ask(abort, inputs, "f", 2, CUT)
-}
-
 #[test]
 fn files_in_memory(rt: HostRuntime) -> Result<(), Fail> {
     let mut inputs = MemIn::new(rt.alloc())?;
-    same(&rt, &read_twice(&rt, &mut inputs), &Ok(()));
+    inputs.file("f", b"abc")?;
+    inputs.break_at(2, 2)?;
+    open_and_ask(&rt, &mut inputs, "f", 1, WHOLE)?;
+    open_and_ask(&rt, &mut inputs, "f", 2, CUT)?;
     same(&rt, &inputs.open("g"), &Err(Fault::Open(3)));
     Ok(())
 }

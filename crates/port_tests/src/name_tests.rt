@@ -1,25 +1,19 @@
 //! Names at the places where they widen or end, numbers in a form, and headers.
 ghost use Rattle.ports_core.specs.Name.{IsWide};
 
-use crate::compare::{same, same_bytes};
+use crate::compare::same_bytes;
 use ports_core::{
     Alphabet, Base, Fault, Filling, Form, Names, Naming, Numbering, header, numbered,
 };
 use std::alloc::Global;
-use std::process::Abort;
 use std::test::Fail;
 
 /// Draws names up to a place, and returns the one there.
-fn next_at(names: &mut Names, place: u64) -> Result<Option<String>, Fault> {
+fn name_at(mut names: Names, place: u64) -> Result<Option<String>, Fault> {
     for _ in 0..place {
         names.next()?;
     }
     names.next()
-}
-
-/// Draws names up to a place, of these alone, and returns the one there.
-fn name_at(mut names: Names, place: u64) -> Result<Option<String>, Fault> {
-    next_at(&mut names, place)
 }
 
 /// Whether a name was drawn and is as wanted, or none was drawn and none is wanted.
@@ -59,23 +53,18 @@ fn names_widen(rt: HostRuntime) -> Result<(), Fail> {
     Ok(())
 }
 
-/// Draws names of one letter: all that there are, and then none.
-fn draw_letters(abort: &impl Abort, names: &mut Names) -> Result<(), Fault> {
-    for letter in b'a'..=b'z' {
-        let drawn = names.next()?;
-        assert!(abort; is_name(drawn, Some(&[b'x', letter])), "at {letter}");
-    }
-    for _ in 0..2 {
-        let drawn = names.next()?;
-        assert!(abort; is_name(drawn, None));
-    }
-    Ok(())
-}
-
 #[test]
 fn a_fixed_width_ends(rt: HostRuntime) -> Result<(), Fail> {
     let mut names = Names::new(rt.alloc(), "x", Alphabet::Letters, 1, false, "")?;
-    same(&rt, &draw_letters(&rt, &mut names), &Ok(()));
+    for letter in b'a'..=b'z' {
+        assert!(rt;
+            is_name(names.next()?, Some(&[b'x', letter])),
+            "at {letter}"
+        );
+    }
+    for _ in 0..2 {
+        assert!(rt; is_name(names.next()?, None));
+    }
     Ok(())
 }
 

@@ -1,5 +1,5 @@
 //! What no clause says of files in memory: that calls succeed where there is memory, and that a failure comes where it is planned.
-ghost use Rattle.std.specs.Prelude.{◌≡◌, ◌∷◌, [], IsTrue, OnOk};
+ghost use Rattle.std.specs.Prelude.{◌≡◌, ◌∷◌, [], IsTrue, IfOk, OnOk};
 ghost use Rattle.watch_core.specs.Watched.{added, is_readable, is_watchable};
 
 use crate::compare::same;
@@ -13,28 +13,27 @@ use watch_core::{Seen, Watch};
 /// What is done to files before each look.
 type Looks = &'static [&'static [Edit<'static>]];
 
-/// Has a watch look at the name `f` after each of these lists of edits.
-fn plan(watch: &mut MemWatch, looks: Looks) -> Result<(), Fault>
-    requires { watch.old.watched ≡ [] }
-    ensures { OnOk result (watch.new.watched ≡ added (102 ∷ []) ∷ []) }
+/// A watch over the name `f`, with a look after each of these lists of edits.
+fn watch_of(alloc: Global, looks: Looks) -> Result<MemWatch, Fault>
+    ensures { IfOk result (λ watch. watch.watched ≡ added (102 ∷ []) ∷ []) }
 {
+    let mut watch = MemWatch::new(alloc)?;
     watch.add("f")?;
     for edits in looks {
         watch.then(edits)?;
     }
-    Ok(())
+    Ok(watch)
 }
 
-/// Has a watch look at the name `f` so, and makes this many looks.
-fn plan_and_look(watch: &mut MemWatch, looks: Looks, count: u64) -> Result<(), Fault>
-    requires { watch.old.watched ≡ [] }
-    ensures { OnOk result (IsTrue (is_watchable watch.new.watched 0)) }
+/// The same watch, after this many looks.
+fn watch_at(alloc: Global, looks: Looks, count: u64) -> Result<MemWatch, Fault>
+    ensures { IfOk result (λ watch. IsTrue (is_watchable watch.watched 0)) }
 {
-    plan(watch, looks)?;
+    let mut watch = watch_of(alloc, looks)?;
     for _ in 0..count {
         watch.turn()?;
     }
-    Ok(())
+    Ok(watch)
 }
 
 /// A file is written, and then appended to and cut.
@@ -49,37 +48,19 @@ const REMOVED: Looks = &[
     &[Edit::Replace("f", b"x"), Edit::Remove("f")],
 ];
 
-/// What the second look sees.
-fn second_seen(watch: &mut MemWatch) -> Result<Option<Seen>, Fault>
-    requires { watch.old.watched ≡ [] }
-{
-    plan_and_look(watch, CUT, 2)?;
-    let found = watch.look(0)?;
-    Ok(found)
-}
-
 #[test]
 fn a_look_sees_what_was_planned(rt: HostRuntime) -> Result<(), Fail> {
-    let mut watch = MemWatch::new(rt.alloc())?;
-    let wanted = Ok(Some(Seen { id: 0, len: 4 }));
-    same(&rt, &second_seen(&mut watch), &wanted);
+    let mut watch = watch_at(rt.alloc(), CUT, 2)?;
+    same(&rt, &watch.look(0), &Ok(Some(Seen { id: 0, len: 4 })));
     Ok(())
-}
-
-/// Opens a file, and looks once more after it was removed. Returns whether it could be opened, and which file is open.
-fn open_and_look(watch: &mut MemWatch) -> Result<(bool, Option<u128>), Fault>
-    requires { watch.old.watched ≡ [] }
-{
-    plan_and_look(watch, REMOVED, 1)?;
-    let is_there = watch.reopen(0)?;
-    watch.turn()?;
-    Ok((is_there, watch.open_id(0)))
 }
 
 #[test]
 fn a_file_stays_open(rt: HostRuntime) -> Result<(), Fail> {
-    let mut watch = MemWatch::new(rt.alloc())?;
-    same(&rt, &open_and_look(&mut watch), &Ok((true, Some(0))));
+    let mut watch = watch_at(rt.alloc(), REMOVED, 1)?;
+    same(&rt, &watch.reopen(0), &Ok(true));
+    watch.turn()?;
+    same(&rt, &watch.open_id(0), &Some(0));
     Ok(())
 }
 
@@ -130,15 +111,13 @@ fn reopen(rt: &impl Abort, watch: &mut MemWatch) -> Result<(), Fault>
 }
 
 /// Makes all calls in their order, of which the one with this number is to fail, and returns the number of the one that did.
-fn first_failure(rt: &impl Abort, watch: &mut MemWatch, failing: u64) -> Result<usize, Fault>
-    requires { watch.old.watched ≡ [] }
-{
-    plan_and_look(watch, WRITTEN, 1)?;
-    reopen(rt, watch)?;
+fn first_failure(rt: &impl Abort, alloc: Global, failing: u64) -> Result<usize, Fault> {
+    let mut watch = watch_at(alloc, WRITTEN, 1)?;
+    reopen(rt, &mut watch)?;
     watch.fail_at(failing);
     let mut done = 0usize;
     for call in CALLS {
-        if let Err(fault) = ask(rt, watch, *call) {
+        if let Err(fault) = ask(rt, &mut watch, *call) {
             same(rt, &fault, &failure_of(*call));
             return Ok(done);
         }
@@ -147,16 +126,10 @@ fn first_failure(rt: &impl Abort, watch: &mut MemWatch, failing: u64) -> Result<
     Ok(done)
 }
 
-/// The same with a watch of its own.
-fn first_failure_of_new(rt: &impl Abort, alloc: Global, failing: u64) -> Result<usize, Fault> {
-    let mut watch = MemWatch::new(alloc)?;
-    first_failure(rt, &mut watch, failing)
-}
-
 #[test]
 fn each_call_fails_in_its_turn(rt: HostRuntime) -> Result<(), Fail> {
     for failing in 1..=5 {
-        let done = first_failure_of_new(&rt, rt.alloc(), failing)?;
+        let done = first_failure(&rt, rt.alloc(), failing)?;
         same(&rt, &(done as u64), &(failing - 1));
     }
     Ok(())
