@@ -69,17 +69,10 @@ const PAIRS: &[Pair<'static>] = &[
 fn meet(rt: &impl Abort, alloc: Global, text: &[u8], pair: &Pair<'_>) -> Result<(), Fault> {
     let head = left_of(rt, alloc, pair.0, text, 4)?;
     let tail = left_of(rt, alloc, pair.1, text, 64)?;
-    let is_whole = is_joined(head.bytes(0), tail.bytes(0), text);
-    assert!(rt; is_whole, "of {pair:?}");
+    let mut both = Vec::from_slice(alloc, head.bytes(0))?;
+    both.extend_from_slice(tail.bytes(0))?;
+    assert!(rt; both.as_slice() == text, "of {pair:?}");
     Ok(())
-}
-
-/// Whether the first text and then the second are the third.
-fn is_joined(front: &[u8], back: &[u8], text: &[u8]) -> bool {
-    match text.strip_prefix(front) {
-        Some(rest) => rest == back,
-        None => false,
-    }
 }
 
 #[test]
@@ -139,14 +132,10 @@ fn leave_the_same(
     let one = left_by(rt, alloc, words, pieces)?;
     let other = left_by(rt, alloc, words, 64)?;
     for slot in 0..12 {
-        assert!(rt; are_same(&one, &other, slot), "in {slot} of {words:?}");
+        let are_same = one.name(slot) == other.name(slot) && one.bytes(slot) == other.bytes(slot);
+        assert!(rt; are_same, "in {slot} of {words:?}");
     }
     Ok(())
-}
-
-/// Whether two runs left an output of the same name with the same bytes.
-fn are_same(one: &MemOut, other: &MemOut, slot: usize) -> bool {
-    one.name(slot) == other.name(slot) && one.bytes(slot) == other.bytes(slot)
 }
 
 #[test]
@@ -184,8 +173,9 @@ fn end_the_same(
     let one = faulty_left(rt, alloc, row, pieces)?;
     let other = faulty_left(rt, alloc, row, 64)?;
     for slot in 0..14 {
-        let is_so = are_same(&one, &other, slot) && one.removed(slot) == other.removed(slot);
-        assert!(rt; is_so, "in {slot} of {words:?}");
+        assert_eq!(rt; one.name(slot), other.name(slot), "of {words:?}");
+        assert_eq!(rt; one.bytes(slot), other.bytes(slot), "of {words:?}");
+        assert_eq!(rt; one.removed(slot), other.removed(slot), "of {words:?}");
     }
     Ok(())
 }
@@ -340,23 +330,15 @@ const LEFT_OUT: &[Lines<'static>] = &[
 /// The files that the words make are joined the text, in the order of their names.
 fn lose_nothing(rt: &impl Abort, alloc: Global, words: &[&str]) -> Result<(), Fault> {
     let outs = left_by(rt, alloc, words, 4)?;
-    for slot in FILES {
-        assert!(rt; is_in_order(&outs, *slot), "in {slot} of {words:?}");
+    let mut all = Vec::new(alloc);
+    for slot in 2..20 {
+        let comes_after = outs.name(slot) > outs.name(slot.saturating_sub(1));
+        let is_none = outs.name(slot).is_empty();
+        assert!(rt; slot == 2 || comes_after || is_none, "of {words:?}");
+        all.extend_from_slice(outs.bytes(slot))?;
     }
-    let all = joined(alloc, &outs, FILES)?;
     assert!(rt; all.as_slice() == TEXT, "of {words:?}");
     Ok(())
-}
-
-/// The numbers of the first outputs that are files.
-const FILES: &[usize] = &[
-    2, 3, 4, 5, 6, 7, 8, 9, 10, 11, 12, 13, 14, 15, 16, 17, 18, 19,
-];
-
-/// Whether the name of an output comes after that of the one before, if there is such a file and one before it.
-fn is_in_order(outs: &MemOut, slot: usize) -> bool {
-    let name = outs.name(slot);
-    slot == 2 || name.is_empty() || name > outs.name(slot.saturating_sub(1))
 }
 
 #[test]
@@ -379,26 +361,9 @@ fn leave_a_beginning(
     plan: Plan,
 ) -> Result<(), Fault> {
     let well = left_by(rt, alloc, words, 4)?;
-    leave_a_beginning_of(rt, alloc, words, plan, &well)
-}
-
-/// The same, where this is what is left if no call fails.
-fn leave_a_beginning_of(
-    rt: &impl Abort,
-    alloc: Global,
-    words: &[&str],
-    plan: Plan,
-    well: &MemOut,
-) -> Result<(), Fault> {
     let mut inputs = inputs_of(alloc, &[], TEXT)?;
     let mut outs = planned_outs(alloc, &[plan])?;
     let status = run(alloc, words, &mut inputs, &mut outs);
-    check_beginning(rt, words, status, &outs, well);
-    Ok(())
-}
-
-/// Checks what a run left of which a call may have failed.
-fn check_beginning(rt: &impl Abort, words: &[&str], status: u8, outs: &MemOut, well: &MemOut) {
     let is_told = !outs.bytes(1).is_empty() || outs.broken(1);
     assert!(rt; status == 0 || is_told, "of {words:?}");
     for slot in [0, 2, 3, 4, 5, 6, 7] {
@@ -408,6 +373,7 @@ fn check_beginning(rt: &impl Abort, words: &[&str], status: u8, outs: &MemOut, w
         let is_named = has_part(outs.bytes(1), outs.name(slot).as_bytes());
         assert!(rt; !outs.broken(slot) || is_named, "in {slot} of {words:?}");
     }
+    Ok(())
 }
 
 /// Whether these bytes stand in the text.
@@ -426,8 +392,8 @@ fn file_that_stays_is_not_named(rt: HostRuntime) -> Result<(), Fail> {
     let mut inputs = inputs_of(rt.alloc(), &[], TEXT)?;
     let mut outs = planned_outs(rt.alloc(), &[Plan::Limit(3, 4), Plan::FailAt(8)])?;
     let status = run(rt.alloc(), &words, &mut inputs, &mut outs);
-    assert!(rt; status == 1);
-    same_bytes(&rt, outs.bytes(1), b"csplit: cannot write 'xx01'\n");
+    assert_eq!(rt; status, 1);
+    assert_eq!(rt; outs.bytes(1), b"csplit: cannot write 'xx01'\n".as_slice());
     assert!(rt; outs.broken(2) && !outs.removed(2) && outs.removed(3));
     Ok(())
 }
@@ -474,20 +440,11 @@ fn tell_all(
     let mut watch = watch_of(alloc, looks)?;
     let mut outs = MemOut::new(alloc)?;
     let status = run_follow(alloc, words.0, &mut watch, &mut outs, 4);
-    assert!(rt; status == 0, "of {words:?}");
-    is_all(rt, alloc, words.1, came, outs.bytes(0))
-}
-
-/// Checks that a text is what the words write of the five lines, and then all that came.
-fn is_all(
-    rt: &impl Abort,
-    alloc: Global,
-    words: &[&str],
-    came: &[u8],
-    text: &[u8],
-) -> Result<(), Fault> {
-    let outs = left_by(rt, alloc, words, 4)?;
-    let is_whole = is_joined(outs.bytes(0), came, text);
-    assert!(rt; is_whole, "of {words:?}");
+    let mut all = Vec::from_slice(alloc, left_by(rt, alloc, words.1, 4)?.bytes(0))?;
+    all.extend_from_slice(came)?;
+    assert!(rt;
+        status == 0 && outs.bytes(0) == all.as_slice(),
+        "of {words:?}"
+    );
     Ok(())
 }
