@@ -42,8 +42,9 @@ const ROWS: &[(&[&str], &str)] = &[
     // Of several letters the first that is no option's.
     (&["head", "-q3"], "unknown option '-q3': '3'"),
     (&["head", "-qzqj3"], "unknown option '-qzqj3': 'j'"),
-    (&["split", "-3d"], "unknown option '-3d': '3'"),
-    (&["head", "-5cc"], "unknown option '-5cc': '5'"),
+    (&["split", "-d3"], "unknown option '-d3': '3'"),
+    (&["split", "-3d"], "unknown option '-3d'"),
+    (&["head", "-5cc"], "unknown option '-5cc'"),
     (&["csplit", "-ka"], "unknown option '-ka': 'a'"),
     (&["head", "-q\u{e4}"], "unknown option '-q\u{e4}'"),
     (&["tee", "-i"], "unknown option '-i'"),

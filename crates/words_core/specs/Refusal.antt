@@ -1,7 +1,8 @@
 -- What a tool adds by its own name to a message that refuses words: which letter is no option, for which option a value
 -- was, or what a value may be. It follows from the words alone.
 use Rattle.std.specs.{
-  Prelude.{ℕ, ◌-◌, ◌==◌, nat_lt, Bool, true, false, List, [], ◌∷◌, ◌++◌, codes, is_some, take},
+  Char.is_ascii_digit,
+  Prelude.{ℕ, ◌-◌, ◌==◌, ◌||◌, nat_lt, Bool, true, false, List, [], ◌∷◌, ◌++◌, codes, is_some, take},
   Prelude.{Option, Some, None, Result, Ok, Err, if◌then◌else◌, slice_index_or},
 }
 use Rattle.ports_core.specs.{
@@ -28,11 +29,12 @@ abbrev pub row_of : List (List ℕ) → Option ToolRow
 row_of [] = None
 row_of (name ∷ words) = row_named tools name
 
--- Which letter of several in one word is no option's: the first such. 45 is a hyphen; a word that begins with two is a long
--- option.
+-- Which letter of several in one word is no option's: the first such. 45 is a hyphen. A word that begins with two is a
+-- long option, and one that begins with a hyphen and a digit has a number; of these nothing is said.
 
 abbrev pub letters_of : List ℕ → List ℕ
-letters_of (hyphen ∷ letter ∷ next ∷ letters) = if letter == 45 then [] else letter ∷ next ∷ letters
+letters_of (hyphen ∷ letter ∷ next ∷ letters) =
+    if letter == 45 || is_ascii_digit letter then [] else letter ∷ next ∷ letters
 letters_of word = []
 
 abbrev pub quoted_letter : ℕ → List ℕ

@@ -73,12 +73,12 @@ fn unknown_letter(
     }
 }
 
-/// The letters of a word that has several after its hyphen, and is no long option.
+/// The letters of a word that has several after its hyphen, is no long option, and doesn't begin with a number.
 fn letters_of(word: &[u8]) -> &[u8]
     ensures { result.now ≡ letters_of word.now }
 {
     match word {
-        [_, letter, _, ..] if *letter != b'-' => &word[1..],
+        [_, letter, _, ..] if *letter != b'-' && !letter.is_ascii_digit() => &word[1..],
         _ => &[],
     }
 }
