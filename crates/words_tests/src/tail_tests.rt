@@ -1,7 +1,7 @@
 //! What the words after `tail` ask for, where files are followed.
-use crate::asked::{Asked, check};
-use crate::refused::{Refused, refuse};
-use ports_core::UsageKind;
+use crate::asked::{Asked, check, check_called};
+use crate::refused::{Refused, refuse, refuse_called};
+use ports_core::{Calling, UsageKind};
 use std::alloc::Global;
 use std::process::Abort;
 use words_core::{Followed, MOST_LOOKS, Settings, TailSettings};
@@ -170,17 +170,43 @@ const WAITS: &[(&[&str], u64)] = &[
     (&["tail", "-f", "--max-unchanged-stats", "12", "f"], 1000),
 ];
 
+/// Words, and what is followed if `tail` is called by its own name.
+type OwnRow<'a> = (&'a [&'a str], Option<Followed>);
+
+#[test]
+fn follows_by_its_own_name_what_cutters_refuses(rt: HostRuntime) {
+    for row in BY_OWN_NAME {
+        follows_alone(&rt, rt.alloc(), row);
+    }
+}
+
+/// Checks that this is followed by `tail`'s own name, and that `cutters` refuses the words.
+fn follows_alone(rt: &impl Abort, alloc: Global, row: &OwnRow<'_>) {
+    let (words, followed) = *row;
+    let wanted = Wanted::Follows(followed, MOST_LOOKS);
+    check_called(rt, alloc, Calling::OwnName, words, &wanted);
+    let refused = [(words, UsageKind::BadFollow, 0)];
+    refuse_called(rt, alloc, Calling::Cutters, &refused);
+}
+
+const BY_OWN_NAME: &[OwnRow<'static>] = &[
+    (&["tail", "--follow=name", "f"], Some(Followed::PresentName)),
+    (&["tail", "-f", "--retry", "f"], Some(Followed::FirstFile)),
+    (&["tail", "-F", "-f", "f"], Some(Followed::FirstFile)),
+    (&["tail", "--retry", "f"], None),
+    (&["tail", "--retry"], None),
+    (&["tail", "--retry", "-f"], None),
+    (&["tail", "--retry", "-f", "-"], None),
+];
+
 #[test]
 fn refuses_words_of_tail(rt: HostRuntime) {
     refuse(&rt, rt.alloc(), REFUSED);
 }
 
 const REFUSED: &[Refused<'static>] = &[
-    (&["tail", "--follow=name", "f"], UsageKind::BadFollow, 0),
-    (&["tail", "--retry", "f"], UsageKind::BadFollow, 0),
-    (&["tail", "--retry"], UsageKind::BadFollow, 0),
-    (&["tail", "--retry", "-f"], UsageKind::BadFollow, 0),
-    (&["tail", "-F", "-f", "f"], UsageKind::BadFollow, 0),
+    (&["tail", "--follow=name"], UsageKind::BadFollow, 0),
+    (&["tail", "-f", "--retry", "f", "-"], UsageKind::BadFollow, 0),
     (&["tail", "-F"], UsageKind::BadFollow, 0),
     (&["tail", "-F", "-"], UsageKind::BadFollow, 0),
     (&["tail", "-F", "f", "-"], UsageKind::BadFollow, 0),
