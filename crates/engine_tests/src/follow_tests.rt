@@ -365,11 +365,11 @@ fn forgives_by_its_own_name_alone(rt: HostRuntime) -> Result<(), Fail> {
     Ok(())
 }
 
-/// By its own name no call fails, whichever is planned to.
+/// By its own name no call fails on a name that is followed to where it leads, whichever is planned to.
 #[test]
 fn forgives_each_call(rt: HostRuntime) -> Result<(), Fail> {
     for row in BARRED {
-        if row.calling == Calling::OwnName && row.method != Method::PresentName {
+        if row.calling == Calling::OwnName && row.method == Method::Name {
             forgives_any(&rt, rt.alloc(), row)?;
         }
     }
@@ -381,6 +381,62 @@ fn forgives_any(rt: &impl Abort, alloc: Global, row: &Barred<'_>) -> Result<(), 
         let mut watch = watch_of(alloc, row.looks)?;
         watch.fail_at(call);
         follows_barred(rt, alloc, row, watch)?;
+    }
+    Ok(())
+}
+
+/// The number of the call that fails on the open file of a name that stays with its first one, and what the run leaves: it says so, and
+/// drops the name.
+const CLUNG: &[(u64, Barred<'static>)] = &[
+    (
+        1,
+        Barred {
+            calling: Calling::OwnName,
+            method: Method::FirstFile,
+            looks: &[&[Edit::Replace("f", b"a\nb\n")]],
+            status: 1,
+            output: b"",
+            messages: b"tail: cannot read 'f': Permission denied\n",
+        },
+    ),
+    (
+        4,
+        Barred {
+            calling: Calling::OwnName,
+            method: Method::FirstFile,
+            looks: &[
+                &[Edit::Replace("f", b"a\nb\n")],
+                &[Edit::Append("f", b"c\n")],
+                &[Edit::Append("f", b"d\n")],
+            ],
+            status: 1,
+            output: b"b\n",
+            messages: b"tail: cannot read 'f': Permission denied\n",
+        },
+    ),
+    (
+        5,
+        Barred {
+            calling: Calling::OwnName,
+            method: Method::FirstFile,
+            looks: &[
+                &[Edit::Replace("f", b"a\nb\n")],
+                &[Edit::Append("f", b"c\n")],
+                &[Edit::Append("f", b"d\n")],
+            ],
+            status: 1,
+            output: b"b\n",
+            messages: b"tail: cannot read 'f': Permission denied\n",
+        },
+    ),
+];
+
+#[test]
+fn drops_a_first_file_that_fails(rt: HostRuntime) -> Result<(), Fail> {
+    for row in CLUNG {
+        let mut watch = watch_of(rt.alloc(), row.1.looks)?;
+        watch.fail_at(row.0);
+        follows_barred(&rt, rt.alloc(), &row.1, watch)?;
     }
     Ok(())
 }

@@ -26,16 +26,17 @@ use Rattle.follow_core.specs.{
   Telling.tail_by,
 }
 
--- names are followed to where they lead
+-- names are followed to where looks say that they lead: one that stays with its first file leads to that
 abbrev pub is_by_name : Method → Bool
 is_by_name Descriptor = false
 is_by_name Name = true
 is_by_name PresentName = true
 is_by_name FirstFile = true
 
--- What each look of a run shows. Where `tail` was called by its own name and follows names, a name that is there but
--- can't be opened or read counts as missing, and no call on a name fails. A name that is followed while it is there
--- fails once it leads nowhere. Where the first file of a name is followed, the name leads to it from then on.
+-- What each look of a run shows. If `tail` was called by its own name and goes on with names (`Name`), a name that is
+-- there but can't be opened or read counts as missing, and no call fails on a name that a file can have. A name that is
+-- followed while it is there fails once it leads nowhere. If the first file of a name is followed, the name leads to it
+-- from then on, and a call on it can fail.
 abbrev pub shows_by : Calling → Method → (ℕ → Snapshot) → ℕ → Snapshot
 shows_by calling Descriptor shows = shows
 shows_by Cutters Name shows = shows

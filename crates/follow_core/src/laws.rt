@@ -84,7 +84,7 @@ pub fn missing_names_are_dropped()
         → is_dropped (ways.first + place) looks ≡ true }
 {}
 
-/// Where looks cling, a name that led to a file leads to it at each later look.
+/// Where looks cling, a name that led to a file leads to it at each later look. Calls on it can fail all the same: then it is dropped.
 pub fn first_files_stay()
     ensures { (shows : ℕ → Snapshot) (name : List ℕ) (file n later : ℕ) → n ≤ later
         → (clinging shows n).leads name ≡ Some file → (clinging shows later).leads name ≡ Some file }

@@ -36,12 +36,13 @@ pub enum Method {
     Name,
     /// By name, while it leads to a file. A name that leads nowhere is dropped.
     PresentName,
-    /// The first file to which a name leads at any look, wherever it leads later.
+    /// The first file to which a name leads at any look, wherever it leads later. A name that can't be opened before counts as missing. If
+    /// the file can't be read later, the name is dropped.
     FirstFile,
 }
 
 impl Method {
-    /// Whether names are followed to where they lead.
+    /// Whether names are followed to where looks say that they lead. One that stays with its first file leads to that.
     pub fn is_by_name(self) -> bool
         ensures { result ≡ is_by_name self }
     {

@@ -15,8 +15,8 @@ use Rattle.watch_core.{
 use Rattle.ports_core.specs.declared.reason.Reason.{Reason}
 use Rattle.mem_core.specs.{
   MemWatchState.{MemWatchState, world_at, seen_by, seen, shown_by, shown_in, shows},
-  declared.mem_watch.{Leading.{Leading, TheVariants.{Plain, Forgiving, Clinging}}, Manner.Manner},
-  inner.Leading.{CanFail, forgiven, led_at},
+  declared.mem_watch.{Leading.{Leading, TheVariants.{Plain, Forgiving, Clinging, Keeping}}, Manner.Manner},
+  inner.Leading.{CanFail, fails_by, forgiven, led_at},
 }
 
 pub world_there : (worlds : List World) (n : ℕ) (world : World) → n < length worlds
@@ -108,6 +108,8 @@ shown_holds manner worlds n file = by manner.leading manner.insists where
   by Forgiving true = refl
   by Clinging false = refl
   by Clinging true = refl
+  by Keeping false = refl
+  by Keeping true = refl
 
 shown_lacks : (manner : Manner) (worlds : List World) (n process : ℕ)
     → is_one process (world_at worlds (suc n)).ended ≡ (shown_in manner worlds n).lacks process
@@ -120,6 +122,8 @@ shown_lacks manner worlds n process = by manner.leading manner.insists where
   by Forgiving true = refl
   by Clinging false = refl
   by Clinging true = refl
+  by Keeping false = refl
+  by Keeping true = refl
 
 shown_leads : (manner : Manner) (worlds : List World) (n : ℕ) (name : List ℕ)
     → led_at manner.leading worlds (suc n) name ≡ (shown_in manner worlds n).leads name
@@ -132,6 +136,8 @@ shown_leads manner worlds n name = by manner.leading manner.insists where
   by Forgiving true = refl
   by Clinging false = refl
   by Clinging true = refl
+  by Keeping false = refl
+  by Keeping true = refl
 
 -- any call may have found anything, except that a name leads nowhere if that fails
 shown_finds : (manner : Manner) (worlds : List World) (n : ℕ) (name : List ℕ) (finding : Finding)
@@ -145,6 +151,8 @@ shown_finds manner worlds n name finding = by manner.leading manner.insists wher
   by Forgiving true there = ap not (there refl)
   by Clinging false there = refl
   by Clinging true there = ap not (there refl)
+  by Keeping false there = refl
+  by Keeping true there = ap not (there refl)
 
 pub finds_any : (manner : Manner) (within : ℕ) (worlds : List World) (n : ℕ) (name : List ℕ) (finding : Finding)
     → (manner.insists ≡ true → is_nowhere finding ≡ false)
@@ -181,6 +189,7 @@ latest_leads manner within worlds zero name is = by manner.leading where
   by Plain = ap (λ world. (shown false world).leads name) is
   by Forgiving = ap (λ world. (shown true world).leads name) is
   by Clinging = refl
+  by Keeping = refl
 latest_leads manner within worlds (suc n) name is = shown_leads manner worlds n name
     ∙ ap (λ (shown : Snapshot). shown.leads name) (sym (latest-last (seen_by manner within worlds n) _))
 
@@ -194,8 +203,9 @@ shown_breaks manner worlds n name = by manner.leading manner.insists where
   by Plain false is = refl
   by Forgiving false (inl is) = absurd (cc)
   by Forgiving false (inr is) = absurd (cc)
-  by Clinging false (inl is) = absurd (cc)
-  by Clinging false (inr is) = absurd (cc)
+  by Clinging false is = refl
+  by Keeping false (inl is) = absurd (cc)
+  by Keeping false (inr is) = absurd (cc)
 
 latest_breaks : (manner : Manner) (within : ℕ) (worlds : List World) (n : ℕ) (name : List ℕ) → CanFail manner
     → (latest (seen_by manner within worlds n)).breaks name ≡ true
@@ -243,6 +253,8 @@ forgives_all manner within worlds = by manner.leading manner.insists where
   })
   by Clinging false = refl
   by Clinging true = refl
+  by Keeping false = refl
+  by Keeping true = refl
 
 pub insists_all : (manner : Manner) (within : ℕ) (worlds : List World)
     → ◌≡◌ {A = ℕ → Snapshot}
@@ -289,6 +301,12 @@ clings_all manner within worlds = by manner.leading manner.insists where
     leads = λ name. first_first (λ look. (forgiving (seen_in (world_at worlds (suc look)))).leads name) (suc n) i;
   }
   by Clinging true = λ i. λ n. record (waiting within (clinging (λ look. seen_in (world_at worlds (suc look))) n)) {
+    leads = λ name. first_first (λ look. (forgiving (seen_in (world_at worlds (suc look)))).leads name) (suc n) i;
+  }
+  by Keeping false = λ i. λ n. record (waiting within (clinging (λ look. seen_in (world_at worlds (suc look))) n)) {
+    leads = λ name. first_first (λ look. (forgiving (seen_in (world_at worlds (suc look)))).leads name) (suc n) i;
+  }
+  by Keeping true = λ i. λ n. record (waiting within (clinging (λ look. seen_in (world_at worlds (suc look))) n)) {
     leads = λ name. first_first (λ look. (forgiving (seen_in (world_at worlds (suc look)))).leads name) (suc n) i;
   }
 

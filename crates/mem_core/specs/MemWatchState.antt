@@ -8,7 +8,7 @@ use Rattle.watch_core.specs.{
 use Rattle.ports_core.specs.declared.reason.Reason.{Reason, TheVariants.Other}
 use Rattle.mem_core.specs.declared.{
   edit.Edit.{Edit as Change},
-  mem_watch.{Leading.{Leading, TheVariants.{Plain, Forgiving, Clinging}}, Manner.Manner},
+  mem_watch.{Leading.{Leading, TheVariants.{Plain, Forgiving, Clinging, Keeping}}, Manner.Manner},
 }
 use Rattle.mem_core.specs.declared.edit.Edit.TheVariants as change
 
@@ -45,6 +45,7 @@ abbrev pub shown_by : Leading → (ℕ → World) → ℕ → Snapshot
 shown_by Plain worlds n = seen_in (worlds n)
 shown_by Forgiving worlds n = forgiving (seen_in (worlds n))
 shown_by Clinging worlds n = clinging (λ look. seen_in (worlds look)) n
+shown_by Keeping worlds n = forgiving (clinging (λ look. seen_in (worlds look)) n)
 
 abbrev pub shown_in : Manner → List World → ℕ → Snapshot
 shown_in manner worlds n =

@@ -8,7 +8,7 @@ ghost use Rattle.watch_core.specs.{
   Watched.{GaveFrom, Watched, added, breaks, file_seen, is_readable, is_watchable, open_contents, opens, watched_at},
 };
 ghost use Rattle.mem_core.specs.{
-  inner.Leading.{CanFail, forgiven, led_at},
+  inner.Leading.{CanFail, fails_by, forgiven, led_at},
   MemWatchState.{MemWatchState, edit_of, no_looks, seen, shows, with_look, world_at},
 };
 ghost use Rattle.ports_core.specs.Slot.{changed_at};
@@ -28,26 +28,38 @@ enum Leading {
     Plain,
     /// Nowhere, if they can't be read.
     Forgiving,
-    /// To the first file to which they led at any look, when they could be read.
+    /// To the first file to which they led at any look, when they could be read. Calls on that file may fail.
     Clinging,
+    /// The same, and no call fails.
+    Keeping,
 }
 
 impl Leading {
-    /// The same, except that a name that can't be read leads nowhere.
+    /// The same, except that a name that can't be read leads nowhere, and no call fails.
     fn forgiven(self) -> Leading
         ensures { result ≡ forgiven self }
     {
         match self {
             Leading::Plain | Leading::Forgiving => Leading::Forgiving,
-            Leading::Clinging => Leading::Clinging,
+            Leading::Clinging | Leading::Keeping => Leading::Keeping,
         }
     }
 
-    /// Whether they lead where the files say.
+    /// Whether a look of a name and its opening fail, where that was asked for or the name can't be read.
     fn is_plain(self) -> bool
-        ensures { IsTrue result → self ≡ Leading.Plain }
+        ensures { IsTrue result → fails_by self ≡ true }
     {
         matches!(self, Leading::Plain)
+    }
+
+    /// Whether a call on an open file fails, where that was asked for.
+    fn fails(self) -> bool
+        ensures { IsTrue result → fails_by self ≡ true }
+    {
+        match self {
+            Leading::Plain | Leading::Clinging => true,
+            Leading::Forgiving | Leading::Keeping => false,
+        }
     }
 }
 
@@ -123,8 +135,8 @@ impl MemName {
 }
 
 /// Files in memory, with visible bytes, whose changes are planned look by look. For tests, a call can be made to fail, unless it forgives.
-/// If it doesn't, a look at a name that is barred fails, and so does opening it. It keeps the files of each look, and takes memory for all
-/// of them.
+/// If it clings, that is a call on an open file. If it does neither, a look at a name that is barred fails, and so does opening it. It
+/// keeps the files of each look, and takes memory for all of them.
 #[derive(Drop)]
 pub struct MemWatch {
     alloc: Global,
@@ -267,28 +279,31 @@ impl MemWatch {
         self.why = why;
     }
 
-    /// Whether a call on a name fails now, since that was asked for.
+    /// Whether a call on an open file fails now, since that was asked for.
     fn fails(&mut self) -> bool
         ensures same { self.new ≡ self.old }
-        ensures plain { IsTrue result → self.old.manner.leading ≡ Leading.Plain }
+        ensures can { IsTrue result → fails_by self.old.manner.leading ≡ true }
     {
-        if !self.manner.leading.is_plain() {
+        if !self.manner.leading.fails() {
             return false;
         }
         fails(&mut self.failing_in)
     }
 
-    /// Whether a call that looks where a name leads, or opens it, fails now: also if the name can't be read.
+    /// Whether a call that looks where a name leads, or opens it, fails now: also if the name can't be read. Neither fails if it forgives
+    /// or clings.
     fn refuses(&mut self, place: usize) -> bool
         requires { IsTrue (is_watchable self.old.watched place) }
         ensures same { self.new ≡ self.old }
-        ensures plain { IsTrue result → self.old.manner.leading ≡ Leading.Plain }
+        ensures can { IsTrue result → fails_by self.old.manner.leading ≡ true }
     {
+        if !self.manner.leading.is_plain() {
+            return false;
+        }
         if self.fails() {
             return true;
         }
-        self.manner.leading.is_plain()
-            && world_in(&self.worlds, self.turns).is_barred(self.names[place].name.as_str())
+        world_in(&self.worlds, self.turns).is_barred(self.names[place].name.as_str())
     }
 
     /// Why such a call fails, if it does: also if the name leads nowhere, which `is_there` says, and that is to fail.
@@ -308,7 +323,7 @@ impl MemWatch {
     }
 
     /// Makes one of the calls of `look`, `reopen`, `open_len` and `read_at` fail, counted from here on; the next call has the
-    /// number 1.
+    /// number 1. Where it clings, `open_len` and `read_at` alone count.
     pub fn fail_at(&mut self, call: u64)
         ensures { self.new ≡ self.old }
     {
@@ -324,7 +339,7 @@ fn led_in(leading: Leading, worlds: &[MemWorld], looks: usize, name: &str) -> Op
     match leading {
         Leading::Plain => world_in(worlds, looks).leads(name, false),
         Leading::Forgiving => world_in(worlds, looks).leads(name, true),
-        Leading::Clinging => first_led(worlds, looks, name),
+        Leading::Clinging | Leading::Keeping => first_led(worlds, looks, name),
     }
 }
 

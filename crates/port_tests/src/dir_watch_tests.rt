@@ -495,10 +495,10 @@ const REPLACED_BY_FOLDER: &[Step<'static>] = &[
     Step::MakeFolder("watch_core_folder_later/f"),
     Step::Sees(None),
     Step::EarlierIsOpen,
-    Step::Says(Reason::Missing),
+    Step::Says(Reason::Folder),
     Step::Opens(false),
     Step::IsOpen(false),
-    Step::Says(Reason::Missing),
+    Step::Says(Reason::Folder),
     Step::Waits(true),
     Step::RemoveFolder("watch_core_folder_later/f"),
     Step::Make("watch_core_folder_later/f", b"wxyz"),
@@ -599,6 +599,53 @@ const CLUNG: &[Step<'static>] = &[
 fn a_name_stays_with_its_first_file_if_the_watch_clings(rt: HostRuntime) -> Result<(), Fail> {
     let mut watch = clinging_watch_of(rt, "watch_core_clung/f")?;
     play_with(&rt, &rt, "watch_core_clung", &mut watch, CLUNG)
+}
+
+/// What a read gives of the file of a name from a place that no file has: it fails.
+fn reads_nowhere(
+    rt: HostRuntime,
+    folder: &str,
+    name: &str,
+    watch: &mut DirWatch<HostRuntime>,
+) -> Result<Result<usize, Fault>, Fail>
+    requires { IsTrue (is_watchable watch.old.watched 0) }
+{
+    make_folder(&rt, folder)?;
+    fs::write(&rt, name, b"abc")?;
+    watch.turn()?;
+    let given = read_at(watch, u64::MAX, &mut [0u8; 3]);
+    fs::remove_dir_all(&rt, folder)?;
+    Ok(given)
+}
+
+#[test]
+fn a_failed_read_breaks_a_name_that_stays_with_its_file(rt: HostRuntime) -> Result<(), Fail> {
+    let (folder, name) = ("watch_core_clung_read", "watch_core_clung_read/f");
+    let mut watch = clinging_watch_of(rt, name)?;
+    let given = reads_nowhere(rt, folder, name, &mut watch)?;
+    same(&rt, &given, &Err(Fault::Read(0)));
+    same(&rt, &watch.open_id(0), &None);
+    let mut watch = forgiving_watch_of(rt, name)?;
+    let given = reads_nowhere(rt, folder, name, &mut watch)?;
+    same(&rt, &given, &Ok(0));
+    Ok(())
+}
+
+#[test]
+fn a_folder_in_place_of_a_file_breaks_if_the_watch_insists(rt: HostRuntime) -> Result<(), Fail> {
+    let (folder, name) = ("watch_core_insisted_folder", "watch_core_insisted_folder/f");
+    make_folder(&rt, folder)?;
+    fs::write(&rt, name, b"abc")?;
+    let mut watch = insisting_watch_of(rt, name)?;
+    watch.turn()?;
+    assert!(rt; opened(&mut watch)?);
+    fs::remove_file(&rt, name)?;
+    fs::create_dir(&rt, name)?;
+    watch.turn()?;
+    same(&rt, &watch.look(0), &Err(Fault::Open(0)));
+    same(&rt, &watch.reason(0), &Reason::Folder);
+    fs::remove_dir_all(&rt, folder)?;
+    Ok(())
 }
 
 #[test]

@@ -71,15 +71,13 @@ opens_there (Some file) is = refl
 
 -- and any may have failed, where that isn't forgiven
 breaks_any : (manner : Manner) (name : List ℕ) (within n : ℕ)
-    → ((manner ≡ Plain) ⊎ (manner ≡ Insisting)) ⊎ (has_zero name ≡ true)
+    → (manner ≡ Forgiving → has_zero name ≡ true)
     → (latest (replicate n (files_by manner within))).breaks name ≡ true
 breaks_any manner name within zero is = refl
-breaks_any manner name within (suc zero) (inl (inl is)) = rw is refl
-breaks_any manner name within (suc zero) (inl (inr is)) = rw is refl
-breaks_any Plain name within (suc zero) (inr is) = refl
-breaks_any Forgiving name within (suc zero) (inr is) = is
-breaks_any Clinging name within (suc zero) (inr is) = is
-breaks_any Insisting name within (suc zero) (inr is) = refl
+breaks_any Plain name within (suc zero) is = refl
+breaks_any Forgiving name within (suc zero) is = is refl
+breaks_any Clinging name within (suc zero) is = refl
+breaks_any Insisting name within (suc zero) is = refl
 breaks_any manner name within (suc (suc n)) is = breaks_any manner name within (suc n) is
 
 -- what looks show from now on
@@ -113,9 +111,16 @@ clings_all Insisting within = λ i. λ n. record (files_by Clinging within) { le
 pub may_break : {watch : DirWatchState} {names : List Watched} {turns : ℕ} {manner : Manner} {within rested : ℕ}
     (name : List ℕ)
     → record { turns = turns; watched = names; manner = manner; within = within; rested = rested } ≡ watch
-    → ((manner ≡ Plain) ⊎ (manner ≡ Insisting)) ⊎ (has_zero name ≡ true) → (latest (seen watch)).breaks name ≡ true
+    → (manner ≡ Forgiving → has_zero name ≡ true) → (latest (seen watch)).breaks name ≡ true
 may_break {turns} {manner} name is unforgiven =
     subst (λ (those : DirWatchState). (latest (seen those)).breaks name ≡ true) is (breaks_any manner name _ turns unforgiven)
+
+-- where it doesn't forgive
+pub unforgiven : {watch : DirWatchState} {names : List Watched} {turns : ℕ} {manner : Manner} {within rested : ℕ}
+    {forgives : Bool} (name : List ℕ)
+    → record { turns = turns; watched = names; manner = manner; within = within; rested = rested } ≡ watch
+    → (manner ≡ Forgiving → IsTrue forgives) → forgives ≡ false → (latest (seen watch)).breaks name ≡ true
+unforgiven name is must none = may_break name is (λ (forgiving : _ ≡ Forgiving). absurd (false≢true (sym none ∙ must forgiving)))
 
 -- nor is it of a name that no file can have
 pub zero_breaks : {watch : DirWatchState} {names : List Watched} {manner : Manner} {within rested : ℕ} (turns place : ℕ)
@@ -127,7 +132,7 @@ zero_breaks {watch} {names} turns place {item} {zero_in} is can at zero_is some 
     let those : names ≡ watch.watched = ap (λ (all : DirWatchState). all.watched) is in
     let found : item ≡ watched_at watch.watched place = name_there names place item (names_within names watch.watched place those can) at
     ∙ ap (λ all. watched_at all place) those in
-    may_break _ is (inr (ap (λ (those : Watched). has_zero those.name) (sym found) ∙ sym zero_is ∙ not-false zero_in some))
+    may_break _ is (λ (forgives : _ ≡ Forgiving). ap (λ (those : Watched). has_zero those.name) (sym found) ∙ sym zero_is ∙ not-false zero_in some)
 
 -- what was opened is not told
 pub opened_some : {watch : DirWatchState} {snapshot : Snapshot} {names : List Watched} {manner : Manner}

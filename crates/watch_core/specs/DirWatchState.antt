@@ -22,11 +22,11 @@ pub record DirWatchState : Type 0 where
 abbrev pub any_files : Snapshot
 any_files = record no_files { lacks = λ process. true }
 
--- where names lead isn't told, so to cling is to forgive
+-- where names lead isn't told, and of a name that is clung to any call can fail
 abbrev pub any_by : Manner → Snapshot
 any_by Plain = any_files
 any_by Forgiving = forgiving any_files
-any_by Clinging = forgiving any_files
+any_by Clinging = any_files
 any_by Insisting = insisting any_files
 
 -- what every look sees

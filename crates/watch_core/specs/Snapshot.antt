@@ -80,11 +80,13 @@ abbrev pub first_led : (ℕ → Option ℕ) → ℕ → Option ℕ
 first_led leads zero = None
 first_led leads (suc n) = or_else (first_led leads n) (leads n)
 
--- looks that forgive and cling: a name leads to the first file to which it led at one of them, and can be read then
+-- Looks that cling: a name leads to the first file to which it led at one of them. Before, one that can't be read counts
+-- as missing. The length or the bytes of an open file can be refused, so a call on any name can fail.
 abbrev pub clinging : (ℕ → Snapshot) → ℕ → Snapshot
 clinging shows n = record (forgiving (shows n)) {
   leads = λ name. first_led (λ look. (forgiving (shows look)).leads name) (suc n);
   barred = λ name. false;
+  breaks = λ name. true;
 }
 
 -- this look where it begins within this number of milliseconds

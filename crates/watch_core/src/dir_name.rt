@@ -25,21 +25,23 @@ enum Kinds {
 }
 
 impl Kinds {
-    /// Whether a file of which the system told this is one of these.
-    fn has(self, about: &Metadata) -> bool {
+    /// Why a file of which the system told this is none of these. None if it is one.
+    fn refusal(self, about: &Metadata) -> Option<Reason> {
         match self {
-            Kinds::Any => true,
-            Kinds::Regular => about.is_file(),
+            Kinds::Any => None,
+            Kinds::Regular if about.is_file() => None,
+            Kinds::Regular if about.is_dir() => Some(Reason::Folder),
+            Kinds::Regular => Some(Reason::Other),
         }
     }
 
-    /// Whether what a name leads to may be opened. It may where the system can't tell what that is: the opening says why.
-    fn allows(self, files: &impl Files, name: &str) -> bool {
+    /// Why what a name leads to may not be opened. None if it may, also if the system can't tell what that is: the opening says why.
+    fn refusal_at(self, files: &impl Files, name: &str) -> Option<Reason> {
         match self {
-            Kinds::Any => true,
+            Kinds::Any => None,
             Kinds::Regular => match fs::metadata(files, name) {
-                Ok(about) => about.is_file(),
-                Err(_) => true,
+                Ok(about) => self.refusal(&about),
+                Err(_) => None,
             },
         }
     }
@@ -52,22 +54,30 @@ pub(crate) enum Manner {
     Plain,
     /// One that can't be read counts as missing.
     Forgiving,
-    /// The same, and a name stays with the first file to which it leads.
+    /// The same until a file of it is open. It stays with that file, and breaks if a call on the file fails.
     Clinging,
     /// One that leads nowhere breaks, too.
     Insisting,
 }
 
 impl Manner {
-    /// Whether a name that can't be read counts as missing.
+    /// Whether a name that can't be looked up or opened counts as missing, as long as no file of it is open.
     pub(crate) fn forgives(self) -> bool
         ensures yes { IsTrue result → (self ≡ Manner.Forgiving) ⊎ (self ≡ Manner.Clinging) }
-        ensures no { result ≡ false → (self ≡ Manner.Plain) ⊎ (self ≡ Manner.Insisting) }
+        ensures must { self ≡ Manner.Forgiving → IsTrue result }
     {
         match self {
             Manner::Plain | Manner::Insisting => false,
             Manner::Forgiving | Manner::Clinging => true,
         }
+    }
+
+    /// Whether a call on an open file that fails is forgiven. The name counts as missing then.
+    pub(crate) fn forgives_reads(self) -> bool
+        ensures yes { IsTrue result → self ≡ Manner.Forgiving }
+        ensures must { self ≡ Manner.Forgiving → IsTrue result }
+    {
+        matches!(self, Manner::Forgiving)
     }
 
     /// Whether a name that leads nowhere breaks.
@@ -190,13 +200,12 @@ impl DirName {
         };
         match found {
             Ok(None) if insists => {
-                self.break_off(Broken::Look, Reason::Missing);
+                self.break_missing(Broken::Look);
                 Err(io::Error::from(ErrorKind::NotFound))
             }
             Ok(found) => {
                 self.is_gone = found.is_none();
                 self.led_to = Some(found);
-                self.why = Reason::Missing;
                 Ok(found)
             }
             Err(error) => {
@@ -252,10 +261,7 @@ impl DirName {
         match self.find(files) {
             Ok(Some(seen)) if self.opened == Some(seen.id) => return Some(seen),
             Ok(Some(_)) => {}
-            Ok(None) => {
-                self.why = Reason::Missing;
-                return None;
-            }
+            Ok(None) => return None,
             Err(error) => {
                 self.why = Reason::of(&error);
                 return None;
@@ -321,13 +327,12 @@ impl DirName {
                 Ok(true)
             }
             Ok(None) if insists => {
-                self.break_off(Broken::Open, Reason::Missing);
+                self.break_missing(Broken::Open);
                 Err(io::Error::from(ErrorKind::NotFound))
             }
             Ok(None) => {
                 self.opened = None;
                 self.led_to = Some(None);
-                self.why = Reason::Missing;
                 Ok(false)
             }
             Err(error) => {
@@ -337,16 +342,24 @@ impl DirName {
         }
     }
 
-    /// Opens the file that the name leads to. None where it leads nowhere, or where this turn's look found none.
+    /// Opens the file that the name leads to. None where it leads nowhere, or where this turn's look found none, and `why` says why.
     fn find_file(
-        &self,
+        &mut self,
         alloc: Global,
         files: &impl Files<File = File>,
-    ) -> io::Result<Option<Opened>> {
+    ) -> io::Result<Option<Opened>>
+        ensures { self.new ≡ self.old }
+    {
         if self.is_gone {
             return Ok(None);
         }
-        open_file(alloc, files, self.name.as_str(), self.kinds)
+        match open_file(alloc, files, self.name.as_str(), self.kinds)? {
+            Met::File(opened) => Ok(Some(opened)),
+            Met::Nothing(why) => {
+                self.why = why;
+                Ok(None)
+            }
+        }
     }
 
     /// The same where a name that can't be read counts as missing: false also where the file can't be opened or read. It is the one that
@@ -491,6 +504,14 @@ impl DirName {
         self.pace.end();
     }
 
+    /// Breaks it since it leads nowhere, for the reason that was found then.
+    fn break_missing(&mut self, how: Broken)
+        ensures { (why : Reason) × (self.new ≡ breaks why (λ file. how) self.old) }
+    {
+        let why = self.why;
+        self.break_off(how, why);
+    }
+
     /// When changes are to be looked for, in milliseconds.
     pub(crate) fn due(&self) -> u64 {
         self.pace.due()
@@ -567,19 +588,29 @@ impl DirName {
     }
 
     /// The file that the name leads to, as the system says now: the open one, or another of a kind that it is taken to lead to. None where
-    /// it leads to no such file. One that is longer than a watch tells is an error.
-    fn find(&self, files: &impl Files) -> io::Result<Option<Seen>>
-        ensures { IfOk result (λ found. IfSome found (λ file. file.len < 2 ^ 63)) }
+    /// it leads to no such file, and `why` says why. One that is longer than a watch tells is an error.
+    fn find(&mut self, files: &impl Files) -> io::Result<Option<Seen>>
+        ensures bound { IfOk result (λ found. IfSome found (λ file. file.len < 2 ^ 63)) }
+        ensures same { self.new ≡ self.old }
     {
         match fs::metadata(files, self.name.as_str()) {
             Ok(about) => {
                 let seen = seen_of(&about)?;
-                if self.kinds.has(&about) || self.opened == Some(seen.id) {
+                if self.opened == Some(seen.id) {
                     return Ok(Some(seen));
                 }
+                match self.kinds.refusal(&about) {
+                    None => Ok(Some(seen)),
+                    Some(why) => {
+                        self.why = why;
+                        Ok(None)
+                    }
+                }
+            }
+            Err(error) if error.kind() == ErrorKind::NotFound => {
+                self.why = Reason::Missing;
                 Ok(None)
             }
-            Err(error) if error.kind() == ErrorKind::NotFound => Ok(None),
             Err(error) => Err(error),
         }
     }
@@ -624,6 +655,14 @@ struct Opened {
     ghost bound: { seen.len < 2 ^ 63 },
 }
 
+/// What was met where a file was to be opened.
+enum Met {
+    /// The file, which is open.
+    File(Opened),
+    /// None, or one of another kind. Holds why.
+    Nothing(Reason),
+}
+
 /// A file of which the system told this. One that is longer than a watch tells is an error.
 fn seen_of(about: &Metadata) -> io::Result<Seen>
     ensures { IfOk result (λ file. file.len < 2 ^ 63) }
@@ -638,31 +677,31 @@ fn seen_of(about: &Metadata) -> io::Result<Seen>
     })
 }
 
-/// Opens a file for reading. None where the name leads nowhere, or to a file of another kind. Its identity is that of the file that was
+/// Opens a file for reading. Nothing where the name leads nowhere, or to a file of another kind. Its identity is that of the file that was
 /// opened, where the name may lead elsewhere by then. A file that is longer than a watch tells is an error.
 fn open_file(
     alloc: Global,
     files: &impl Files<File = File>,
     name: &str,
     kinds: Kinds,
-) -> io::Result<Option<Opened>> {
+) -> io::Result<Met> {
     // The library can't open a named pipe without waiting. So who puts one there between the question and the opening, microseconds
     // later, still has all names wait until somebody writes to it.
-    if !kinds.allows(files, name) {
-        return Ok(None);
+    if let Some(why) = kinds.refusal_at(files, name) {
+        return Ok(Met::Nothing(why));
     }
     match fs::open(files, name) {
         Ok(file) => {
             let about = file.metadata()?;
-            if !kinds.has(&about) {
-                return Ok(None);
+            if let Some(why) = kinds.refusal(&about) {
+                return Ok(Met::Nothing(why));
             }
-            Ok(Some(Opened {
+            Ok(Met::File(Opened {
                 seen: seen_of(&about)?,
                 file: DirFile::new(alloc, file, &about)?,
             }))
         }
-        Err(error) if error.kind() == ErrorKind::NotFound => Ok(None),
+        Err(error) if error.kind() == ErrorKind::NotFound => Ok(Met::Nothing(Reason::Missing)),
         Err(error) => Err(error),
     }
 }
@@ -679,11 +718,11 @@ fn open_readable(
     kinds: Kinds,
 ) -> Result<Opened, Reason> {
     match open_file(alloc, files, name, kinds) {
-        Ok(Some(opened)) => match opened.file.failure() {
+        Ok(Met::File(opened)) => match opened.file.failure() {
             None => Ok(opened),
             Some(why) => Err(why),
         },
-        Ok(None) => Err(Reason::Missing),
+        Ok(Met::Nothing(why)) => Err(why),
         Err(error) => Err(Reason::of(&error)),
     }
 }

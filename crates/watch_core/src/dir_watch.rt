@@ -60,7 +60,7 @@ const SECOND: u64 = 1000;
 /// can't tell where the name leads, the look finds none, as of a folder, and tries again when the name is asked next, every 50 ms at the
 /// least. A read of the open file that fails gives nothing, and the look that follows finds none; a file that is open and can be read is
 /// read on, whatever becomes of its permissions. Where it clings, a look finds the file that is open, if one is, and the system isn't asked
-/// where the name leads.
+/// where the name leads. If the length of that file can't be told then, or a read of it fails, the name is broken.
 #[derive(Drop)]
 pub struct DirWatch<R: Files<File = File> + Clock + Drop> {
     runtime: R,
@@ -322,7 +322,7 @@ impl<R: Files<File = File> + Clock + Drop> Watch for DirWatch<R> {
     }
 
     fn open_len(&mut self, place: usize) -> Result<u64, Fault> {
-        if self.manner.forgives() {
+        if self.manner.forgives_reads() {
             return Ok(self.names[place].len_forgiving());
         }
         let Some(len) = self.names[place].len() else {
@@ -332,7 +332,7 @@ impl<R: Files<File = File> + Clock + Drop> Watch for DirWatch<R> {
     }
 
     fn read_at(&mut self, place: usize, from: u64, buffer: &mut [u8]) -> Result<usize, Fault> {
-        if self.manner.forgives() {
+        if self.manner.forgives_reads() {
             return Ok(self.names[place].read_forgiving(from, buffer));
         }
         let Some(n) = self.names[place].read_at(from, buffer) else {

@@ -98,8 +98,9 @@ pub trait Watch {
         ensures watched { watched self.new ≡ watched self.old }
         ensures seen { seen self.new ≡ seen self.old };
 
-    /// From now on it forgives, and a name leads to the first file to which it led at any look, whatever becomes of the name. Called
-    /// before the first look.
+    /// From now on a name leads to the first file to which it led at any look, whatever becomes of the name. Before, a name that is there
+    /// but can't be looked up or opened counts as missing. If the length of the open file can't be told, or a read of it fails, that
+    /// fails, and the name is broken. Called before the first look.
     fn cling(&mut self)
         requires { seen self.old ≡ [] }
         ensures shows { shows self.new ≡ clinging (shows self.old) }

@@ -12,4 +12,4 @@ pub returns-clause-found : goal.returns-clause-found
 returns-clause-found c = finds_any c.args.self.now.manner c.args.self.now.within c.args.self.now.worlds c.args.self.now.turns _ _ (λ is. refl)
 
 pub returns-then-fails-clause-breaks : goal.returns-then-fails-clause-breaks
-returns-then-fails-clause-breaks c = may_break c.args.self.now _ (inl (c.fails.ensures.plain c.if-fails.true))
+returns-then-fails-clause-breaks c = may_break c.args.self.now _ (inl (c.fails.ensures.can c.if-fails.true))

@@ -1,5 +1,4 @@
-use Rattle.std.proofs.Common.{inl}
-use Rattle.watch_core.proofs.DirWatchLemmas.{forgives_now, may_break, zero_breaks}
+use Rattle.watch_core.proofs.DirWatchLemmas.{forgives_now, unforgiven, zero_breaks}
 use Rattle.watch_core.proofs.dir_watch.DirWatch.forgives_at.Goals as goal
 
 pub returns-then-forgives-clause-no : goal.returns-then-forgives-clause-no
@@ -10,4 +9,4 @@ pub returns-then-forgives-clause-yes : goal.returns-then-forgives-clause-yes
 returns-then-forgives-clause-yes g c = λ other. forgives_now c.self.view_is (c.forgives.ensures.yes c.if-forgives.true)
 
 pub returns-else-forgives-clause-no : goal.returns-else-forgives-clause-no
-returns-else-forgives-clause-no g c = λ none. may_break _ c.self.view_is (inl (c.forgives.ensures.no none))
+returns-else-forgives-clause-no g c = λ none. unforgiven _ c.self.view_is c.forgives.ensures.must none

@@ -1,5 +1,5 @@
-use Rattle.std.proofs.Common.{◌∙◌, ap, sym}
-use Rattle.watch_core.{specs.{DirWatchState.{DirWatchState, files_by}, Snapshot.{clinging, forgiving, insisting}}, proofs.DirWatchLemmas.insists_all}
+use Rattle.std.proofs.Common.{◌∙◌, ap}
+use Rattle.watch_core.{specs.{DirWatchState.{DirWatchState, files_by}, Snapshot.{insisting}}, proofs.DirWatchLemmas.insists_all}
 use Rattle.watch_core.proofs.dir_watch.DirWatchWatch.insist.Goals as goal
 
 pub returns-clause-shows : goal.returns-clause-shows

@@ -1,7 +1,7 @@
-use Rattle.std.proofs.Common.{inl, refl}
+use Rattle.std.proofs.Common.{refl}
 use Rattle.watch_core.{
   specs.{declared.watch.Broken.TheVariants.Look, Watched.breaks},
-  proofs.DirWatchLemmas.{finds_any, finds_forgiven, forgives_now, insists_now, leads_there, may_break, one_changes},
+  proofs.DirWatchLemmas.{finds_any, finds_forgiven, forgives_now, insists_now, leads_there, one_changes, unforgiven},
 }
 use Rattle.watch_core.proofs.dir_watch.DirWatchWatch.look.Goals as goal
 
@@ -16,7 +16,7 @@ returns-clause-found g c = finds_any c.args.self.now.manner c.args.self.now.with
     (rw c.in-Ok.is at (c.look.ensures.there (c.insists-insists.ensures (insists_now c.self.view_is is)))))
 
 pub returns-in_default-clause-breaks : goal.returns-in_default-clause-breaks
-returns-in_default-clause-breaks g c = may_break _ c.self.view_is (inl (c.forgives.ensures.no c.if-forgives.false))
+returns-in_default-clause-breaks g c = unforgiven _ c.self.view_is c.forgives.ensures.must c.if-forgives.false
 
 pub returns-then-forgives-clause-found : goal.returns-then-forgives-clause-found
 returns-then-forgives-clause-found g c = finds_forgiven c.args.self.now.within c.args.self.now.turns _ _ (forgives_now c.self.view_is (c.forgives.ensures.yes c.if-forgives.true))

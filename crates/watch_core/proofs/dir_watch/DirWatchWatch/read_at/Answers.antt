@@ -1,7 +1,7 @@
-use Rattle.std.proofs.Common.{inl, refl}
+use Rattle.std.proofs.Common.{refl}
 use Rattle.watch_core.{
   specs.{declared.watch.Broken.TheVariants.Read, Watched.breaks},
-  proofs.{DirWatchLemmas.{finds_any, may_break, one_changes}, NameLemmas.readable_watchable},
+  proofs.{DirWatchLemmas.{finds_any, one_changes, unforgiven}, NameLemmas.readable_watchable},
 }
 use Rattle.watch_core.proofs.dir_watch.DirWatchWatch.read_at.Goals as goal
 
@@ -16,7 +16,7 @@ pub returns-clause-found : goal.returns-clause-found
 returns-clause-found g c = λ some. finds_any c.args.self.now.manner c.args.self.now.within c.args.self.now.turns _ _ (λ is. refl)
 
 pub returns-in_default-clause-breaks : goal.returns-in_default-clause-breaks
-returns-in_default-clause-breaks g c = may_break _ c.self.view_is (inl (c.forgives.ensures.no c.if-forgives.false))
+returns-in_default-clause-breaks g c = unforgiven _ c.self.view_is c.forgives_reads.ensures.must c.if-forgives_reads.false
 
-pub returns-then-forgives-clause-found : goal.returns-then-forgives-clause-found
-returns-then-forgives-clause-found g c = λ some. finds_any c.args.self.now.manner c.args.self.now.within c.args.self.now.turns _ _ (λ is. refl)
+pub returns-then-forgives_reads-clause-found : goal.returns-then-forgives_reads-clause-found
+returns-then-forgives_reads-clause-found g c = λ some. finds_any c.args.self.now.manner c.args.self.now.within c.args.self.now.turns _ _ (λ is. refl)
