@@ -206,7 +206,11 @@ fn refuses_words_of_tail(rt: HostRuntime) {
 
 const REFUSED: &[Refused<'static>] = &[
     (&["tail", "--follow=name"], UsageKind::BadFollow, 0),
-    (&["tail", "-f", "--retry", "f", "-"], UsageKind::BadFollow, 0),
+    (
+        &["tail", "-f", "--retry", "f", "-"],
+        UsageKind::BadFollow,
+        0,
+    ),
     (&["tail", "-F"], UsageKind::BadFollow, 0),
     (&["tail", "-F", "-"], UsageKind::BadFollow, 0),
     (&["tail", "-F", "f", "-"], UsageKind::BadFollow, 0),
