@@ -23,7 +23,10 @@ ghost use Rattle.words_core.specs.{
   SplitWords.SplitAsked,
   TeeWords.TeeAsked,
   Words.{follows, settings_of},
-  declared.{value.Followed.Followed, settings.Settings.{Settings, TheVariants.{Csplit, Head, Split, Tail, Tee}}},
+  declared.{
+    value.Followed.TheVariants.Descriptor,
+    settings.Settings.{Settings, TheVariants.{Csplit, Head, Split, Tail, Tee}},
+  },
 };
 
 use mem_core::{Edit, MemIn, MemOut, MemWatch};
@@ -161,14 +164,14 @@ fn sections(alloc: Global, words: &[&str], bytes: &[u8]) -> Result<Option<MemOut
     left_of(alloc, words, bytes, 3)
 }
 
-/// What a `tail` leaves that follows one file, if it goes well. Where the file only grows, that is what it ends with at the first
-/// look and all that came by the last.
+/// What a `tail` leaves that follows one file by descriptor, if it goes well. If the file only grows, that is what it ends with at the
+/// first look and all that came by the last.
 fn grown(alloc: Global, words: &[&str], watch: &mut MemWatch) -> Result<Option<MemOut>, Fault>
     requires seen { seen watch.old ≡ [] }
     requires watched { watch.old.watched ≡ [] }
-    ensures { (options : EndsAsked) (followed : Followed) (name came : List ℕ) (file n pause : ℕ)
-        → settings_of Calling.Cutters (map (λ word. word.now) words.now)
-        ≡ Ok (Tail (record { ends = options; followed = Some followed; looks = n + 1; pause = pause; process = None }))
+    ensures { (options : EndsAsked) (name came : List ℕ) (file n pause : ℕ)
+        → settings_of Calling.Cutters (map (λ word. word.now) words.now) ≡ Ok (Tail
+        (record { ends = options; followed = Some Descriptor; looks = n + 1; pause = pause; process = None }))
         → IsBare options → options.names ≡ name ∷ [] → ((count : ℕ) → OnlyGrows count (shows watch.old) name file)
         → (shows watch.old n).holds file ≡ (shows watch.old 0).holds file ++ came
         → IfOk result

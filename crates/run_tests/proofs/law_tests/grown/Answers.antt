@@ -9,7 +9,7 @@ use Rattle.watch_core.specs.{Snapshot.Snapshot, Watched.Watched}
 use Rattle.words_core.specs.{
   EndsWords.EndsAsked,
   Words.settings_of,
-  declared.{settings.Settings.TheVariants.Tail, value.Followed.Followed},
+  declared.{settings.Settings.TheVariants.Tail, value.Followed.{Followed, TheVariants.Descriptor}},
 }
 use Rattle.tools_core.specs.{
   Program.ProgramEnds,
@@ -30,10 +30,10 @@ TellAll = (run : Run) (options : EndsAsked) (followed : Followed) (name came : L
 -- what standard output has after a run of these words
 grown_so : AreRuns → TellAll → (words : List (List ℕ)) (laid : ℕ → List ℕ → Option Content) (old sources : List Source) (shows : ℕ → Snapshot) (seen : List Snapshot) (watched : List Watched) (outs : List Slot) (status : ℕ)
     → old ≡ source_of (unshown []) ∷ [] → ProgramEnds Cutters true true true words laid old sources shows seen watched outs status → status ≡ 0
-    → (options : EndsAsked) (followed : Followed) (name came : List ℕ) (file n pause : ℕ) → settings_of Cutters words ≡ Ok (Tail (record { ends = options; followed = Some followed; looks = n + 1; pause = pause; process = None })) → IsBare options → options.names ≡ name ∷ []
+    → (options : EndsAsked) (name came : List ℕ) (file n pause : ℕ) → settings_of Cutters words ≡ Ok (Tail (record { ends = options; followed = Some Descriptor; looks = n + 1; pause = pause; process = None })) → IsBare options → options.names ≡ name ∷ []
     → ((count : ℕ) → OnlyGrows count shows name file) → (shows n).holds file ≡ (shows 0).holds file ++ came
     → (slot_at outs 0).written ≡ tail_of options.delim options.unit (is_plus options.count.sign) options.count.amount ((shows 0).holds file) ++ came
-grown_so law tells words laid old sources shows seen watched outs status fresh ends well options followed name came file n pause read bare named grows held =
+grown_so law tells words laid old sources shows seen watched outs status fresh ends well options name came file n pause read bare named grows held =
     let run : Run = record {
       calling = Cutters;
       words = words;
@@ -46,7 +46,7 @@ grown_so law tells words laid old sources shows seen watched outs status fresh e
       status = status;
     } in
     let is_of : IsOfProgram run = subst (λ old. ProgramEnds Cutters true true true words laid old sources shows seen watched outs status) fresh ends in
-    tells run options followed name came file n (law run options followed (n + 1) is_of (pause, read) well).0 bare named (grows (length seen)) held
+    tells run options Descriptor name came file n (law run options Descriptor (n + 1) is_of (pause, read) well).0 bare named (grows (length seen)) held
 
 pub returns : goal.returns
 returns c = grown_so c.program_makes_these_runs.ensures.followed c.tail_follows.ensures.grows _ _ _ _ _ _ _ _ _ c.in_ok-inputs.ensures c.run_words.ensures.ends c.if-run_words-ne0.false
