@@ -28,7 +28,7 @@ fn refuses(rt: &impl Abort, alloc: Global, words: &[&str], said: &str) -> Result
         &mut watch,
         &mut outs,
     );
-    let tool = words[0];
+    let tool = words.first().copied().unwrap_or("");
     let wanted = format!(in alloc; "{tool}: {said}\nTry '{tool} --help'.\n")?;
     assert!(rt;
         status == 1 && outs.bytes(1) == wanted.as_bytes(),
