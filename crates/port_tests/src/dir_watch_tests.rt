@@ -738,8 +738,7 @@ fn has(watch: &mut DirWatch<HostRuntime>, len: u64, from: u64, bytes: &[u8]) -> 
     Ok(held == len && given == bytes)
 }
 
-/// Opens a pipe that holds four bytes, and looks at it again after more were written, and after its writer is gone: whether it
-/// opens, and has what was written.
+/// Opens a pipe that holds four bytes, and looks again after more were written, and after its writer is gone: it has what was written.
 fn is_read_as_it_comes(
     watch: &mut DirWatch<HostRuntime>,
     mut writer: PipeWriter,
