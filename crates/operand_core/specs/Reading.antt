@@ -131,7 +131,7 @@ HasRefused (line n) fault = ⊥
 HasRefused (match is_kept text offset) fault = IsRefused text fault
 
 -- The first fault of the words, in their order: a word is wrong and all patterns before it are read, or a pattern is
--- refused and those before it are read. Want of memory may come at any word.
+-- refused and the patterns before it are read. Want of memory may come at any word.
 pub data IsFault (calling : Calling) (words : List (List ℕ)) : OperandFault → Type 0 where
   is_wrong : (fault : OperandFault) (read : List Operand) → (words_of calling words).fault ≡ Some fault
       → AreRead (words_of calling words).operands read → IsFault calling words fault

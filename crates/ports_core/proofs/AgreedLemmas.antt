@@ -311,12 +311,12 @@ begins_at : {low high : Part} (place : ℕ) → Begins low high → place < leng
 begins_at zero begins less = begins.out
 begins_at (suc place) begins less = files_at _ _ _ begins.files (omega arith)
 
--- of two lists of outputs that are agreed, neither has more outputs
+-- neither of two agreed lists of outputs has more outputs than the other
 no_more : (work : Work) {x : List ℕ} (one other : Part) → IsAgreed work x one → IsAgreed work x other
     → length (outputs_of one) ≤ length (outputs_of other)
 no_more work one other agreed also = grind (arith, common_steps, no_fewer, length-map, common)
 
--- of two lists of outputs that are agreed, neither has more bytes in an output
+-- no output has more bytes in one of two agreed lists than in the other
 no_longer : (work : Work) {x : List ℕ} (one other : Part) (place : ℕ) → IsAgreed work x one → IsAgreed work x other
     → place < length (outputs_of one) → place < length (outputs_of other)
     → length (output_at one place) ≤ length (output_at other place)

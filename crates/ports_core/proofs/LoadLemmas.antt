@@ -89,7 +89,7 @@ pub passes_if : (told done : Bool) {slot count : ℕ} {old new : List Source} �
 passes_if told true can has few passed stays = passes_front _ can (has refl) few (passed refl)
 passes_if told false can has few passed stays = rw (stays refl) (passes_none _ _ tt)
 
--- it is known whether bytes were passed over
+-- the flag that says whether bytes were passed over is known
 pub passes_by : {told : Bool} {slot : ℕ} {Keeps : List ℕ → Type 0} {old new : List Source} (count : ℕ) (done : Bool)
     {is : Bool} → done ≡ is
     → PassesOver told slot (if done then count else 0) Keeps old new

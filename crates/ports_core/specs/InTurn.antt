@@ -25,8 +25,8 @@ LinesTo gets_bytes part high place fault = Unit {0}
 LinesTo (gets_lines line) part high place fault = AreLines line part.out part.files place fault
 LinesTo (gets_openings line) part high place fault = AreOpenings line nothing part (IsNext part high) fault
 
--- A fault stopped a tool that closes each file before it opens the next. The outputs have a part between `low` and
--- `high`. Of these two it says only that they begin one another, so that steps compose.
+-- A fault stopped a tool that closes each file before it opens the next. The outputs have a part that `low` begins and
+-- that begins `high`. Nothing more relates the files of these parts, so that steps compose.
 pub record StoppedInTurn (output : Output) (told : Bool) (before : List Slot) (low high : Part) (fault : Fault)
     (now : List Slot) : Type 0 where
   pub part : Part

@@ -48,7 +48,7 @@ SaysAll told speaker (message ∷ messages) old new = (mid : Slot) × Says told 
 abbrev pub SaysOn : Bool → Speaker → Reason → Message → List Slot → List Slot → Type 0
 SaysOn told speaker why message = OnError (SaysFor told speaker why message)
 
--- an output got the line of a message, unless there is nothing to say of it
+-- an output got the line of a message, unless nothing is to be said
 abbrev pub TellsIf : (quiet : Bool) → Bool → Speaker → Reason → Message → Slot → Slot → Type 0
 TellsIf true told speaker why message old new = new ≡ old
 TellsIf false told speaker why message old new = SaysFor told speaker why message old new

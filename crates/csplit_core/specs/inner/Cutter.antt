@@ -110,7 +110,7 @@ IsLine line = lines_of newline line ≡ line ∷ []
 abbrev pub settled_part : CutterState → List ℕ → Part
 settled_part cutter x = settled_of cutter.style cutter.operands (all_lines x)
 
--- a cutter without its aim and the lines that wait; what the sections say of it is left
+-- a cutter without its aim and the lines that wait: what sections depend on is left
 abbrev pub bare : CutterState → CutterState
 bare cutter = record cutter { aim = UsedUp; window = record { most = 0; delim = newline; held = [] } }
 
@@ -128,7 +128,7 @@ plan_in cutter x = plan cutter.style cutter.operands (all_lines x)
 abbrev pub CutsIn : CutterState → List ℕ → CutPoint → Type 0
 CutsIn cutter x cut = GoesPast cutter.style (all_lines x) (state_in cutter) cut.matched cut.line
 
--- where the plan over x ends, and the cutter's aim agrees with this
+-- the cutter's state and aim are those with which the plan over x ends
 pub record IsJudged (cutter : CutterState) (x : List ℕ) : Type 0 where
   pub last : state_in cutter ≡ (plan_in cutter x).last
   pub aims : AimsAt cutter.aim (plan_in cutter x).ending
@@ -171,7 +171,7 @@ pub record Arrives (cutter : CutterState) {x left : List ℕ} (at : IsAt (bare c
   pub low : is_final ends.ending ≡ true → at.taken ≡ 0
   pub enough : (at.taken ≡ 0) ⊎ (cutter.window.most ≤ line_count newline left)
 
--- of these lines that were left, those that are to wait do
+-- the lines of `left` that are to wait are held
 pub record Held (cutter : CutterState) (left : List ℕ) (next : CutterState) : Type 0 where
   pub same : next ≡ record cutter { writer = next.writer; window = next.window }
   pub window : next.window ≡ record cutter.window { held = next.window.held }

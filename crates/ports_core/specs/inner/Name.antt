@@ -1,4 +1,4 @@
--- What private calls say: where the name at a place stands among those that widen.
+-- What private calls say: where the name at a place stands among names that widen.
 use Rattle.std.specs.Prelude.{ℕ, ◌≡◌, ◌+◌, ◌<◌}
 use Rattle.ports_core.specs.{declared.alphabet.Alphabet.Alphabet, Name.{before_block, block_size}}
 
