@@ -44,7 +44,7 @@ is_in section (in_section other) = eqb section other
 is_in section (left_out cut) = false
 is_in section nowhere = false
 
--- the lines that go into a section; the first of these lines has the number `number`
+-- those of the lines that go into a section; the first line of the list has the number `number`
 abbrev pub lines_into : ℕ → (ℕ → Place) → (number : ℕ) → List Line → List Line
 lines_into section places number [] = []
 lines_into section places number (line ∷ lines) = if is_in section (places number)

@@ -16,7 +16,7 @@ pub record State : Type 0 where
   pub repetition : ℕ
   -- the current line
   pub current : ℕ
-  -- the line that the last pattern matched, 0 where no pattern was performed yet
+  -- the line that the last pattern matched, 0 if no pattern was performed yet
   pub matched : ℕ
 
 abbrev pub start : List Operand → State

@@ -16,7 +16,7 @@ state_of operands progress = record {
   matched = progress.matched;
 }
 
--- a cut that is further than it may be now is found again once more lines came, and moves on
+-- a cut that is further than it may be now moves on once more lines are there
 pub record WillMove (style : Style) (operands : List Operand) (total : ℕ) (progress : Progress) (matched line : ℕ) :
     Type 0 where
   pub operand : Operand

@@ -130,7 +130,7 @@ pub record Passes {S : Type 0} (terms : Terms S) (told : Bool) (piece : List ℕ
   pub owns : KeepsOwn terms old new before after
   -- the files that the stage made are there, if they were before
   pub there : AreThere (terms.files old) before → AreThere (terms.files new) after
-  -- a fault leaves a beginning of what is settled with the piece; a verdict comes after all of it
+  -- a fault leaves a beginning of what is settled with the piece; a verdict comes once all of it is written
   pub cut : IfErr result (CutsOff terms old (λ x. (terms.work old).settled (x ++ piece)) told before after)
   -- a fault has a cause
   pub met : IfErr result (Met before after)
@@ -152,7 +152,7 @@ pub record Finishes {S : Type 0} (terms : Terms S) (told : Bool) (old new : S) (
   pub owns : KeepsOwn terms old new before after
   -- the files that the stage made are there, if they were before
   pub there : AreThere (terms.files old) before → AreThere (terms.files new) after
-  -- a fault leaves a beginning of the whole; a verdict comes after all of it
+  -- a fault leaves a beginning of the whole; a verdict comes once all of it is written
   pub cut : IfErr result (CutsOff terms old (terms.work old).whole told before after)
   -- a fault has a cause
   pub met : IfErr result (Met before after)
@@ -191,8 +191,8 @@ pub record TookIn {S : Type 0} (terms : Terms S) (before after : S) (front : Lis
 abbrev pub Loads : {S : Type 0} → Terms S → Bool → ℕ → ℕ → S → S → List Source → List Source → Type 0
 Loads terms told slot count before after old new = PassesOver told slot count (TookIn terms before after) old new
 
--- The next piece may have `most` bytes. Whatever x the stage was fed, if the output isn't complete with x: of a piece
--- of at most `most` bytes at most `ahead` bytes are not used. These are its last n bytes.
+-- The next piece may have `most` bytes. If the output isn't complete with the bytes x that the stage was fed, at most
+-- `ahead` bytes of a piece of at most `most` bytes are not used; n is how many.
 abbrev pub MayGet : {S : Type 0} → Terms S → S → ℕ → Type 0
 MayGet {S = S} terms stage most = (x piece : List ℕ) (after : S) (n : ℕ) → terms.Holds stage x
     → (terms.work stage).is_complete x ≡ false → length piece ≤ most → terms.work after ≡ terms.work stage

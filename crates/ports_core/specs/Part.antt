@@ -57,8 +57,9 @@ pub record OutputsAt (told : Bool) (before : List Slot) (part : Part) (now : Lis
 abbrev pub IsBeginning : {A : Type 0} → List A → List A → Type 0
 IsBeginning {A} front whole = (rest : List A) × (whole ≡ front ++ rest)
 
--- Each file is a beginning of the file at its place in the other list, which may have more files. A file that is open
--- may be in another state there. Any other file is the same in both lists.
+-- The bytes of each file are a beginning of those of the file at its place in the other list, which may have more
+-- files. Name and mode are the same, and both files are broken, or neither is. A file that is open may be in another
+-- state in the other list. Any other file is the same in both.
 abbrev pub FilesBegin : List File → List File → Type 0
 FilesBegin [] wholes = Unit {0}
 FilesBegin (file ∷ files) [] = ⊥

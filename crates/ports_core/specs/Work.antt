@@ -3,7 +3,7 @@
 use Rattle.std.specs.Prelude.{◌≡◌, ◌≤◌, ◌⊎◌, Bool, true, false, List, [], ◌++◌, ℕ, length, Option, Some, None}
 use Rattle.ports_core.specs.{Part.{Part, Begins, Output, gets_bytes}, declared.verdict.Verdict.Verdict}
 
--- what a call of an engine may need; the faults that the call can return follow from it
+-- what a call of an engine may need; this decides which faults the call can return
 pub record Needs : Type 0 where
   -- memory, for bytes that wait or for names
   pub memory : Bool

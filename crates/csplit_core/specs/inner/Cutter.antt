@@ -133,7 +133,7 @@ pub record IsJudged (cutter : CutterState) (x : List ℕ) : Type 0 where
   pub last : state_in cutter ≡ (plan_in cutter x).last
   pub aims : AimsAt cutter.aim (plan_in cutter x).ending
 
--- what the last attempt found of the next operand is still true of the cutter
+-- the cutter's last attempt was no cut, and a cut that was further than it may be will move on
 abbrev pub IsAimed : CutterState → Type 0
 IsAimed cutter = AimHolds cutter.style cutter.operands cutter.lines cutter.progress cutter.aim
 
