@@ -16,7 +16,7 @@ pub record Line : Type 0 where
 abbrev pub unmarked : Line
 unmarked = record { text = []; marks = λ operand. false }
 
--- The line of this number, counted from 1, has the operand's mark. A number without a line has no mark.
+-- The line of this number, counted from 1, has the operand's mark. A number past the last line has no mark.
 abbrev pub is_match : Operand → List Line → ℕ → Bool
 is_match operand lines line = (get_or lines (line - 1) unmarked).marks operand
 
