@@ -314,7 +314,8 @@ impl<'o> LineCutter<'o> {
         Ok(())
     }
 
-    /// Counts the lines at the beginning of a text of complete lines after which the next operand stands as it does now.
+    /// Counts the lines at the beginning of a text of complete lines after which the next operand stands as it does
+    /// now.
     fn pass_over(&mut self, text: &[u8]) -> Passed
         requires whole { IsWhole text.now }
         requires fits { self.old.lines + length text.now < 2 ^ 63 }

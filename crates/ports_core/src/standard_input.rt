@@ -121,7 +121,8 @@ impl Drop for StandardInput {
     }
 }
 
-/// The file that standard input is. Each look opens it anew, so that the place at which it is read isn't moved, and no file is kept open.
+/// The file that standard input is. Each look opens it anew. So the place at which it is read isn't moved, and no file
+/// is kept open.
 #[derive(Drop)]
 pub(crate) struct StandardFile {
     /// The place at which standard input stood.
