@@ -27,7 +27,7 @@ use Rattle.ports_core.{specs.Part.IsBeginning, proofs.AgreedLemmas.{agreed_as, n
 use Rattle.bre_core.specs.Pattern.{Pattern}
 use Rattle.operand_core.specs.Style.{Style}
 
--- One more line that every operand finds.
+-- One more line that each operand finds
 
 matched_within : (style : Style) (lines : List Line) (state : State) (operand : Operand) (target : Target)
     (matched cut : ℕ) → CutsAt style lines state operand target matched cut → state.matched ≤ length lines
@@ -70,7 +70,7 @@ none_comes = search rules
 pub matching_comes : CanCome matching
 matching_comes = search rules
 
--- the cut falls within the lines that are there: the section ends there, or the cut is below it
+-- with one more line that each operand finds the operand makes this cut: the section ends there, or the cut is too low
 pub data Turned (style : Style) (x : List Line) (state : State) (operand : Operand) (cut : ℕ) : Type 0 where
   too_low : cut < state.current
       → Runs style (x ++ matching) state [] state (below operand state.repetition)
@@ -100,8 +100,8 @@ agrees {style} {x} {state} {operand} pattern kept k some is target none within =
     (grind (arith, common_steps))
     (omega (arith, length-append x matching))
 
--- at the end of a plan either nothing waits, since no line is left or all of it is settled, or one line more makes a cut
--- that stands back
+-- At the end of a plan either nothing waits, since no line is left or all lines are settled; or one more line makes a
+-- cut that goes back.
 pub data Waits (style : Style) (x : List Line) (state : State) (ending : Ending) : Type 0 where
   none_waits : whole_end (length x) ending ≡ settled_end (length x) ending → Waits style x state ending
   none_left : length x < state.current → Waits style x state ending
@@ -149,7 +149,7 @@ no_longer front one other more place same short less = grind (arith, common_step
 
 -- The lines that wait are those that two continuations put into different places.
 
--- a line after a cut is after the one that is left out there
+-- after a cut, a line that is neither before it nor left out is the current line or a later one
 pub left_by : (suppress : Bool) (line cut : ℕ) → nat_lt line cut ≡ false → (suppress && nat_le line cut) ≡ false
     → line_after suppress cut ≤ line
 left_by suppress line cut is are = search rules
@@ -162,7 +162,7 @@ same_by : (lt le : Bool) (index : ℕ) (one other : Place) → (lt ≡ false →
     ≡ cond lt (in_section index) (cond le (left_out index) other)
 same_by lt le index one other same = search rules
 
--- before the current line all plans that go on agree
+-- plans that go on from one plan put each line before the current line into the same place
 place_front : {style : Style} {lines : List Line} {first : State} {steps : List Step} {last : State} {ending : Ending}
     → Runs style lines first steps last ending
     → (total total' index line : ℕ) (more more' : List Step) (how how' : Ending) → first.current ≤ line
@@ -174,7 +174,7 @@ place_front {style} (cuts state operand operands matched cut steps' last' ending
     (λ lt le. place_front rest total total' (index + 1) line more more' how how' (left_by style.suppress line cut lt le) before)
 place_front run total total' index line more more' how how' from before = absurd (omega arith)
 
--- from the current line on, what follows decides
+-- from the current line on, the steps that follow decide where a line goes
 place_after : {style : Style} {lines : List Line} {first : State} {steps : List Step} {last : State} {ending : Ending}
     → Runs style lines first steps last ending
     → (total index line : ℕ) (more : List Step) (how : Ending) → last.current ≤ line
@@ -184,7 +184,7 @@ place_after {style} (cuts state operand operands matched cut steps' last' ending
     search (rules, line_some, current_grows rest, not_less_test, not_left, place_after rest total (index + 1) line more how from)
 place_after {style} run total index line more how from = search rules
 
--- What is settled of the open section is in it whatever comes
+-- what is settled of the open section is in this section whatever comes
 
 settled_place : {style : Style} (a b : List Line) {last : State} (ending : Ending) → EndsAs style a last ending
     → (more : List Step) (end : State) {how : Ending} → Runs style (a ++ b) last more end how
@@ -198,7 +198,7 @@ settled_place a b ending ends more end
     (cuts state operand operands matched cut steps' last' ending' are at least in_lines rest) line from before =
     grind (arith, common_steps)
 
--- where the cut is below the current line all lines go nowhere
+-- if the cut is below the current line, all lines go nowhere
 
 nowhere_by : {style : Style} {lines : List Line} {first : State} {operand : Operand} {operands : List Operand}
     (matched cut : ℕ) → first.operands ≡ operand ∷ operands
@@ -207,7 +207,7 @@ nowhere_by : {style : Style} {lines : List Line} {first : State} {operand : Oper
     → place_from style.suppress (length lines) index more how line ≡ nowhere
 nowhere_by matched cut is at low more end run index line = search rules
 
--- One place for each line that doesn't wait
+-- A line that doesn't wait has one place
 
 decided_by : (style : Style) (a b : List Line) {last : State} (ending : Ending) → 1 ≤ last.current
     → EndsAs style a last ending → (line : ℕ) → last.current ≤ line → line ≤ length a
@@ -222,13 +222,13 @@ decided_by style a b {last} (below operand repetition) some (operands, matched, 
     nowhere_by matched cut is (search (rules, cuts_still)) low more end rest index line
 decided_by style a b ending some is line from within not index more end rest = settled_place a b ending is more end rest line from (omega arith)
 
--- Two places for each that does
+-- A line that waits has two places
 
 step_later : {index : ℕ} (other : ℕ) {rest' : Place} → index < other → (rest' ≡ in_section index → ⊥) → (lt le : Bool)
     → cond lt (in_section other) (cond le (left_out other) rest') ≡ in_section index → ⊥
 step_later other less later lt le same = search rules
 
--- what comes after a section isn't in it
+-- a line in a later section isn't in this section
 pub in_later : (suppress : Bool) (total : ℕ) {index : ℕ} (other line : ℕ) (steps : List Step) (how : Ending)
     → index < other → place_from suppress total other steps how line ≡ in_section index → ⊥
 in_later suppress total other line [] how less is = search rules
@@ -236,7 +236,7 @@ in_later suppress total other line (step ∷ steps) how less is =
     step_later other less (λ same. in_later suppress total (other + 1) line steps how (omega arith) same)
     (nat_lt line step.cut) (suppress && nat_le line step.cut) is
 
--- a line after the cut isn't in the section
+-- one more line takes a line from the cut on out of the section
 
 turned_away : {style : Style} {x : List Line} {state : State} {operand : Operand} (k line : ℕ)
     → Turned style x state operand (suc (length x) - k) → suc (length x) - k ≤ line
@@ -291,7 +291,7 @@ end_is : {total : ℕ} (ending : Ending) → (whole_end total ending ≡ suc tot
 end_is (below operand repetition) = inr refl
 end_is ending = inl refl
 
--- A step, and what comes after it
+-- A step, and what follows this step
 
 abbrev places_with : Bool → ℕ → ℕ → (ℕ → Place) → ℕ → Place
 places_with suppress index cut later line = cond (nat_lt line cut) (in_section index) (cond (suppress && nat_le line cut) (left_out index) (later line))
@@ -323,7 +323,7 @@ step_within suppress lines current cut index s later some least within =
     ∙ ap (λ n. lines_into s places n (drop (next - 1) lines)) (let e : cut + length (lines_between cut next lines) ≡ next = omega arith in e)
     ∙ into_same s places later next (drop (next - 1) lines) (search (rules, not_less_test, not_left)))
 
--- where the cut is past the last line
+-- the cut is past the last line
 step_past : (suppress : Bool) (lines : List Line) (current cut index s : ℕ) (later : ℕ → Place) → 1 ≤ current
     → current ≤ cut → length lines < cut
     → lines_into s (places_with suppress index cut later) current (drop (current - 1) lines)
@@ -337,7 +337,7 @@ step_past suppress lines current cut index s later some least past =
     let none : drop (next - 1) lines ≡ [] = drop_all (next - 1) lines (omega arith) in
     rw (all, none) (sym (append-nil _))
 
--- the lines before the cut, that at it, and those after it
+-- the lines before the cut, the line at the cut, and the lines after the cut
 step_parts : (suppress : Bool) (lines : List Line) (current cut index s : ℕ) (later : ℕ → Place) → 1 ≤ current
     → current ≤ cut → cut ≤ length lines + 1
     → lines_into s (places_with suppress index cut later) current (drop (current - 1) lines)
@@ -448,7 +448,7 @@ module _ (style : Style) (operands : List Operand) (x : List Line) where
   abbrev open_lines : List Line
   open_lines = lines_between made.last.current (settled_end (length x) made.ending) x
 
-  -- A continuation after which the open section has no more than what is settled
+  -- A continuation after which the open section has no more lines than are settled
   record Decides : Type 0 where
     y : List Line
     comes : CanCome y
@@ -458,7 +458,7 @@ module _ (style : Style) (operands : List Operand) (x : List Line) where
     kept : is_last_kept made.ending ≡ next.is_kept
     short : length next.lines ≤ length open_lines
 
-  -- Such a continuation is there: none at all, or under an offset back one line that the operand finds
+  -- Such a continuation exists: no line, or, with an offset that goes back, one line that the operand finds
 
   decides_by : (y : List Line) (more : List Step) (end : State) {how : Ending} → CanCome y
       → Runs style (x ++ y) made.last more end how → {next : Section} {rest' : List Section}
@@ -517,7 +517,7 @@ module _ (style : Style) (operands : List Operand) (x : List Line) where
   goes : (y : List Line) → GoesOn style operands x y
   goes = plan_goes_on operands x
 
-  -- a line after the cuts has one place where it doesn't wait
+  -- a line from the current line on has one place if it doesn't wait
   place_there : (y : List Line) (line : ℕ) → made.last.current ≤ line → line ≤ length x → (WaitsAt line → ⊥)
       → place_of style operands (x ++ y) line
       ≡ cond (is_final made.ending) nowhere (in_section (0 + length made.steps))
@@ -532,7 +532,7 @@ module _ (style : Style) (operands : List Operand) (x : List Line) where
     | inr from ↦ place_there y line from within not ∙ sym (place_there z line from within not)
   ]
 
-  -- the rest as it is puts a line that waits into its section
+  -- one continuation leaves a line that waits in its section, and another doesn't
   differ_line : (line : ℕ) → WaitsAt line → Waits style x made.last made.ending
       → (y : List Line) × (z : List Line) × CanCome y × CanCome z
       × (place_of style operands (x ++ y) line ≢ place_of style operands (x ++ z) line)

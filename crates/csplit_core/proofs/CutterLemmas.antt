@@ -1,4 +1,5 @@
--- Lemmas on the cutter of lines: what is settled, what holding lines leaves, and that a cut ends the open section and the next one begins.
+-- Lemmas on the cutter of lines: what is settled, what holding lines leaves, and that a cut ends the open section and
+-- begins the next.
 use Rattle.std.{
   proofs.lemmas.{
     Grind.{common_steps, flat_map-append},
@@ -65,13 +66,13 @@ use Rattle.ports_core.proofs.{
 
 -- What is settled of complete lines, by where the plan over them ends.
 
--- the sections of the plan, and of the last one what stands before the line that this says
+-- the sections of the plan; the last section has what stands before the line that `past` gives
 abbrev pub draft_to : (ℕ → Ending → ℕ) → Style → List Operand → List Line → Draft
 draft_to past style operands lines =
     let p = plan style operands lines in
     draft_by style lines p.steps (is_last_kept p.ending) (bytes_of (lines_between p.last.current (past (length lines) p.ending) lines))
 
--- it is the draft of these steps, where the plan ends after them
+-- these steps' draft is the plan's, if the plan ends after these steps
 pub draft_is : (past : ℕ → Ending → ℕ) (style : Style) (operands : List Operand) (x : List ℕ) {steps : List Step}
     {state : State} {ending : Ending} (taken : ℕ) {written : List ℕ}
     → Runs style (all_lines x) (start operands) steps state ending
@@ -80,7 +81,7 @@ pub draft_is : (past : ℕ → Ending → ℕ) (style : Style) (operands : List 
     → draft_by style (all_lines x) steps (kept_by state.operands) written ≡ draft_to past style operands (all_lines x)
 draft_is past style operands x taken runs taken_is written_is = search (rules, ends_as, length-all_lines, bytes_between, plan_once)
 
--- what standard output has of sections is the sizes of the files that are closed
+-- what standard output has for sections is the sizes of the files that are closed
 pub sizes_are : (style : Style) → style.quiet ≡ false → (files : List File)
     → told_of_files (sizes_wanted style) files ≡ lines_for size_of_file files
 sizes_are style loud files = search rules
@@ -94,24 +95,24 @@ closed_shares style lines (step ∷ steps) =
     ap (λ rest. map (share Closed) (file_in style (section_of lines step)) ++ rest) (closed_shares style lines steps)
     ∙ sym (search (rules, map-append))
 
--- what they make, and the last section
+-- the shares of these sections, and of the last section
 shares_to : (style : Style) (lines : List Line) (steps : List Step) (last : Section)
     → shares_in style (map (section_of lines) steps ++ last ∷ [])
     ≡ map (share Closed) (flat_map (file_in style) (map (section_of lines) steps)) ++ shares_in style (last ∷ [])
 shares_to style lines steps last = search (rules, shares-append, closed_shares)
 
--- what is written of sections that ended, and of an open one
+-- the shares of sections that ended, and of an open section
 draft_shares : (style : Style) (lines : List Line) (steps : List Step) (kept : Bool) (last : List Line)
     → shares_of (draft_by style lines steps kept (bytes_of last))
     ≡ shares_in style (map (section_of lines) steps ++ section kept false last ∷ [])
 draft_shares style lines steps kept last = search (rules, append-nil, shares_to)
 
--- and what is written of it is what is settled
+-- what is written of the settled draft is what is settled
 pub settled_part_is : (style : Style) (operands : List Operand) (lines : List Line)
     → draft_part (manner_of style) (settled_draft style operands lines) ≡ settled_of style operands lines
 settled_part_is style operands lines = search (rules, draft_shares)
 
--- once the last section ended it is the whole
+-- once the last section ended, what is written is the whole
 pub whole_part_is : (style : Style) (operands : List Operand) (lines : List Line)
     → draft_part (manner_of style) (with_next Never (draft_to whole_end style operands lines))
     ≡ whole_of style operands lines
@@ -139,7 +140,7 @@ pub keeps_on : {given : List Operand} {made : Style} {writer : WriterState} {two
     → Keeps two three mid new fault → KeepsBy given made writer three old new fault
 keeps_on first second = search (rules, leaves_again)
 
--- what is written of the sections, where the style stays
+-- what is written by two calls, if the style stays
 pub reaches_then : {told : Bool} {style other : Style} {low middle high : Part} {old mid new : List Slot}
     {fault : Option Fault} {one two three : WriterState} → other ≡ style → Begins low middle
     → Reaches (sizes_wanted style) told one two low middle old mid None
@@ -147,7 +148,7 @@ pub reaches_then : {told : Bool} {style other : Style} {low middle high : Part} 
     → Reaches (sizes_wanted style) told one three low high old new fault
 reaches_then same begins first second = reaches_again begins first (rw same at second)
 
--- what style and operands decide stays
+-- what style and operands decide stays as it is
 pub same_by : {A : Type 0} {given : List Operand} {made : Style} {writer : WriterState} {next : CutterState}
     {old new : List Slot} {fault : Option Fault} (f : Style → List Operand → A)
     → KeepsBy given made writer next old new fault → f next.style next.operands ≡ f made given
@@ -158,13 +159,13 @@ pub settled_same : {given : List Operand} {made : Style} {writer : WriterState} 
     → settled_part next x ≡ settled_of made given (all_lines x)
 settled_same x keeps = search rules
 
--- the plan up to where the cutter stands
+-- the plan runs up to the cutter's state
 pub runs_to : {cutter : CutterState} {x left : List ℕ} (at : IsAt cutter x left) {aim : Attempt}
     (ends : EndsNow (record cutter { aim = aim }) x)
     → Runs cutter.style (all_lines x) (start cutter.operands) at.steps (state_in cutter) ends.ending
 runs_to at ends = search rules
 
--- more lines came in, which are left but for one that is left out, and nothing was done with them yet
+-- more lines came in, and nothing was done with them yet: they are left, except a line that is left out
 unfoldable pub at_more : {cutter : CutterState} {lines : ℕ} {x : List ℕ} (t more : List ℕ) {left : List ℕ} → Joins x t
     → 1 ≤ cutter.progress.current → (at : IsAt cutter x left) {aim : Attempt}
     → EndsNow (record cutter { aim = aim }) x → lines ≡ line_count newline (x ++ t)
@@ -192,7 +193,7 @@ pub part_more : {cutter : CutterState} {lines : ℕ} {x : List ℕ} (t more : Li
 unfolding at_more
 part_more {cutter} t more whole some at ends count left_is = search (rules, ended_still, runs_to)
 
--- all of them are left, unless the first is left out
+-- all further lines are left, unless the first of them is left out
 pub all_left : {cutter : CutterState} {x : List ℕ} (t : List ℕ) {left : List ℕ} → Joins x t
     → 1 ≤ cutter.progress.current → (at : IsAt cutter x left) → (WillSkip cutter → t ≡ [])
     → left ++ t ≡ text_from (cutter.progress.current + at.taken) (x ++ t)
@@ -203,7 +204,7 @@ all_left {cutter} {x} t {left} whole some at none = elim (cases_lt (cutter.lines
       (let few = at.few in let count = at.counted in omega arith)
 ]
 
--- what is written of the open section, where all but the last lines that may wait are taken, is what is settled
+-- the lines of the open section that were taken are those that are settled
 pub live_taken : {cutter : CutterState} {x : List ℕ} (live : IsLive cutter x)
     → live.at.taken ≡ settled_end (line_count newline x) live.ends.ending - cutter.progress.current
 live_taken live = search rules
@@ -224,7 +225,7 @@ pub few_taken : {cutter : CutterState} {x left : List ℕ} (at : IsAt cutter x l
     → at.taken ≤ cutter.lines + 1 - cutter.progress.current
 few_taken at = search rules
 
--- with the first lines of those that were left more is written, and the lines after them are left
+-- once the first of the lines that were left are written, the lines after them are left
 module _ {cutter : CutterState} {x left : List ℕ} (n : ℕ) (some : 1 ≤ cutter.progress.current)
     (at : IsAt cutter x left) where
   pub written_on : {bytes : List ℕ} → bytes ≡ first_lines newline n left
@@ -236,7 +237,7 @@ module _ {cutter : CutterState} {x left : List ℕ} (n : ℕ) (some : 1 ≤ cutt
 
 -- Writing lines that wait to the open section.
 
--- A beginning of what waited was written and dropped, and `left` bytes are still to go.
+-- The first bytes of what waited were written and dropped, and `left` bytes are still to be written.
 pub record Emptying (told : Bool) (writer now : WriterState) (window left_in : Window) (n left : ℕ)
     (old new : List Slot) : Type 0 where
   pub few : left ≤ n
@@ -248,7 +249,7 @@ pub all_held : {told : Bool} {writer : WriterState} {window : Window} {n : ℕ} 
     → Emptying told writer writer window window n n slots slots
 all_held {window = window} {n} ready = search (rules, put_nothing)
 
--- more bytes of what stands at its front go
+-- more bytes go from the front of what waits
 module _ {told : Bool} {writer now : WriterState} {window left_in : Window} {n left : ℕ} {old mid : List Slot}
     (so_far : Emptying told writer now window left_in n left old mid) (bytes : ℕ) (front rest : List ℕ)
     (is : left_in.held ≡ front ++ rest) (within : bytes ≤ length front) where
@@ -268,7 +269,7 @@ module _ {told : Bool} {writer now : WriterState} {window left_in : Window} {n l
         size = omega (arith, length-take-le bytes front within, ap (λ (w : Window). length w.held) dropped ∙ length-drop bytes left_in.held);
       }
 
-  -- a write of it stopped
+  -- a write of such bytes stopped
   pub empties_short : bytes ≤ left → {next : WriterState} {new : List Slot} {fault : Fault}
       → Goes told now (with_bytes (take bytes front)) mid new next (Some fault)
       → Goes told writer (with_bytes (take n window.held)) old new next (Some fault)
@@ -278,7 +279,8 @@ module _ {told : Bool} {writer now : WriterState} {window left_in : Window} {n l
       (stops_among (take (n - left) window.held ++ take bytes front) (take (left - bytes) (drop (n - left + bytes) window.held))
       (search (rules, goes_more)))
 
--- What leaves of the lines that wait and of a text after them, and what stays: of the text only where all that waited leaves.
+-- What goes of the lines that wait and of a text after them, and what stays. Of the text something goes only if all
+-- that waited goes.
 pub record Parted (delim most over front : ℕ) (held text : List ℕ) : Type 0 where
   pub goes : take front held ++ take (over - front) text ≡ but_last_lines delim most (held ++ text)
   pub stays : drop front held ++ drop (over - front) text ≡ last_lines delim most (held ++ text)
@@ -303,7 +305,7 @@ parted {delim} {most} {over} {held = held} {text} is all least =
       within = omega (arith, over-le-length delim most held text);
     }
 
--- what `hold_last` owes at each of its ends
+-- the contract of `hold_last` at each of its ends
 module _ {delim most over front : ℕ} {held text : List ℕ} (parts : Parted delim most over front held text) where
   pub rest_fits : but_last_lines delim most (drop front held ++ drop (over - front) text) ≡ []
   rest_fits = search (rules, but_last_lines-last)
@@ -324,11 +326,11 @@ kept_window new result parts dropped put = search rules
 
 -- What `hold` leaves: all that is settled of the lines that came in is written, and the others wait.
 
--- the cutter once `hold` has written and kept what it was to
+-- the cutter once `hold` has written what goes and kept what stays
 abbrev pub holding : CutterState → WriterState → List ℕ → CutterState
 holding cutter writer held = record cutter { writer = writer; window = record cutter.window { held = held } }
 
--- how many lines of those that are left no longer wait
+-- how many of the lines that are left no longer wait
 abbrev pub over_of : CutterState → List ℕ → ℕ
 over_of cutter left = line_count newline left - cutter.window.most
 
@@ -338,7 +340,7 @@ module _ {cutter : CutterState} {x left bytes : List ℕ} {at : IsAt (bare cutte
   live : is_final arrives.ends.ending ≡ false
   live = search rules
 
-  -- then all lines but those that may wait are taken
+  -- all lines are taken then, except the last that may wait
   taken_is : at.taken + over_of cutter left
       ≡ cutter.lines + 1 - cutter.progress.current - most_waiting arrives.ends.ending
   taken_is =
@@ -346,7 +348,7 @@ module _ {cutter : CutterState} {x left bytes : List ℕ} {at : IsAt (bare cutte
       (search (rules, fit.fits.some, (few_taken at), (left_count at), arrives.enough))
       ∙ ap (λ n. cutter.lines + 1 - cutter.progress.current - n) most
 
-  -- and what is written is what is settled
+  -- what is written then is what is settled
   held_part : draft_part (manner_of cutter.style) (with_bytes bytes (draft_at at)) ≡ settled_part cutter x
   held_part =
       ap (draft_part (manner_of cutter.style)) (draft_is settled_end cutter.style cutter.operands x (at.taken + over_of cutter left) (runs_to at arrives.ends)
@@ -399,7 +401,7 @@ hold_goes {cutter = cutter} {writer} {window} {left} {fault = fault} fit differs
   bytes_is : but_last_lines cutter.window.delim cutter.window.most left ≡ first_lines newline (over_of cutter left) left
   bytes_is = ap (λ d. but_last_lines d cutter.window.most left) fit.delim
 
--- where the cut is below the current line, none waits
+-- if the cut is below the current line, no line waits
 
 pub hold_past : {told : Bool} {cutter : CutterState} {window : Window} {left : List ℕ} {slots : List Slot} {n : ℕ}
     → cutter.aim ≡ Below → IsReady cutter.writer slots → n ≡ length cutter.window.held
@@ -428,9 +430,9 @@ hold_past {cutter = cutter} {window} {left} {n = n} aim ready all less dropped =
   drafts x at arrives = let is = past x at arrives in draft_is settled_end cutter.style cutter.operands x at.taken
       (runs_to at arrives.ends) (search (rules, final_count)) at.written_is
 
--- What is settled begins with what stands where a section has begun.
+-- What is settled begins with what is written when a section has begun.
 
--- one section, and those after it
+-- a section that has begun with no line, and the sections after it
 begins_with : (style : Style) (lines : List Line) (steps : List Step) (one : Section) (more : List Section)
     (kept : Bool) → kept ≡ one.is_kept
     → Begins (draft_part (manner_of style) (draft_by style lines steps kept []))
@@ -439,7 +441,7 @@ begins_with style lines steps one more kept same =
     rw (← draft_shares style lines steps kept []) at
     (section_grows style (map (section_of lines) steps) (section kept false []) one more refl same (bytes_of one.lines) refl)
 
--- the open section, where the plan ends there
+-- the open section, if the plan ends at this state
 abbrev open_at : List Line → State → Ending → Section
 open_at lines last ending = section (is_last_kept ending) false
     (lines_between last.current (settled_end (length lines) ending) lines)
@@ -449,7 +451,7 @@ settled_by_plan : (style : Style) (operands : List Operand) {lines : List Line} 
     → settled_of style operands lines ≡ part_of style (map (section_of lines) steps ++ open_at lines last ending ∷ [])
 settled_by_plan style operands runs = search (rules, plan_once, runs)
 
--- the first of what follows is kept as the next operand says
+-- the next section is kept if the next operand says so
 head_kept : {style : Style} {lines : List Line} {state : State} {more : List Step} {last : State} {ending : Ending}
     → Runs style lines state more last ending → (one : Section) × (rest : List Section)
     × (map (section_of lines) more ++ open_at lines last ending ∷ [] ≡ one ∷ rest)
@@ -473,9 +475,9 @@ begun_by style operands {lines} steps {state} more {last} {ending} rest all =
       head.2,
     ) (search (rules, begins_with))
 
--- The sections once one more ended
+-- The sections once one more section ended
 
--- the step of a cut
+-- the step that makes a cut
 abbrev step_at : CutterState → Operand → CutPoint → Step
 step_at cutter operand cut = step_of (state_in cutter) operand cut.matched cut.line
 
@@ -488,7 +490,8 @@ leads_on {cutter} at cut goes more last ending run =
     at (at.leads _ last ending (cuts _ goes.operand goes.operands cut.matched cut.line more last ending goes.are
     goes.cuts goes.from goes.within run))
 
--- What `cut_at` owes, by how far it came. First the lines before the cut are written; then the run goes on; then the next section begins.
+-- The contract of `cut_at`, by how far it came. First the lines before the cut are written, then the run goes on, and
+-- then the next section begins.
 
 pub cut_stopped : {told : Bool} {cutter next : CutterState} {cut : CutPoint} {place : ℕ} {left line : List ℕ}
     {old new : List Slot} {fault : Fault} → next.operands ≡ cutter.operands → next.style ≡ cutter.style
@@ -517,10 +520,10 @@ next_goes : {told : Bool} {cutter mid : CutterState} {writer next : WriterState}
 next_goes {before = before} passed went opening_is began = goes_again _ (λ draft. refl)
     (λ manner. bytes_begin manner before) went (rw passed.same at (rw opening_is at began))
 
--- a cut of this cutter is due, and stands after these bytes of the lines that are left
+-- a cut of this cutter is due; `before` are the lines that are left and stand before the cut
 module _ {cutter : CutterState} {cut : CutPoint} {place n : ℕ} {left before : List ℕ} (fit : IsFit cutter)
     (will : WillCut cutter cut) (n_is : n ≡ cut.line - place) (first : before ≡ first_lines newline n left) where
-  -- the sections up to the cut, and the next one
+  -- the sections up to the cut, and the next section
   cut_draft : {x line : List ℕ} {at : IsAt (bare cutter) x left} (now : CutsNow line cut place at) (kept : Bool)
       → with_next (opening_of cutter.style kept) (with_bytes before (draft_at at))
       ≡ draft_by cutter.style (all_lines x) (at.steps ++ step_at cutter now.goes.operand cut ∷ []) kept []
@@ -538,7 +541,7 @@ module _ {cutter : CutterState} {cut : CutPoint} {place n : ℕ} {left before : 
       ∙ ap (λ those. record { ended = those; opening = opening_of cutter.style kept; bytes = [] })
       (search (rules, map-append, flat_map-append, append-nil))
 
-  -- what is settled begins with them
+  -- what is settled begins with the sections up to the cut
   cut_begins : {x line : List ℕ} {at : IsAt (bare cutter) x left} (now : CutsNow line cut place at)
       → Begins (draft_part (manner_of cutter.style) (with_next (opening_of cutter.style (kept_by (state_after
       (suppress_in cutter) now.goes.operand now.goes.operands cutter.progress.repetition cut.matched

@@ -1,4 +1,4 @@
--- Lines of a text as operands see them, their bytes, and what follows the last newline, where more bytes come.
+-- Lines of a text as operands see them, their bytes, and what follows the last newline, if more bytes come.
 use Rattle.std.proofs.{
   Common.{◌≡◌, inl, inr, ℕ, zero, suc, ◌+◌, ◌-◌, ◌<◌, ◌≤◌, List, [], ◌∷◌, ◌++◌, length, map, take, drop, refl, sym},
   Common.{◌∙◌, ap, arith, length-append, Bool, true, false, append_assoc, take-add, rules},
@@ -28,7 +28,7 @@ use Rattle.csplit_core.specs.{
   CsplitState.whole_lines,
 }
 
--- the lines of complete lines and of what follows them
+-- the lines of complete lines and a text after them
 pub lines-append : {x : List ℕ} (t : List ℕ) → Joins x t
     → lines_of newline (x ++ t) ≡ lines_of newline x ++ lines_of newline t
 lines-append t fact = search (rules, lines_of-append)
@@ -51,7 +51,7 @@ pub count-line : {x : List ℕ} (line : List ℕ) → IsWhole x → IsLine line
     → line_count newline (x ++ line) ≡ line_count newline x + 1
 count-line {x} line whole one = search (rules, count-append)
 
--- complete lines have as many delimiters
+-- complete lines have one delimiter each
 pub whole_count : {x : List ℕ} → IsWhole x → line_count newline x ≡ delimiters newline x
 whole_count fact = search (rules, line_count-closed)
 
@@ -66,7 +66,7 @@ whole_drop n {text} (inr ends) = elim (cases_lt n (length text)) [
   | inr past ↦ inl (drop_all n text past)
 ]
 
--- bytes of lines
+-- the bytes of lines
 
 pub bytes_marked : (lines : List (List ℕ)) → bytes_of (map marked lines) ≡ joined lines
 bytes_marked [] = refl
@@ -76,18 +76,18 @@ pub bytes_between : (first end : ℕ) (x : List ℕ)
     → bytes_of (lines_between first end (all_lines x)) ≡ first_lines newline (end - first) (text_from first x)
 bytes_between first end x = search (rules, drop-map, take-map, bytes_marked, lines_of-after_lines)
 
--- how many lines follow
+-- how many lines stand from a line on
 pub count_from : (first : ℕ) (x : List ℕ) → line_count newline (text_from first x) ≡ line_count newline x - (first - 1)
 count_from first x = search (rules, lines_of-after_lines, length-drop)
 
--- the first lines of a text, and what follows them
+-- the first lines of a text, and what follows these lines
 
 pub rest_is : {n : ℕ} {x : List ℕ} (end : ℕ) → EndsAt newline n x end → drop end x ≡ after_lines newline n x
 rest_is {n} {x} end ends = search (rules, length-take-le, after_lines-is_drop)
 
 -- the first lines from a line on
 
--- what follows complete lines changes nothing among them
+-- what follows complete lines doesn't change these lines
 first_within : (n first : ℕ) {x : List ℕ} (t : List ℕ) → Joins x t → 1 ≤ first → first + n ≤ line_count newline x + 1
     → first_lines newline n (text_from first (x ++ t)) ≡ first_lines newline n (text_from first x)
 first_within n first t whole some within = search (rules, length-drop, lines_of-after_lines, lines-append, drop-append-le, take-append-le)
@@ -102,7 +102,7 @@ pub rest_more : (first : ℕ) {x : List ℕ} (t : List ℕ) → Joins x t → 1 
     → text_from first x ++ t ≡ text_from first (x ++ t)
 rest_more first t fact some within = search (rules, after_lines-append, whole_count, append-nil)
 
--- past the last line nothing follows
+-- nothing stands past the last line
 pub none_from : (first : ℕ) (x : List ℕ) → line_count newline x < first → text_from first x ≡ []
 none_from first x past = ap joined (drop_all (first - 1) (lines_of newline x) (omega arith))
 
@@ -115,15 +115,15 @@ pub first_further : (first a b : ℕ) (x : List ℕ) → 1 ≤ first
     ≡ first_lines newline a (text_from first x) ++ first_lines newline b (text_from (first + a) x)
 first_further first a b x some = search (rules, take-add, joined-append, lines_of-after_lines, from_further)
 
--- all that is left is from a line on
+-- complete lines from a line on are complete
 pub whole_from : (first : ℕ) {x : List ℕ} → IsWhole x → IsWhole (text_from first x)
 whole_from first {x} whole = search (rules, after_lines-is_drop, whole_drop)
 
--- what is left of a slice
+-- what is left of a slice after its first n bytes
 pub rest_all : (n : ℕ) (left : List ℕ) → take (length left - n) (drop n left) ≡ drop n left
 rest_all n left = grind (arith, common_steps)
 
--- The complete lines of a text and what follows them, where more bytes come.
+-- The complete lines of a text and what follows them, if more bytes come.
 
 pub whole_by : (x : List ℕ) (ends : Bool) → ends_with newline x ≡ ends → line_count newline x ≤ delimiters newline x
     → IsWhole x
@@ -143,7 +143,7 @@ open_unbroken x =
 pub all_complete : (x : List ℕ) → all_lines (whole_lines x) ≡ complete_lines x
 all_complete x = search (rules, lines_of-first_lines)
 
--- there is one way to part complete lines from what follows them
+-- complete lines and an open line after them can be told apart in only one way
 
 pub front_is : (front rest : List ℕ) → IsWhole front → delimiters newline rest ≡ 0 → whole_lines (front ++ rest) ≡ front
 front_is front rest fact none = search (rules, first_lines-zero, first_lines-whole, delimiters-append)
@@ -153,7 +153,7 @@ pub tail_is : (front : List ℕ) {rest : List ℕ} → IsWhole front → delimit
 tail_is front {rest} whole none = append_cancel_left front (open_line (front ++ rest)) rest
     (search (rules, (front_is front rest whole none), lines_then_open {x = front ++ rest}))
 
--- more bytes complete the open line, or not
+-- more bytes complete the open line, or they don't
 
 parted : (x y : List ℕ) → x ++ y ≡ (whole_lines x ++ whole_lines (open_line x ++ y)) ++ open_line (open_line x ++ y)
 parted x y =
@@ -174,7 +174,7 @@ pub no_newline : (rest piece : List ℕ) → delimiters newline rest ≡ 0 → d
     → delimiters newline (rest ++ piece) ≡ 0
 no_newline rest piece none also = search (rules, delimiters-append)
 
--- a piece with one
+-- a piece with a newline
 
 pub ends_by : (x : List ℕ) → IsWhole x → 0 < length x → ends_with newline x ≡ true
 ends_by x fact some = search rules
@@ -211,7 +211,7 @@ none-append (byte ∷ a) b (other, none) also = (other, none-append a b none als
 pub line_by : (line : List ℕ) → AreLines newline (line ∷ []) → IsLine line
 line_by line is = ap (lines_of newline) (sym (append-nil line)) ∙ lines_of-joined newline (line ∷ []) is
 
--- the first line of a text is one
+-- the first line of a text is a line
 pub first_line : (text line rest : List ℕ) → lines_of newline text ≡ line ∷ lines_of newline rest → IsLine line
 first_line text line rest is = search (rules, AreLines-lines_of, line_by)
 
@@ -221,7 +221,7 @@ open_is_line rest some none = line_by rest (inr (some, none_in rest none))
 pub joined_line : (rest end : List ℕ) → delimiters newline rest ≡ 0 → IsLine end → IsLine (rest ++ end)
 joined_line rest end none is = grind (arith, common_steps, line_by, none_in, AreLines-lines_of, none-append)
 
--- the first of complete lines is complete, and so are those after it
+-- the first of complete lines is complete, and so are the lines after it
 
 pub first_complete : {text : List ℕ} (line : List ℕ) {rest : List ℕ} → (ends_with newline line ≡ false → rest ≡ [])
     → text ≡ line ++ rest → ends_with newline text ≡ true → ends_with newline line ≡ true

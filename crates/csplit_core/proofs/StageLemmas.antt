@@ -66,9 +66,9 @@ use Rattle.csplit_core.specs.{
 use Rattle.ports_core.specs.declared.fault.Fault.TheVariants as fault_is
 use Rattle.ports_core.specs.Engine as engine
 
--- What opening the cutter leaves: the first section, with no line yet.
+-- What opening the cutter leaves: the first section, without a line yet.
 
--- the first section, without a byte, is what is settled
+-- the first section without a byte is what is settled
 
 abbrev nothing_yet : Draft
 nothing_yet = record { ended = []; opening = Never; bytes = [] }
@@ -84,14 +84,14 @@ pub first_part : (style : Style) (operands : List Operand)
     → draft_part (manner_of style) (first_draft style (kept_by operands)) ≡ settled_of style operands []
 first_part style operands = search (rules, first_settled, settled_part_is)
 
--- 64 bits count more files than come
+-- a new writer makes files in the style's manner, as far as 64 bits count files
 first_manner : (style : Style) → IsManner (manner_of style) (manner_in (writer_for style))
 first_manner style = search rules
 
 first_owns : (style : Style) {slots : List Slot} → 2 ≤ length slots → OwnsFiles (writer_for style) (length slots) slots
 first_owns style two = grind (arith, common_steps)
 
--- the first writer has been given nothing
+-- a new writer has been given nothing
 first_writes : (style : Style) → Writes (manner_of style) (writer_for style) nothing_yet
 first_writes style = search (rules, first_manner)
 
@@ -171,7 +171,7 @@ first_opened told {style} {operands} {old} {new} {writer} aim two begun none say
       size = search rules;
     }
 
--- What `open` returns, where the next operand was looked up.
+-- What `open` returns once the next operand was looked up.
 
 -- the writer that was made goes on
 pub made_goes : {told : Bool} (style : Style) {first next : WriterState} {change : Draft → Draft} {old new : List Slot}
@@ -189,14 +189,15 @@ begun_not {style = style} {old = old} {new} {f = f} two goes none = record {
   none = λ place past. rw none at ((goes.leaves.owns.owns (length old) (first_owns style two)).own goes.leaves.keeps place past);
 }
 
--- where there is no memory, nothing was done
+-- if there is no memory, nothing was done
 pub opened_lacks : (told : Bool) {style : Style} (operands : List Operand) {slots : List Slot} {fault : Fault}
     → fault ≡ Memory → BegunNot told style (settled_of style operands []) slots slots fault
 opened_lacks told operands lacks = search (rules, stops_wider, in_turn, nothing_begins_part, none_past)
 
--- What ending the cutter leaves: all lines that waited belong to the last section, which ends; and the fault with which the work ends.
+-- What ending the cutter leaves: all lines that waited belong to the last section, which ends. It also finds the
+-- verdict of the work.
 
--- What is written before the end, and with the lines that wait, is what is settled and the whole.
+-- Before the end, what is settled is written. With the lines that wait, that is the whole.
 record LastDraft (cutter : CutterState) (x : List ℕ) : Type 0 where
   draft : Draft
   writes : Writes (manner_of cutter.style) cutter.writer draft
@@ -224,7 +225,7 @@ past_draft past = search (rules, settled_part_is, whole_part_is)
 last_draft : {cutter : CutterState} {x : List ℕ} → IsFit cutter → Stands cutter x → LastDraft cutter x
 last_draft fit fact = search (rules, live_draft, past_draft)
 
--- how the plan ends
+-- How the plan ends
 
 -- What `end` does: the lines that wait are written, and then the section ends.
 
@@ -259,14 +260,14 @@ end_short {cutter = cutter} fit all goes =
       judged = tt;
     }
 
--- The verdict with which the work ends, from where the cutter stands.
+-- The verdict with which the work ends, by the cutter's state.
 
 of_it : {cutter : CutterState} {x : List ℕ} → IsJudged cutter x
     → EndsAs cutter.style (all_lines x) (state_in cutter) (plan_in cutter x).ending
 of_it {cutter} {x} judged =
     rw (← judged.last) at (ends_as (plan_runs cutter.style cutter.operands (all_lines x)))
 
--- the verdict on the next operand, by what it did
+-- the verdict on the next operand, by its last attempt
 abbrev pub verdict_at : Attempt → Operand → ℕ → Option Verdict
 verdict_at Missed operand repetition = verdict_of (missed operand repetition)
 verdict_at (Above matched line) operand repetition = verdict_of (above operand repetition 0 0)
@@ -280,7 +281,7 @@ pub judged_none : {cutter : CutterState} {result : Option Verdict} {x : List ℕ
     → result ≡ verdict_of (plan_in cutter x).ending
 judged_none over none judged = search (rules, nat_tests, of_it, drop_all)
 
--- the operand that was looked up is the next
+-- the operand that was looked up is the next operand
 pub judged_next : {cutter : CutterState} {operand : Operand} {aim : Attempt} {result : Option Verdict} {x : List ℕ}
     → cutter.progress.done < length cutter.operands → operand ≡ get_or cutter.operands cutter.progress.done operand
     → cutter.aim ≡ aim → result ≡ verdict_at aim operand cutter.progress.repetition → IsJudged cutter x
@@ -289,7 +290,7 @@ judged_next within here aimed made judged = search (rules, of_it, left_is)
 
 -- How many bytes wait.
 
--- what the cutter holds is the end of the complete lines
+-- the lines that the cutter holds are the end of the complete lines
 held_within : {cutter : CutterState} {x : List ℕ} → IsLive cutter x → length cutter.window.held ≤ length x
 held_within {cutter} {x} live = search (rules, after_lines-is_drop, length-drop)
 
@@ -365,7 +366,7 @@ closed_short {stage = stage} stopped = record {
   judged = tt;
 }
 
--- Where later input goes nowhere, it changes nothing of the end either.
+-- If later input goes nowhere, it changes nothing of the end either.
 
 final_sections : (a b : List Line) (p : Plan) → AreWithin (length a) p.steps → is_final p.ending ≡ true
     → whole_sections (a ++ b) p ≡ whole_sections a p
@@ -384,9 +385,9 @@ past_end {cutter} {x} t whole past = grind (
       (all_lines x)) (omega arith)).0 past.past,
 )
 
--- The steps of the stage that takes in bytes. A stage is known by its fields and by its value.
+-- The steps of the stage that takes in bytes. A stage is known by its fields and by its view.
 
--- the open line and its end
+-- the open line and its end are a line
 
 pub line_at : {before stage : CsplitState} {text : List ℕ} (end : List ℕ) → before ≡ stage → text ≡ before.rest ++ end
     → delimiters newline stage.rest ≡ 0 → IsLine end → IsLine text
@@ -397,7 +398,7 @@ pub lacks_at : {told : Bool} {before stage : CsplitState} (t : List ℕ) {slots 
     → Takes told stage.cutter t slots slots before.cutter (Some Memory)
 lacks_at t is sound ready = rw is (takes_wider t (inl refl) (takes_lacking (takes_none sound ready)))
 
--- the first of the lines was taken in, and then the others
+-- the first line was taken in, and then the other lines
 
 lines_from : {told : Bool} {before stage : CsplitState} {next : CutterState} {lines : List ℕ} (end others : List ℕ)
     {old new : List Slot} {fault : Option Fault}
@@ -444,12 +445,12 @@ past_passes {stage = stage} is aim ready sound unbroken =
 pub below_or_not : (attempt : Attempt) → (attempt ≡ Below) ⊎ (attempt ≡ Below → ⊥)
 below_or_not attempt = search rules
 
--- what is kept of the open line
+-- the bytes that are kept of the open line
 kept_open : {A : Type 0} (tail after : List ℕ) → delimiters newline tail ≡ 0 → A ⊎ (A → ⊥) → (A → after ≡ [])
     → ((A → ⊥) → after ≡ tail) → (delimiters newline after ≡ 0) × (length after ≤ length tail)
 kept_open tail after none fact past live = grind (arith, common_steps)
 
--- complete lines were taken in, and what follows them waits
+-- complete lines were taken in, and what follows these lines waits
 pub passes_on : {told : Bool} {view stage : CsplitState} (next : CsplitState) {mid : CutterState}
     {piece lines rest : List ℕ} (text : List ℕ) {old new : List Slot} (result : Result (Unit {0}) Fault) → view ≡ stage
     → (view.cutter.aim ≡ Below → ⊥) → whole_lines (view.rest ++ piece) ≡ lines
@@ -488,7 +489,7 @@ last_none is size empty ready sound =
 
 -- What the stage that takes in bytes owes.
 
--- what is settled of the bytes
+-- what is settled of the bytes that came in
 
 settled_is : (stage : CsplitState) (x : List ℕ) → settled_part stage.cutter (whole_lines x) ≡ (work stage).settled x
 settled_is stage x = search (rules, all_complete)
@@ -506,19 +507,19 @@ settled_then {stage} {x} piece holds = elim (below_or_not stage.cutter.aim) [
   | inr differs ↦ ap (settled_part stage.cutter) (lines_in stage.rest x piece (holds.live differs)) ∙ settled_is stage (x ++ piece)
 ]
 
--- the outputs stay its own
+-- the stage's outputs stay its own
 pub owns_on : {stage next : CsplitState} {old new : List Slot} {fault : Option Fault}
     → Leaves stage.cutter.writer next.cutter.writer old new fault → (first : ℕ) → Owns stage first old
     → Owns next first new
 owns_on leaves first own = search rules
 
--- the outputs at it, which are the writer's own
+-- the outputs have what is settled, and the writer's files are its own
 stands_so : (told : Bool) {before : List Slot} {stage : CsplitState} {x : List ℕ} {now : List Slot}
     → StandsAt terms stage told before x now
     → At told stage.cutter.writer before (settled_part stage.cutter (whole_lines x)) now
 stands_so told at = search (rules, settled_is)
 
--- faults
+-- Faults
 
 not_verdict : (style : Style) (old new : List Slot) (fault : Fault) {own : Manner} → IsManner (manner_of style) own
     → Breaks own old new fault → is_verdict fault ≡ false
@@ -529,7 +530,7 @@ met_by : {Lacks : Type 0} → Lacks → (Ends : Verdict → Type 0) (style : Sty
     → IsMet (csplit_means style) (record { memory = true; files = true }) Lacks Ends old new fault
 met_by lacks Ends style old new fault same breaks = search rules
 
--- a piece
+-- a piece was taken in
 
 holds_by : {told : Bool} {stage next : CsplitState} {piece : List ℕ} {old new : List Slot} {x : List ℕ}
     → Passes told stage piece old new next (Ok tt) → Holds stage x
@@ -546,12 +547,12 @@ holds_by {stage = stage} {next} {piece} {x} passed holds (inr differs) = record 
   past = search rules;
 }
 
--- standard output has the sizes of what is settled
+-- standard output has the sizes of the files that are settled
 has_settled : (stage : CsplitState) (x : List ℕ)
     → HasLines (sizes_wanted stage.cutter.style) (settled_part stage.cutter x).out (settled_part stage.cutter x).files
 has_settled stage x = search rules
 
--- why a fault came
+-- why a fault came as a piece was taken in
 
 pub passes_by : (told : Bool) (stage next : CsplitState) (piece : List ℕ) (old new : List Slot)
     (result : Result (Unit {0}) Fault) → Passes told stage piece old new next result → IsReady stage old
@@ -584,10 +585,10 @@ passes_by told stage next piece old new (Err fault) stopped is_ready taken fits 
   met = search (rules, met_by);
 }
 
--- the end
+-- the end of the input
 
 module _ (stage : CsplitState) (x : List ℕ) (holds : Holds stage x) where
-  -- what is said of all lines, where those beyond some change nothing
+  -- a statement on all lines, if lines past the plan's end change nothing
   all_then : {A : Type 0} (f : List ℕ → A)
       → ((t : List ℕ) → IsPast stage.cutter (whole_lines x) → f (whole_lines x ++ t) ≡ f (whole_lines x))
       → (stage.cutter.aim ≡ Below) ⊎ (stage.cutter.aim ≡ Below → ⊥) → f (whole_lines x ++ stage.rest) ≡ f x
@@ -627,7 +628,7 @@ module _ (told : Bool) (stage next : CsplitState) (old new : List Slot) where
       (stopped_in_turn (work stage).means.output told before _ _ fault new (has_settled stage (whole_lines x))
       ((stopped.reaches (whole_lines x) (lines_whole x) at.holds.stands).there before (stands_so told at))))
 
-  -- the work ends with a verdict, and the files were cleared away after it
+  -- the work ended with a verdict, and the files were removed after that
   pub ends_judged : Closed told stage old new next None → {verdict : Verdict} → (cleared : List Slot)
       → ((first : ℕ) → Owns next first new → Swept (work next).clears first new cleared)
       → CutsOff terms stage (work stage).whole told old cleared (fault_is.Verdict verdict)
@@ -635,7 +636,7 @@ module _ (told : Bool) (stage next : CsplitState) (old new : List Slot) where
       engine.judged refl new (whole_out closed at)
       (search (rules, owns_on))
 
--- what the end owes, however it went
+-- the contract of the end, however the end went
 pub finishes_by : (told : Bool) (stage next : CsplitState) (old new : List Slot) {result : Result (Unit {0}) Fault}
     → Closes told stage old new next result → IsReady stage old → next.taken ≤ stage.taken
     → Finishes terms told stage next old new (IsMetThere terms stage) result
@@ -663,7 +664,7 @@ finishes_by told stage next old new (ended_so verdict mid reached closed judges 
   met = ends_there told stage mid old reached closed judges;
 }
 
--- where nothing was written yet, the outputs are a new writer's
+-- if nothing was written yet, the outputs are those of a new writer
 pub none_stands : (told : Bool) (style : Style) {before slots : List Slot} → 2 ≤ length slots
     → OutputsAt told before nothing slots → At told (writer_for style) before nothing slots
 none_stands told style {before} {slots} two at =

@@ -43,7 +43,7 @@ use Rattle.csplit_core.proofs.{
   TryLemmas.stays,
 }
 
--- The lines that were left begin no later than a cut.
+-- A cut doesn't stand before the lines that are left.
 
 live_before : {cutter : CutterState} {x : List ℕ} (t : List ℕ) (live : IsLive cutter x) {operand : Operand}
     {operands : List Operand} (matched cut : ℕ) → (state_in cutter).operands ≡ operand ∷ operands
@@ -63,13 +63,13 @@ place_before t cut live whole goes from = omega (
       goes.are (rw (all_lines-append t (inl whole)) at goes.cuts),
 )
 
--- the same cutter, where more lines came
+-- the same cutter after more lines came
 abbrev pub more_lines : CutterState → ℕ → Attempt → CutterState
 more_lines cutter lines aim = record cutter { lines = lines; aim = aim }
 
--- Once more lines came, and what is settled of them is written and the others held.
+-- More lines came: what is settled of them is written, and the others are held.
 
--- it is live, where its aim isn't below the current line
+-- the cutter is live if its aim isn't below the current line
 live_of : {cutter : CutterState} {x : List ℕ} → (cutter.aim ≡ Below → ⊥) → Stands cutter x → IsLive cutter x
 live_of differs (inl live) = live
 live_of differs (inr past) = absurd (differs past.aim)
@@ -77,7 +77,7 @@ live_of differs (inr past) = absurd (differs past.aim)
 pub sound_held : {mid next : CutterState} {left : List ℕ} → Held mid left next → IsSound mid → IsSound next
 sound_held held sound = search rules
 
--- these lines are left where outputs have this part
+-- the outputs have the part `low`, and the lines `left` are left
 pub record Reached (low : Part) (cutter : CutterState) (x left : List ℕ) : Type 0 where
   pub at : IsAt (bare cutter) x left
   pub arrives : Arrives cutter at
@@ -133,9 +133,9 @@ took_held {cutter = cutter} {next} {lines} {aim} {t} more {fault = fault} sound 
         same = sym (live_part live) ∙ part_more t more (inl whole) fit.fits.some live.at live.ends there.0 (left x whole live);
       }
 
--- Once a line came that is cut.
+-- A line came that is cut.
 
--- it isn't left out
+-- a line that is cut isn't left out; a search begins no earlier than at the current line
 search_from : (suppress : Bool) (state : State) → state.current ≤ search_line suppress state
 search_from suppress state = search rules
 
@@ -149,7 +149,7 @@ cut_near style lines state operand (Search pattern kept offset) matched cut at f
 line_has : (line : List ℕ) → IsLine line → 1 ≤ length line
 line_has line one = grind (arith, common_steps)
 
--- more lines came after it
+-- more lines came after the line that is cut
 take_cut : {told : Bool} {cutter mid next : CutterState} (line more : List ℕ) {cut : CutPoint} {old new : List Slot}
     {fault : Option Fault} → IsFit cutter → (cutter.aim ≡ Below → ⊥) → IsLine line
     → mid ≡ more_lines cutter (cutter.lines + 1) mid.aim → WillCut mid cut → TriesNext cutter line mid (Some cut)
@@ -202,7 +202,7 @@ take_cut {told} {cutter} {mid} {next} line more {cut} {old} {new} {fault} fit di
         sym (live_part live) ∙ part_more line line (inl whole) fit.fits.some live.at live.ends count left_is,
       )
 
--- Where the cut is below the current line, later lines go nowhere.
+-- If the cut is below the current line, later lines go nowhere.
 
 pub past_plan : (style : Style) (operands : List Operand) {x : List ℕ} (t : List ℕ) → IsWhole x
     → is_final (plan style operands (all_lines x)).ending ≡ true
@@ -254,7 +254,7 @@ pub more_settled : (cutter : CutterState) {x : List ℕ} (t : List ℕ) → IsWh
     → Begins (settled_part cutter x) (settled_part cutter (x ++ t))
 more_settled cutter {x} t whole = rw (← all_lines-append t (inl whole)) at (grows cutter.style cutter.operands (all_lines x) (all_lines t))
 
--- one text after another
+-- one text was taken in after another
 
 pub takes_again : {told : Bool} {one two three : CutterState} {a b : List ℕ} {old mid new : List Slot}
     {fault : Option Fault} → IsWhole a → Takes told one a old mid two None → Takes told two b mid new three fault
@@ -281,7 +281,7 @@ takes_wider {cutter = cutter} {a = a} b whole stopped = record {
   went = tt;
 }
 
--- Stretch after stretch: of a text this is left.
+-- Some stretches of a text were taken in, and `left` is left.
 pub record Taking (told : Bool) (cutter now : CutterState) (text left : List ℕ) (old new : List Slot) : Type 0 where
   pub front : List ℕ
   pub whole : text ≡ front ++ left
@@ -319,7 +319,7 @@ module _ {told : Bool} {cutter now : CutterState} {text left : List ℕ} {old mi
 
 -- Cutting as often as operands cut the lines that are left.
 
--- Trying the next operand changes the aim alone.
+-- Trying the next operand changes only the aim.
 
 pub spread_fit : {now mid : CutterState} → mid ≡ record now { aim = mid.aim } → IsFit now → IsFit mid
 spread_fit is fit = search rules
@@ -328,7 +328,7 @@ pub spread_ready : (now : CutterState) {mid : CutterState} {slots : List Slot} �
     → IsReady now.writer slots → IsReady mid.writer slots
 spread_ready now is ready = search rules
 
--- the next operand cuts as well
+-- the next operand cuts, too
 
 cuts_again : {told : Bool} {cutter now : CutterState} (cut : CutPoint) {x : List ℕ} (line : List ℕ)
     {left : List ℕ} {low : Part} {old new : List Slot} (after : IsAfter told cutter x line now left low old new)
@@ -378,7 +378,7 @@ module _ {told : Bool} {cutter now mid : CutterState} {cut cut' : CutPoint} {pla
 
 -- Cutting the lines that wait and one more.
 
--- where none waits
+-- no line waits
 
 pub none_there : {held : List ℕ} {empty : Bool} → empty ≡ eqb (length held) 0 → empty ≡ true → held ≡ []
 none_there is true_is = grind (arith, common_steps)
@@ -388,7 +388,7 @@ pub alone : (P : ℕ → List ℕ → Type 0) (cutter : CutterState) (line : Lis
     → P (cutter.lines - delimiters newline cutter.window.held) (cutter.window.held ++ line)
 alone P cutter line none holds = search rules
 
--- and where some do
+-- some lines wait
 
 drained_place : (lines : ℕ) (held line : List ℕ) {items : List ℕ} {n count place : ℕ} → items ≡ held ++ line
     → n ≡ length items → count ≡ delimiters newline (take (n - length line) items) → place ≡ lines - count
@@ -409,9 +409,9 @@ cut_drained {cutter = cutter} {window = window} {line = line} {fault = fault} wa
       went = where_well fault all.went (λ went. search rules);
     }
 
--- A line is cut, or isn't, and what is left of it is held together with the lines after it that aren't cut.
+-- A line is cut, or it isn't; what is left of it is held with the lines after it that aren't cut.
 
--- What was found of the next line stays where lines are held.
+-- What was found of the next line stays true as lines are held.
 
 found_by : {told : Bool} {mid next : CutterState} {left : List ℕ} {old new : List Slot} (rest : List ℕ)
     (found : Option ℕ) → HoldsLines told mid left old new next None → IfSome found (IsNextFound mid rest)
@@ -423,7 +423,7 @@ ok_as : {P Q : Passed → Type 0} (result : Result Passed Fault) → ((passed : 
     → IfOk result P → IfOk result Q
 ok_as result follows holds = search rules
 
--- What `go_on` owes.
+-- The contract of `go_on`.
 
 found_held : {told : Bool} {mid next : CutterState} {left : List ℕ} {old new : List Slot} (rest : List ℕ) (size : ℕ)
     (found : Option ℕ) (result : Result Passed Fault) → HoldsLines told mid left old new next (fault_in result)
@@ -461,13 +461,14 @@ gone_on text first size {passed} result low within rest_is stops held are =
       held = search (rules, piece_from);
     }
 
--- The lines after a cut, up to where the next operand cuts: none of the open section is written before them.
+-- The lines after a cut, up to the line at which the next operand cuts. No line of the open section is written before
+-- them.
 
--- where the first line is all, or complete
+-- the first line is the whole text, or it is complete
 joins_by : {E : Type 0} {x rest : List ℕ} (n : ℕ) → (rest ≡ []) ⊎ E → (E → IsWhole x) → Joins x (take n rest)
 joins_by n fact ends = search rules
 
--- Then no operand cuts any more, and the lines that are left are held, perhaps with more.
+-- No operand cuts any more, and the lines that are left are held, perhaps with further lines.
 
 pub spread_passes : {told : Bool} {cutter mid end next : CutterState} {cut : CutPoint} {place : ℕ}
     {waiting line left rest : List ℕ} {n : ℕ} {old between new : List Slot} {fault : Option Fault}
@@ -511,7 +512,7 @@ spread_passes {told} {cutter} {mid} {end} {next} {cut} {place} {waiting} {line} 
             same = search (rules, part_more);
           }
 
--- they are held alone
+-- the lines that are left are held alone
 pub spread_held : {told : Bool} {cutter mid next : CutterState} {cut : CutPoint} {place : ℕ}
     {waiting line left : List ℕ} {old between new : List Slot} {fault : Option Fault}
     → Spread told cutter cut place waiting line old between mid left
@@ -527,14 +528,14 @@ spread_held {left = left} spread held = spread_passes {rest = []} {n = 0} spread
   ends = search (rules, append-nil);
 }) (rw (append-nil left) held)
 
--- What `cut_on` owes.
+-- The contract of `cut_on`.
 
--- what is left of its first line stands at the end of it
+-- what is left of the first line stands at the end of this line
 pub from_left : (text left : List ℕ) (size : ℕ) → size ≤ length text → IsEnd left (take size text)
     → drop (size - length left) (take size text) ≡ left
 from_left text left size within (front, is) = grind (arith, common_steps, drop_at, length-append, length-take-le)
 
--- The first line isn't cut: all of it and of the lines after it is left, or all but that line, where it is left out.
+-- The first line isn't cut: this line and the lines after it are left, unless the first line is left out.
 
 left_after : {cutter : CutterState} {x : List ℕ} (first : ℕ) (line more : List ℕ) → IsFit cutter → IsLine line
     → (WillSkip cutter → first ≡ length line) → ((WillSkip cutter → ⊥) → first ≡ 0)
@@ -559,7 +560,7 @@ left_after {cutter} {x} first line more fit one skips keeps joins whole live = e
       rw none (all_left (line ++ more) (inl whole) fit.fits.some live.at (λ skipped. absurd (omega arith)))
 ]
 
--- What `stretch` owes. The first line isn't cut.
+-- The contract of `stretch`, if the first line isn't cut.
 
 module _ {told : Bool} {cutter mid next : CutterState} {text : List ℕ} {size : ℕ} {old new : List Slot}
     (result : Result Passed Fault) (fit : IsFit cutter) (differs : cutter.aim ≡ Below → ⊥) (start : Starts text size)
@@ -589,7 +590,7 @@ module _ {told : Bool} {cutter mid next : CutterState} {text : List ℕ} {size :
             let is = append_assoc x line (take gone.on.n (drop size text)) in (search rules)) (rw end_is at gone.held);
       }
 
-  -- It is cut, and none waits.
+  -- The first line is cut, and no line waits.
   pub stretch_cut : {cut : CutPoint} → mid.window.held ≡ [] → WillCut mid cut
       → TriesNext cutter (take size text) mid (Some cut) → CutsOn told mid cut text size old new next result
       → Stretches told cutter text size old new next result
@@ -600,7 +601,7 @@ module _ {told : Bool} {cutter mid next : CutterState} {text : List ℕ} {size :
         (fault_in result)) mid line none on.all);
   }
 
-  -- It is cut, and some wait.
+  -- The first line is cut, and some lines wait.
   pub stretch_first : {cut : CutPoint} → WillCut mid cut → TriesNext cutter (take size text) mid (Some cut)
       → CutsAll told mid cut (mid.lines - delimiters newline mid.window.held) (mid.window.held ++ take size text)
       (take size text) [] old new next (fault_in result)
@@ -611,7 +612,7 @@ module _ {told : Bool} {cutter mid next : CutterState} {text : List ℕ} {size :
     took = search (rules, take_cut);
   }
 
--- All of it goes nowhere.
+-- All lines of the text go nowhere.
 pub stretch_past : {told : Bool} {cutter next : CutterState} {text : List ℕ} {size : ℕ} {old new : List Slot}
     (passed : Passed) → Starts text size → Takes told cutter text old new next None → passed.size ≡ length text
     → passed.found ≡ None → Stretches told cutter text size old new next (Ok passed)

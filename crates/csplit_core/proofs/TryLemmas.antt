@@ -1,4 +1,5 @@
--- What stays of a plan when more lines come, what an attempt says of it, what trying the next operand says, and over which lines it stands as it does.
+-- What stays of a plan when more lines come, what an attempt says of the plan, what trying the next operand says, and
+-- over which lines that operand stands as it does.
 use Rattle.std.proofs.{
   Common.{◌≡◌, inl, inr, ℕ, suc, ◌+◌, ◌-◌, ◌<◌, ◌≤◌, Bool, true, false, List, [], ◌∷◌, ◌++◌, length, get_or},
   Common.{refl, ◌∙◌, ap, arith, length-append, zero, ◌^◌, drop, sym, subst, None, Result, Ok, Err, OnOk, IfErr},
@@ -51,11 +52,11 @@ use Rattle.seg_core.proofs.{
 use Rattle.memchr.specs.Find.{Nowhere, NoneBefore, Passes, is_byte}
 use Rattle.scan_core.specs.Clear.{IsClear}
 
--- `count` lines come before these, and none of these has the operand's pattern, from the line on of number `from`
+-- these lines come after `count` lines; from the line of number `from` on, none of them has the operand's pattern
 abbrev pub NoneFrom : Operand → (count : ℕ) → List Line → (from : ℕ) → Type 0
 NoneFrom operand count lines from = (k : ℕ) → k < length lines → from ≤ count + suc k → (get_or lines k unmarked).marks operand ≡ false
 
--- where no line before the last one is matched, that line alone decides
+-- if no line before the last one matches, the last line alone decides
 
 pub looks_past : (operand : Operand) (lines : List Line) (from : ℕ)
     → ((other : ℕ) → from ≤ other → other < length lines → is_match operand lines other ≡ false)
@@ -64,7 +65,7 @@ looks_past operand lines from looked none line from_on within = search rules
 
 -- What stays as it is while more lines come
 
--- what more lines have to be, so that the plan still ends there
+-- what must be true of more lines, so that the plan still ends at this state
 abbrev pub EndsStill : Style → (count : ℕ) → List Line → (total : ℕ) → State → Ending → Type 0
 EndsStill style count b total last (missed operand repetition) =
     (operand : Operand) (operands : List Operand) → last.operands ≡ operand ∷ operands → NoneFrom operand count b (search_line style.suppress last)
@@ -92,7 +93,7 @@ stays style operands a b so =
 
 -- What an attempt says of the plan.
 
--- a number that was capped, and is below the cap, is the number
+-- a number that was capped, and is below the cap, is the number itself
 pub capped : (real cap most total : ℕ) → most ≡ min real cap → most ≤ total → total < cap → most ≡ real
 capped real cap most total is within low = search rules
 
@@ -114,7 +115,7 @@ module _ (style : Style) (all : List Line) {total : ℕ} {state : State} {found 
   falls matched real at_cut is last_is few low (Cuts line cut) at = (search (rules, seen.count))
   falls matched real at_cut is last_is few low attempt at = absurd at
 
-  -- where the last line has the operand's pattern, its search ends there
+  -- if the last line has the operand's pattern, the search ends at the last line
   pub falls_search : {pattern : Pattern} {kept : Bool} (offset : Offset) {most last : ℕ}
       → operand.target ≡ Search pattern kept offset → search_line style.suppress state ≤ total → found ≡ true
       → most ≡ min (moved offset total) (2 ^ 64 - 1) → last ≡ total + past_last style operand.target
@@ -123,7 +124,7 @@ module _ (style : Style) (all : List Line) {total : ℕ} {state : State} {found 
   falls_search offset target near is_found = falls total (moved offset total)
       (search rules)
 
-  -- and where it has not, or the search begins after it, no line matches
+  -- if the last line lacks the pattern, or the search begins after it, no line matches
   pub misses_search : {pattern : Pattern} {kept : Bool} {offset : Offset} → operand.target ≡ Search pattern kept offset
       → (search_line style.suppress state ≤ total → found ≡ false) → EndsHere style all state Missed
   misses_search target none = record {
@@ -220,7 +221,7 @@ attempt_ends attempt no_cut ends = search rules
 pub search_past : (suppress : Bool) (cut : CutPoint) → cut.line ≤ search_after suppress cut
 search_past suppress cut = search rules
 
--- what `try_last` owes
+-- the contract of `try_last`
 
 module _ {cutter : CutterState} (line : List ℕ) {found : Bool} (attempt : Attempt) (fit : IsFit cutter)
     (says : IsFound cutter (without_newline line) cutter.lines found)
@@ -239,7 +240,7 @@ module _ {cutter : CutterState} (line : List ℕ) {found : Bool} (attempt : Atte
 
 -- One more line comes.
 
--- With the lines of this text too there are `lines`, and the next operand stands as it did.
+-- With the lines of this text there are `lines` lines, and the next operand stands as it did.
 abbrev pub StaysOver : CutterState → (text : List ℕ) (lines : ℕ) → Attempt → Type 0
 StaysOver cutter text lines Missed = (operand : Operand) → cutter.sought ≡ pattern_in operand.target → NoneFrom operand cutter.lines
     (all_lines text) (search_line (suppress_in cutter) (state_in cutter))
@@ -285,11 +286,11 @@ next_stays {cutter} {x} line fit live whole one aim stays =
     (ends_over line fit (omega (arith, ap length one))
     (subst (StaysOver cutter line (cutter.lines + 1)) (sym aim) stays) x (inl whole) live.at.counted live.ends).1
 
--- the lines as they are counted
+-- the cutter's count of lines is right
 pub lines_are : {cutter : CutterState} {x : List ℕ} (live : IsLive cutter x) → length (all_lines x) ≡ cutter.lines
 lines_are live = grind (arith, common_steps)
 
--- the line of a cut that was above the last one came in
+-- a cut that was above the last line can be made once its line came in
 pub above_cuts : {style : Style} (lines : List Line) (line : Line) {state : State} {total matched at : ℕ}
     (ending : Ending) → length lines ≡ total → EndsAs style lines state ending
     → AimsAt (Above matched at) ending → at ≤ total + 1 + past_by style state.operands → total + 1 < 2 ^ 64 - 2
@@ -309,7 +310,7 @@ above_cuts {style} lines line {total = total} {at = at} (above operand repetitio
     )
 above_cuts lines line ending count ends aims near few = absurd aims
 
--- where a pattern matched no line so far
+-- a pattern matched no line so far
 
 pub next_looked : {cutter : CutterState} {x : List ℕ} (line : List ℕ) (live : IsLive cutter x) → IsWhole x → IsLine line
     → cutter.aim ≡ Missed → Looked (record cutter { lines = cutter.lines + 1 }) (x ++ line) line
@@ -333,7 +334,7 @@ next_tries next line None fit one aim counted tries = search (rules, next_looked
 next_tries next line (Some cut) fit one aim counted tries = λ x whole live.
     let both = tries (x ++ line) (next_looked line live whole one aim) in (both.0, omega (arith, both.1 (inr (next_sought live fit aim))))
 
--- What stays so of a state when more lines come
+-- What stays true of a state when more lines come
 
 pub passes : {cutter : CutterState} {text : List ℕ} {lines n : ℕ} → IsSound cutter → n ≤ length text
     → IsWhole (take n text) → lines ≡ cutter.lines + line_count newline (take n text)
@@ -349,7 +350,7 @@ passes {text = text} {n = n} sound within whole count stays near = record {
   ends = ends_over (take n text) sound.fit count stays;
 }
 
--- All lines of a text
+-- All lines of a text are passed over
 
 pub passes_all : {cutter : CutterState} {text : List ℕ} {n : ℕ} → IsSound cutter → IsWhole text
     → n ≡ delimiters newline text → StaysOver cutter text (cutter.lines + n) cutter.aim → (WillSkip cutter → ⊥)
@@ -360,7 +361,7 @@ passes_all {text = text} sound whole count stays near =
 
 -- Lines before the line of a cut
 
--- the line with which the cut is there did not come in yet
+-- the line with which the operand can cut did not come in yet
 pub not_yet : {cutter : CutterState} {matched line : ℕ} → IsSound cutter → cutter.aim ≡ Above matched line
     → cutter.lines + past_in cutter < line
 not_yet {cutter} sound aim =
@@ -387,7 +388,8 @@ passes_short line last past sound whole (matched, aim) near past_is last_is shor
 
 -- Lines without the pattern that is searched for
 
--- The text before what is left was counted, and none of its lines has the pattern that is searched for, from the line on where the search begins.
+-- The text before `left` was counted. None of its lines has the pattern that is searched for, from the beginning of the
+-- search on.
 pub record Unmatched (cutter : CutterState) (text left : List ℕ) (next : CutterState) : Type 0 where
   pub front : List ℕ
   pub all : text ≡ front ++ left
@@ -404,7 +406,7 @@ first_ends [] end within here = absurd (omega arith)
 first_ends (byte ∷ x) zero within here = here
 first_ends (byte ∷ x) (suc end) within here = search (rules, first_ends x end)
 
--- it is a complete line
+-- the line up to the first newline is complete
 first_parts : (x : List ℕ) (end : ℕ) → end < length x → Passes (is_byte newline) x end
     → Nowhere (Passes (is_byte newline) x) 0 end
     → (take (suc end) x ≡ take end x ++ newline ∷ []) × HasNone newline (take end x)
@@ -422,13 +424,13 @@ pub without_last : (text : List ℕ) → HasNone newline text → without_newlin
 without_last [] none = refl
 without_last (byte ∷ text) none = search (rules, ne_eqb byte newline none.0, without_last text none.1)
 
--- one more line
+-- one more line doesn't match
 
 none_one : (operand : Operand) (count : ℕ) (line : Line) (from : ℕ) → (from ≤ count + 1 → line.marks operand ≡ false)
     → NoneFrom operand count (line ∷ []) from
 none_one operand count line from here k less near = search rules
 
--- the first line of a text, which is complete, ends at this place
+-- the first line of a text is complete, and its newline stands at `end`
 pub record EndsFirst (text : List ℕ) (end : ℕ) : Type 0 where
   pub within : end < length text
   pub line : IsLine (take (suc end) text)
@@ -456,7 +458,7 @@ unmatched_on {cutter} {after = after} more rest so parts whole same count others
   none = grind (arith, common_steps, all_lines-append, length-all_lines);
 }
 
--- one more line, at which the cutter looked
+-- the cutter looked at one more line, which doesn't match
 pub one_more : {cutter : CutterState} {text left : List ℕ} {next now : CutterState} (end : ℕ) {found : Bool}
     → Unmatched cutter text left next → now ≡ next → EndsFirst left end
     → IsFound next (take end left) (next.lines + 1) found → found ≡ false
@@ -470,13 +472,13 @@ one_more {cutter} {left = left} {next} {now} end so is first finds not =
     (omega (arith, ap (λ (those : CutterState). those.lines) is, ap length first.line))
     (λ operand same. search (rules, none_one, found_is))
 
--- the numbers are small
+-- no more lines are counted than bytes come
 
 pub few_counted : {cutter : CutterState} {text left : List ℕ} {next : CutterState} → Unmatched cutter text left next
     → next.lines + length left ≤ cutter.lines + length text
 few_counted so = grind (arith, common_steps, line_count-le-length)
 
--- all that were looked at are passed over
+-- all lines that the cutter looked at are passed over
 pub all_passed_at : {cutter : CutterState} {text left : List ℕ} {next now : CutterState} → IsSound cutter
     → (WillSkip cutter → ⊥) → cutter.aim ≡ Missed → Unmatched cutter text left next → now ≡ next
     → PassesOver cutter text now (length text - length left)
@@ -487,7 +489,7 @@ all_passed_at {cutter} {text} {left} sound near aim so is =
     (so.count ∙ ap (λ those. cutter.lines + line_count newline those) front_is)
     (rw (aim, ← front_is) so.none) near)
 
--- Lines that are seen to have no match
+-- Lines that are known to have no match
 
 marks_clear : (operand : Operand) (x : List ℕ) (count start : ℕ)
     → ((pattern : Pattern) → pattern_in operand.target ≡ Some pattern → AreClear pattern x)
@@ -504,7 +506,7 @@ more_clear {left = left} {rest} {n = n} so clear rest_is =
     unmatched_on t rest so (search (rules, take-append-drop)) clear.whole clear.same clear.count
     (λ operand same. marks_clear operand t _ _ (λ pattern is. search rules))
 
--- what is left is complete lines
+-- what is left has complete lines
 pub left_whole : {cutter : CutterState} {text left : List ℕ} {next : CutterState} → IsWhole text
     → Unmatched cutter text left next → IsWhole left
 left_whole {left} whole so = rw (so.all, drop_at so.front left (length so.front) refl) at (whole_drop (length so.front) whole)
@@ -513,7 +515,7 @@ pub stops_unfound : {cutter : CutterState} {text : List ℕ} {next : CutterState
     → PassesOver cutter text next n → passed.size ≡ n → passed.found ≡ None → StopsAt cutter text next passed
 stops_unfound passed over size_is found_is = search rules
 
--- The line in which the pattern was found is the next one.
+-- The line in which the pattern was found is the next line.
 
 pub next_found : {cutter : CutterState} {text left : List ℕ} {next now : CutterState} (end : ℕ) {found : Bool}
     → cutter.aim ≡ Missed → Unmatched cutter text left next → now ≡ next → EndsFirst left end
@@ -521,7 +523,7 @@ pub next_found : {cutter : CutterState} {text left : List ℕ} {next now : Cutte
     → IsNextFound now (drop (length text - length left) text) (end + 1)
 next_found {text = text} {left} end aim so now_is first finds sure = search (rules, drop_at, length-append)
 
--- Lines of a text that is seen to have no match up to a place, and lines without their newlines.
+-- Lines of a text that has no match up to a place, and lines without their newlines.
 
 pub without_none : (text : List ℕ) → HasNone newline text → without_newline text ≡ text
 without_none [] none = refl
@@ -532,7 +534,7 @@ ends_none [] none = refl
 ends_none (byte ∷ []) none = ne_eqb byte newline none.0
 ends_none (byte ∷ next ∷ text) none = ends_none (next ∷ text) none.1
 
--- A complete line that ends by the place contains no match.
+-- A complete line that ends before or at the place contains no match.
 
 line_clear : (pattern : Pattern) {text : List ℕ} (place : ℕ) (front line more rest : List ℕ)
     → IsClear pattern text place → text ≡ front ++ (line ++ more) ++ rest → length front + length (line ++ more) ≤ place
@@ -578,7 +580,7 @@ none_at [] n d less none is = absurd (omega arith)
 none_at (byte ∷ text) zero d less none is = none.0 is
 none_at (byte ∷ text) (suc n) d less none is = none_at text n d (omega arith) none.1 is
 
--- where a text ends after a newline, lines end
+-- if a text ends after a newline, it has complete lines
 
 pub ends_there : (text : List ℕ) (n : ℕ) → n ≤ length text → (0 < n → Passes (is_byte newline) text (n - 1))
     → IsWhole (take n text)

@@ -25,7 +25,7 @@ lines_in-append : (a b : List Section) → lines_in (a ++ b) ≡ lines_in a ++ l
 lines_in-append [] b = refl
 lines_in-append (one ∷ a) b = search (rules, append_assoc, lines_in-append a b)
 
--- the lines up to a cut, and those from it on
+-- the lines before a cut, and the lines from the cut on
 pub between_rest : (first cut : ℕ) (lines : List Line) → 1 ≤ first → first ≤ cut
     → lines_between first cut lines ++ drop (cut - 1) lines ≡ drop (first - 1) lines
 between_rest first cut lines some least =
@@ -42,7 +42,7 @@ steps_and_rest {lines} (cuts state operand operands matched cut steps' last' end
     search (rules, append_assoc, between_rest, whole, steps_and_rest rest whole)
 steps_and_rest run whole some = refl
 
--- the steps' sections, then these lines, where they are what is left
+-- the steps' sections, the lines `end`, and the lines `rest` are all lines, if the last two are what is left
 pub all_with : (style : Style) → style.suppress ≡ false
     → (closed : Bool) (operands : List Operand) {x : List Line} (end rest : List Line)
     → end ++ rest ≡ drop ((plan style operands x).last.current - 1) x

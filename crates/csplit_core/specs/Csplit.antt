@@ -14,7 +14,7 @@ use Rattle.csplit_core.specs.{
   Input.{all_lines, complete_lines, open_line},
 }
 
--- what is written of complete lines, where more may follow, and of all lines
+-- what is written of complete lines if more may follow; `whole_of` is what is written if they are all lines
 abbrev pub settled_of : Style → List Operand → List Line → Part
 settled_of style operands lines = part_of style (settled_sections lines (plan style operands lines))
 
@@ -27,8 +27,8 @@ settled_by style operands x = settled_of style operands (complete_lines x)
 abbrev pub whole_by : Style → List Operand → List ℕ → Part
 whole_by style operands x = whole_of style operands (all_lines x)
 
--- The verdict with which the plan ends, where it ends with one. An operand that is repeated without end ends well where
--- its pattern matches no line any more, or where its line number is above the last line.
+-- The verdict with which the plan ends, if it ends with one. An operand that is repeated without end ends well if its
+-- pattern matches no line, or if its line number is above the last line.
 abbrev pub verdict_of : Ending → Option Verdict
 verdict_of used_up = None
 verdict_of (missed operand repetition) = if is_endless operand.times then None
@@ -40,9 +40,9 @@ verdict_of (below operand repetition) = Some (Range operand.index repetition)
 abbrev pub verdict_by : Style → List Operand → List ℕ → Option Verdict
 verdict_by style operands x = verdict_of (plan style operands (all_lines x)).ending
 
--- It writes sizes to standard output unless they are not wanted. As it takes in a piece it may open files, and may want
--- memory for their names and for bytes that wait. So it may at the end: a last line that lacks its newline is one more
--- line then, and may end several sections.
+-- The means of `csplit`. It writes sizes to standard output unless they aren't wanted. As it takes in a piece it may
+-- open files, and may need memory for their names and for bytes that wait. The same is true of the end: a last line
+-- without its newline is one more line then, and may end several sections.
 abbrev pub csplit_means : Style → Means
 csplit_means style = record {
   output = sizes_wanted style;
@@ -51,14 +51,14 @@ csplit_means style = record {
   closing = record { memory = true; files = true };
 }
 
--- the bytes that wait: the lines that do, and the line that lacks its newline; none once later input goes nowhere
+-- the bytes that wait: the lines that wait and the line that lacks its newline; none once later input goes nowhere
 abbrev pub waiting_of : List Line → Plan → List ℕ → List ℕ
 waiting_of lines plan rest = if is_final plan.ending then [] else bytes_of (waiting_lines lines plan) ++ rest
 
 abbrev pub waiting : Style → List Operand → List ℕ → List ℕ
 waiting style operands x = waiting_of (complete_lines x) (plan style operands (complete_lines x)) (open_line x)
 
--- What `csplit` makes of an input. It is never complete before the end, where the last size is written.
+-- What `csplit` makes of an input. The output is never complete before the end, where the last size is written.
 abbrev pub csplit_work : Style → List Operand → Work
 csplit_work style operands = record {
   settled = settled_by style operands;

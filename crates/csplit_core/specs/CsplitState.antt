@@ -30,34 +30,34 @@ whole_lines x = first_lines newline (delimiters newline x) x
 abbrev pub work : CsplitState → Work
 work stage = csplit_work stage.cutter.style stage.cutter.operands
 
--- It can have been fed x: the cutter has the complete lines, and the open line waits for its end. None waits once later
--- input goes nowhere.
+-- The stage may have been fed x: the cutter has the complete lines, and the open line waits for its end. Once later
+-- input goes nowhere, no line waits.
 pub record Holds (stage : CsplitState) (x : List ℕ) : Type 0 where
   pub stands : Stands stage.cutter (whole_lines x)
   pub live : stage.cutter.aim ≢ Below → stage.rest ≡ open_line x
   pub past : stage.cutter.aim ≡ Below → stage.rest ≡ []
 
--- the outputs that it goes on with can be written, and its numbers are small
+-- the outputs of later calls can be written, and the stage's numbers are small
 pub record IsReady (stage : CsplitState) (slots : List Slot) : Type 0 where
   pub writer : CanWrite stage.cutter.writer slots
   pub output : IsTrue (is_writable slots 0)
-  -- its files are named as they are asked for, and it tells sizes just where they are wanted
+  -- files are named as asked for, and sizes are written exactly if they are wanted
   pub manner : IsManner (manner_of stage.cutter.style) (manner_in stage.cutter.writer)
   pub sound : IsSound stage.cutter
   pub unbroken : delimiters newline stage.rest ≡ 0
   pub room : load stage.cutter + length stage.rest ≤ stage.taken
   pub few : stage.taken < 2 ^ 63
 
--- from this place on the outputs that have a file are its own
+-- the outputs from this place on that have a file are the stage's own
 pub record Owns (stage : CsplitState) (first : ℕ) (slots : List Slot) : Type 0 where
   pub writer : OwnsFiles stage.cutter.writer first slots
   pub all : stage.cutter.writer.keeps ≡ All
 
--- the outputs of the files that it made and didn't remove
+-- the outputs of the files that the stage made and didn't remove
 abbrev pub files : CsplitState → List ℕ
 files stage = stage.cutter.writer.files
 
--- it is never complete
+-- What the stage says of its states. Its output is never complete.
 abbrev pub terms : Terms CsplitState
 terms = record {
   Holds = Holds;

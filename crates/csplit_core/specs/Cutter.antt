@@ -37,7 +37,7 @@ pub record CutterState : Type 0 where
   -- the pattern that is searched for
   pub sought : Option Pattern
 
--- what contracts see of it
+-- what contracts see of a cutter of lines
 abbrev pub seen : LineCutter → CutterState
 seen cutter = record {
   operands = cutter.operands.now;
@@ -57,8 +57,8 @@ abbrev pub pattern_in : Target → Option Pattern
 pattern_in (Number n) = None
 pattern_in (Search pattern kept offset) = Some pattern
 
--- What the next operand says, if one is left: how many lines may wait, which pattern is searched for, whether the
--- section is kept.
+-- What the next operand says, if one is left: how many lines may wait (`most_next`), which pattern is searched for
+-- (`pattern_next`), and whether the section is kept (`kept_next`).
 abbrev pub most_next : Option Operand → ℕ
 most_next None = 0
 most_next (Some operand) = most_held operand.target
@@ -84,7 +84,7 @@ pattern_by operands = pattern_next (next_of operands)
 abbrev pub kept_by : List Operand → Bool
 kept_by operands = kept_next (next_of operands)
 
--- what was found of the next operand stays so
+-- the last attempt was no cut; a cut that was further than it may be moves on once more lines are there
 abbrev pub AimHolds : Style → List Operand → (lines : ℕ) → Progress → Attempt → Type 0
 AimHolds style operands lines progress UsedUp = Unit {0}
 AimHolds style operands lines progress Missed = Unit {0}
@@ -92,7 +92,7 @@ AimHolds style operands lines progress (Above matched line) = WillMove style ope
 AimHolds style operands lines progress Below = Unit {0}
 AimHolds style operands lines progress (Cuts matched line) = ⊥
 
--- its numbers are small, and it has what the next operand needs
+-- the cutter's numbers are small, and it has what the next operand needs
 pub record IsFit (cutter : CutterState) : Type 0 where
   pub fits : Fits cutter.lines (state_in cutter)
   pub most : cutter.window.most ≡ most_by (state_in cutter).operands
@@ -103,20 +103,20 @@ pub record IsSound (cutter : CutterState) : Type 0 where
   pub fit : IsFit cutter
   pub aim : AimHolds cutter.style cutter.operands cutter.lines cutter.progress cutter.aim
 
--- how many bytes and lines it has to count
+-- the greater of two counts: the lines that came in; the bytes of the open file and of the lines that wait
 abbrev pub load : CutterState → ℕ
 load cutter = max cutter.lines (size_of cutter.writer.current + length cutter.window.held)
 
--- the text from a line on, lines being counted from 1
+-- the text from a line on; lines are counted from 1
 abbrev pub text_from : ℕ → List ℕ → List ℕ
 text_from line x = after_lines newline (line - 1) x
 
--- a plan from this state on is the rest of one from the start
+-- a plan from this state on is the rest of a plan from the start
 abbrev pub Leads : Style → List Line → List Operand → List Step → State → Type 0
 Leads style lines operands steps state = (more : List Step) (last : State) (ending : Ending)
     → Runs style lines state more last ending → Runs style lines (start operands) (steps ++ more) last ending
 
--- the sections of these steps, and an open one with these bytes
+-- the files of these steps' sections, and the open section with these bytes
 abbrev pub draft_by : Style → List Line → List Step → Bool → List ℕ → Draft
 draft_by style lines steps kept bytes = record {
   ended = flat_map (file_in style) (map (section_of lines) steps);
@@ -124,18 +124,19 @@ draft_by style lines steps kept bytes = record {
   bytes = bytes;
 }
 
--- what is settled of complete lines
+-- what is settled of complete lines, as files
 abbrev pub settled_draft : Style → List Operand → List Line → Draft
 settled_draft style operands lines = let p = plan style operands lines in
     draft_by style lines p.steps (is_last_kept p.ending)
     (bytes_of (lines_between p.last.current (settled_end (length lines) p.ending) lines))
 
--- The lines x came in. Of those from the current line on, the first ones are written, and these are left.
+-- The lines x came in. Of the lines from the current line on, the first ones are written, or skipped with their
+-- section, and `left` are the others.
 pub record IsAt (cutter : CutterState) (x left : List ℕ) : Type 0 where
   pub steps : List Step
   pub leads : Leads cutter.style (all_lines x) cutter.operands steps (state_in cutter)
   pub counted : cutter.lines ≡ line_count newline x
-  -- how many lines of the open section are written, and their bytes
+  -- how many lines went to the open section, and their bytes
   pub taken : ℕ
   pub written : List ℕ
   pub few : taken ≤ line_count newline x + 1 - cutter.progress.current
@@ -148,7 +149,7 @@ pub record IsAt (cutter : CutterState) (x left : List ℕ) : Type 0 where
 abbrev pub EndsNow : CutterState → List ℕ → Type 0
 EndsNow cutter x = EndsHere cutter.style (all_lines x) (state_in cutter) cutter.aim
 
--- it can have been given the lines x, and what waits of them is what it holds
+-- the cutter may have been given the lines x, it holds those that wait, and later lines still go somewhere
 pub record IsLive (cutter : CutterState) (x : List ℕ) : Type 0 where
   pub at : IsAt cutter x cutter.window.held
   pub ends : EndsNow cutter x
@@ -156,7 +157,7 @@ pub record IsLive (cutter : CutterState) (x : List ℕ) : Type 0 where
   -- all but the last lines that may wait are written
   pub settled : at.taken ≡ cutter.lines + 1 - cutter.progress.current - most_waiting ends.ending
 
--- it was given the lines x, and what follows them goes nowhere
+-- the cutter was given the lines x, and what follows them goes nowhere
 pub record IsPast (cutter : CutterState) (x : List ℕ) : Type 0 where
   pub aim : cutter.aim ≡ Below
   pub past : is_final (plan cutter.style cutter.operands (all_lines x)).ending ≡ true
@@ -165,6 +166,6 @@ pub record IsPast (cutter : CutterState) (x : List ℕ) : Type 0 where
   pub writes : Writes (manner_of cutter.style) cutter.writer
       (settled_draft cutter.style cutter.operands (all_lines x))
 
--- the lines x can have come in
+-- x may be the lines that came in
 abbrev pub Stands : CutterState → List ℕ → Type 0
 Stands cutter x = IsLive cutter x ⊎ IsPast cutter x

@@ -5,7 +5,7 @@ use Rattle.seg_core.specs.Line.{lines_of, delimiters, after_lines}
 use Rattle.bre_core.specs.Search.{contains}
 use Rattle.csplit_core.specs.Operand.{Target, Number, Search, Line}
 
--- what each line ends with, but the last, which may lack it
+-- the byte with which each line ends; the last line may lack it
 abbrev pub newline : ℕ
 newline = 10
 
@@ -13,7 +13,7 @@ abbrev pub without_newline : List ℕ → List ℕ
 without_newline [] = []
 without_newline (byte ∷ bytes) = if byte == newline then [] else byte ∷ without_newline bytes
 
--- the line contains the operand's pattern
+-- whether the line contains the operand's pattern
 abbrev pub is_match_of : List ℕ → Target → Bool
 is_match_of line (Number n) = false
 is_match_of line (Search pattern kept offset) = contains pattern (without_newline line)
@@ -21,7 +21,7 @@ is_match_of line (Search pattern kept offset) = contains pattern (without_newlin
 abbrev pub marked : List ℕ → Line
 marked line = record { text = line; marks = λ operand. is_match_of line operand.target }
 
--- all lines; the last one counts without its newline too
+-- all lines; the last line counts even without its newline
 abbrev pub all_lines : List ℕ → List Line
 all_lines x = map marked (lines_of newline x)
 

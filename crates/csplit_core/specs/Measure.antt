@@ -1,13 +1,13 @@
--- What steps say of the numbers alone, by which a plan has no more steps than there are lines for.
+-- What steps say of the numbers alone. By this a plan has no more steps than there are lines for.
 use Rattle.std.specs.Prelude.{◌≡◌, ℕ, ◌+◌, ◌*◌, ◌<◌, ◌≤◌, List, [], ◌∷◌}
 use Rattle.csplit_core.specs.{Operand.{Target, Number, Search, Operand}, Plan.State}
 
--- a cut is the next multiple of a line number, or a line after the one before was matched
+-- a cut moves on: it is the next multiple of a line number, or a later line was matched than before
 abbrev pub Moves : ℕ → State → Target → (matched cut : ℕ) → Type 0
 Moves total state (Number n) matched cut = cut ≡ n * (state.repetition + 1)
 Moves total state (Search pattern kept offset) matched cut = (state.matched < matched) × (matched ≤ total)
 
--- an operand was performed no more often than there are lines before it
+-- a line number was performed no more often than there are lines; a pattern, than the number of the line matched last
 abbrev pub IsRepeatedBy : ℕ → State → Target → Type 0
 IsRepeatedBy total state (Number n) = state.repetition ≤ total
 IsRepeatedBy total state (Search pattern kept offset) = state.repetition ≤ state.matched
@@ -16,7 +16,7 @@ abbrev pub IsRepeated : ℕ → State → List Operand → Type 0
 IsRepeated total state [] = state.repetition ≡ 0
 IsRepeated total state (operand ∷ operands) = IsRepeatedBy total state operand.target
 
--- the numbers of a state lie within the lines that came in
+-- the numbers of a state fit the lines that came in
 pub record Fits (total : ℕ) (state : State) : Type 0 where
   pub some : 1 ≤ state.current
   pub current : state.current ≤ total + 2

@@ -15,15 +15,15 @@ pub use Rattle.ports_core.specs.Draft.{size_of_file}
 pub use Rattle.operand_core.specs.Style.{Style}
 use Rattle.csplit_core.specs.Section.{Section, bytes_of}
 
--- the size of each file that is closed, unless sizes are not wanted
+-- what standard output gets: the size of each file that is closed, unless sizes aren't wanted
 abbrev pub sizes_wanted : Style → Output
 sizes_wanted style = if style.quiet then gets_none else gets_lines size_of_file
 
--- its files are numbered from 0, as they are made
+-- how files are named: they are numbered from 0, as they are made
 abbrev pub naming_of : Style → Naming
 naming_of style = record { prefix = style.prefix; numbering = Formatted style.form; ending = style.ending }
 
--- how they are made
+-- how files are made
 abbrev pub manner_of : Style → Manner
 manner_of style = record {
   has_name = λ place. true;
@@ -31,7 +31,7 @@ manner_of style = record {
   output = sizes_wanted style;
 }
 
--- a section that is kept makes a file, but for an empty one where those are left out
+-- a kept section gets its file at once, or with its first byte if empty files are left out; a skipped section gets none
 abbrev pub opening_of : Style → Bool → Opening
 opening_of style kept = if kept then (if style.elide then Late else AtOnce) else Never
 
@@ -39,7 +39,7 @@ opening_of style kept = if kept then (if style.elide then Late else AtOnce) else
 abbrev pub file_in : Style → Section → List (List ℕ)
 file_in style section = made_of (opening_of style section.is_kept) (bytes_of section.lines)
 
--- it is closed once all of the section's lines came in
+-- the state of a section's file: it is closed once all of the section's lines came in
 abbrev pub state_in : Section → State
 state_in section = if section.is_closed then Closed else Open
 

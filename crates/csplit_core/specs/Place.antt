@@ -13,14 +13,14 @@ use Rattle.csplit_core.specs.{
   Section.{Section, whole_end, whole_sections, is_final},
 }
 
--- A line goes into a section, one that is skipped too; or it is left out at a cut; or it goes nowhere, where a run ends
--- before it. Sections and cuts are counted from 0.
+-- Where a line goes: into a section, perhaps a skipped one; or it is left out at a cut; or it goes nowhere, since the
+-- run ends with a cut below the current line. Sections and cuts are counted from 0.
 pub data Place : Type 0 where
   in_section : ℕ → Place
   left_out : ℕ → Place
   nowhere : Place
 
--- the place of a line by the steps from one on, whose number is `index`, where there are `total` lines
+-- the place of a line, by the steps that are left; the next section has the number `index`, and there are `total` lines
 abbrev pub place_from : Bool → (total index : ℕ) → List Step → Ending → (line : ℕ) → Place
 place_from suppress total index [] ending line = if nat_lt line (whole_end total ending) then in_section index
     else nowhere
@@ -29,13 +29,13 @@ place_from suppress total index (step ∷ steps) ending line =
     else if suppress && nat_le line step.cut then left_out index
     else place_from suppress total (index + 1) steps ending line
 
--- the place of the line of a number, where the input ends after these lines
+-- the place of the line of this number, if the input ends after these lines
 abbrev pub place_of : Style → List Operand → List Line → ℕ → Place
 place_of style operands lines line =
     place_from style.suppress (length lines) 0 (plan style operands lines).steps (plan style operands lines).ending line
 
 -- The lines that wait are the last of x, and exactly those on which continuations differ. `places x line` says where
--- the line of a number goes where the input is x.
+-- the line of this number goes if the input is x.
 abbrev pub IsUndecided : (List Line → ℕ → Place) → List Line → List Line → Type 0
 IsUndecided places = DifferOn CanCome (λ x i at. places x (i + 1) ≡ at)
 
@@ -44,21 +44,21 @@ is_in section (in_section other) = eqb section other
 is_in section (left_out cut) = false
 is_in section nowhere = false
 
--- those of the lines that go into a section, where the first of them has this number
+-- those of the lines that go into a section; the first line of the list has the number `number`
 abbrev pub lines_into : ℕ → (ℕ → Place) → (number : ℕ) → List Line → List Line
 lines_into section places number [] = []
 lines_into section places number (line ∷ lines) = if is_in section (places number)
     then line ∷ lines_into section places (number + 1) lines else lines_into section places (number + 1) lines
 
--- Places are right, where the input ends after these lines.
+-- The places are right if the input ends after these lines.
 pub record ArePlaced (places : ℕ → Place) (suppress : Bool) (plan : Plan) (lines : List Line) : Type 0 where
-  -- each section has just the lines that go into it, in their order; none goes into a section that isn't there
+  -- each section has exactly the lines that go into it, in their order; no line goes into a section that isn't there
   pub sections : (section : ℕ)
       → get_or (map (λ (one : Section). one.lines) (whole_sections lines plan)) section []
       ≡ lines_into section places 1 lines
-  -- a line that is left out is that of a cut, where those are left out
+  -- a line that is left out is the line of that cut, and lines at cuts are left out
   pub cuts : (line cut : ℕ) → 1 ≤ line → places line ≡ left_out cut → (suppress ≡ true)
       × (get_or (map (λ (step : Step). step.cut) plan.steps) cut 0 ≡ line)
-  -- a line that goes nowhere stands from the current line on, after a cut below that
+  -- a line that goes nowhere is the current line or a later one, and the last cut is below the current line
   pub rest : (line : ℕ) → 1 ≤ line → line ≤ length lines → places line ≡ nowhere → (is_final plan.ending ≡ true)
       × (plan.last.current ≤ line)

@@ -1,5 +1,5 @@
--- Where `csplit` cuts (POSIX.1-2017, XCU csplit). Lines are numbered from 1. There is a current line, at first line 1.
--- A step is one performance of an operand: it finds the line of a cut, and the lines from the current one to before the
+-- Where `csplit` cuts (POSIX.1-2017, XCU csplit). Lines are numbered from 1, and line 1 is the current line at first. A
+-- step is one performance of an operand: it finds the line of a cut, and the lines from the current line to before the
 -- cut are its section. With `suppress` the line at the cut belongs to no section.
 use Rattle.std.specs.{
   Prelude.{◌≡◌, ℕ, ◌+◌, ◌-◌, ◌*◌, ◌<◌, ◌≤◌, suc, max, eqb, ◌&&◌, Bool, true, false, List, [], ◌∷◌, length},
@@ -12,11 +12,11 @@ use Rattle.csplit_core.specs.Operand.{Target, Number, Search, Operand, Line, is_
 pub record State : Type 0 where
   -- the operands that are left
   pub operands : List Operand
-  -- how often the first of them was performed
+  -- how often the first operand that is left was performed
   pub repetition : ℕ
   -- the current line
   pub current : ℕ
-  -- the line that the last pattern matched, 0 where no pattern was performed yet
+  -- the line that the last pattern matched, 0 if no pattern was performed yet
   pub matched : ℕ
 
 abbrev pub start : List Operand → State
@@ -25,9 +25,9 @@ start operands = record { operands = operands; repetition = 0; current = 1; matc
 pub record Step : Type 0 where
   pub operand : Operand
   pub repetition : ℕ
-  -- the first line of its section
+  -- the first line of the step's section
   pub current : ℕ
-  -- the line that the last pattern matched, this step's own if it is one
+  -- the line that the last pattern matched; if the operand is a pattern, this step matched it
   pub matched : ℕ
   -- the line of the cut
   pub cut : ℕ
@@ -38,42 +38,42 @@ pub data Ending : Type 0 where
   used_up : Ending
   -- the pattern of this operand, at this repetition, matches no line from its search line on
   missed : Operand → ℕ → Ending
-  -- the cut is further than an operand may cut
+  -- the cut is further than the operand may cut
   above : Operand → ℕ → (matched cut : ℕ) → Ending
   -- the cut is below the current line
   below : Operand → ℕ → Ending
 
--- The line at which a search begins. It is line 1 where the current line is 1 and no pattern was performed. Else it is
+-- The line at which a search begins. It is line 1 if line 1 is current and no pattern was performed. Otherwise it is
 -- one past the current line, or one past the line that was matched last, whichever is greater. With `suppress` the line
--- at the last cut, which is the one before the current line, stands in the current line's place. So once `/x/` matched
--- line 5 and cut there, the next pattern is looked for from line 6 on; where `/x/-2` matched line 5 and cut at line 3,
--- also from line 6 on; where `/x/+2` cut at line 7, from line 8 on; and after the operand `10` from line 11 on.
+-- at the last cut, which is the line before the current line, stands in the current line's place. For example: `/x/`
+-- matched line 5 and cut there, so the next pattern is looked for from line 6 on. If `/x/-2` matched line 5 and cut at
+-- line 3, from line 6 on, too; if `/x/+2` cut at line 7, from line 8 on; and after the operand `10` from line 11 on.
 abbrev pub search_line : Bool → State → ℕ
 search_line true state = suc (max (state.current - 1) state.matched)
 search_line false state = if eqb state.current 1 && eqb state.matched 0 then 1
     else suc (max state.current state.matched)
 
--- the first match, from a line on
+-- the line is the first match, from some line on
 pub record IsFirst (operand : Operand) (lines : List Line) (from line : ℕ) : Type 0 where
   pub not_before : from ≤ line
   pub within : line ≤ length lines
   pub match : is_match operand lines line ≡ true
   pub first : (other : ℕ) → from ≤ other → other < line → is_match operand lines other ≡ false
 
--- no line matches, from one on
+-- no line matches, from this line on
 abbrev pub MatchesNone : Operand → List Line → ℕ → Type 0
 MatchesNone operand lines from = (line : ℕ) → from ≤ line → line ≤ length lines → is_match operand lines line ≡ false
 
--- The operand cuts at a line, and then this line is the last that was matched. A line number cuts at its multiples, one
--- after another; a pattern at an offset from the first match.
+-- The operand cuts at the line `cut`, and `matched` is then the line that was matched last. A line number cuts at its
+-- multiples, one after another. A pattern cuts at an offset from its first match.
 abbrev pub CutsAt : Style → List Line → State → Operand → Target → (matched cut : ℕ) → Type 0
 CutsAt style lines state operand (Number n) matched cut = (matched ≡ state.matched)
     × (cut ≡ n * (state.repetition + 1))
 CutsAt style lines state operand (Search pattern kept offset) matched cut =
     IsFirst operand lines (search_line style.suppress state) matched × (cut ≡ moved offset matched)
 
--- How many lines past the last one a cut may stand: one, with `one_past` and of a pattern. Then the section after the
--- cut is empty, as long as no more lines come.
+-- How many lines past the last one a cut may stand: one, if it is the cut of a pattern and `one_past` is set. Then the
+-- section after the cut is empty, as long as no more lines come.
 abbrev pub past_last : Style → Target → ℕ
 past_last style (Number n) = 0
 past_last style (Search pattern kept offset) = if style.one_past then 1 else 0
@@ -89,8 +89,8 @@ abbrev pub line_after : Bool → ℕ → ℕ
 line_after true cut = suc cut
 line_after false cut = cut
 
--- the operands that are left after a step of the first one, which is performed again or not, and how often the first of
--- them was performed
+-- the operands that are left after a step of the first operand, which is performed again or not; `repetition_after`
+-- says how often the first of these was performed
 abbrev pub operands_after : Bool → Operand → List Operand → List Operand
 operands_after true operand operands = operand ∷ operands
 operands_after false operand operands = operands
@@ -117,8 +117,8 @@ step_of state operand matched cut = record {
   cut = cut;
 }
 
--- The plan from a state on: each operand cuts in its turn, and as often as it is to be performed, until one can't. Then
--- it says where the run stands, and why it ends there.
+-- The plan from a state on: each operand cuts in its turn, as often as it is to be performed, until one can't cut. The
+-- last two parameters say where the run stands then, and why it ends there.
 pub data Runs (style : Style) (lines : List Line) : State → List Step → State → Ending → Type 0 where
   is_used_up : (state : State) → state.operands ≡ [] → Runs style lines state [] state used_up
   misses : (state : State) (operand : Operand) (operands : List Operand) → state.operands ≡ operand ∷ operands

@@ -8,11 +8,11 @@ use Rattle.csplit_core.specs.{
 
 pub record Plan : Type 0 where
   pub steps : List Step
-  -- where the run stands after them, and why it ends there
+  -- where the run stands after these steps, and why it ends there
   pub last : State
   pub ending : Ending
 
--- the first match among lines of which the first one has this number
+-- the first match among these lines; the first of them has this number
 abbrev pub first_among : Operand → ℕ → List Line → Option ℕ
 first_among operand number [] = None
 first_among operand number (line ∷ lines) = if line.marks operand then Some number
@@ -22,12 +22,12 @@ first_among operand number (line ∷ lines) = if line.marks operand then Some nu
 abbrev pub first_match : Operand → List Line → ℕ → Option ℕ
 first_match operand lines from = first_among operand from (drop (from - 1) lines)
 
--- what the next operand does: the run ends, or it makes a step and stands elsewhere
+-- what the next operand does: the run ends, or the operand makes a step and the run stands elsewhere
 pub data PlannedAttempt : Type 0 where
   ends : Ending → PlannedAttempt
   goes : Step → State → PlannedAttempt
 
--- the attempt of an operand whose cut is known, where there are `total` lines
+-- the attempt of an operand whose cut is known, if there are `total` lines
 abbrev pub attempt_at : Style → (total : ℕ) → State → Operand → List Operand → (matched cut : ℕ) → PlannedAttempt
 attempt_at style total state operand operands matched cut =
     if nat_lt cut state.current then ends (below operand state.repetition)
@@ -60,7 +60,7 @@ ended state ending = record { steps = []; last = state; ending = ending }
 abbrev pub with_step : Step → Plan → Plan
 with_step step plan = record { steps = step ∷ plan.steps; last = plan.last; ending = plan.ending }
 
--- the plan from a state on, of at most this many steps
+-- the plan from a state on, with at most this many steps
 abbrev pub plan_within : ℕ → Style → List Line → State → Plan
 plan_within zero style lines state = ended state used_up
 plan_within (suc bound) style lines state = elim (attempt style lines state) [
@@ -69,6 +69,6 @@ plan_within (suc bound) style lines state = elim (attempt style lines state) [
 ]
 
 -- The plan of these operands over these lines. An operand is performed at most once for each line and once more, so the
--- bound is never met.
+-- bound is enough.
 abbrev pub plan : Style → List Operand → List Line → Plan
 plan style operands lines = plan_within (length operands * (length lines + 1)) style lines (start operands)

@@ -30,7 +30,7 @@ pub record WillMove (style : Style) (operands : List Operand) (total : ℕ) (pro
   pub from : progress.current ≤ line
   pub above : total + past_last style operand.target < line
 
--- how the plan ends where an attempt cuts nothing
+-- how the plan ends if an attempt cuts nothing
 abbrev pub AimsAt : Attempt → Ending → Type 0
 AimsAt UsedUp used_up = Unit {0}
 AimsAt Missed (missed operand repetition) = Unit {0}
@@ -38,7 +38,7 @@ AimsAt (Above last line) (above operand repetition matched cut) = (last ≡ matc
 AimsAt Below (below operand repetition) = Unit {0}
 AimsAt attempt ending = ⊥
 
--- The plan ends here, as the attempt says.
+-- The plan ends at this state, as the attempt says.
 pub record EndsHere (style : Style) (lines : List Line) (state : State) (attempt : Attempt) : Type 0 where
   pub ending : Ending
   pub runs : Runs style lines state [] state ending

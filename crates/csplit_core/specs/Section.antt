@@ -10,61 +10,63 @@ use Rattle.csplit_core.specs.{
 }
 
 pub record Section : Type 0 where
-  -- it is kept, and not skipped
+  -- whether the section is kept, and not skipped
   pub is_kept : Bool
-  -- all of its lines came in
+  -- whether all of the section's lines came in
   pub is_closed : Bool
   pub lines : List Line
 
 abbrev pub section : Bool → Bool → List Line → Section
 section kept closed lines = record { is_kept = kept; is_closed = closed; lines = lines }
 
--- the lines from one to before another
+-- the lines from number `first` on that stand before number `end`
 abbrev pub lines_between : (first end : ℕ) → List Line → List Line
 lines_between first end lines = take (end - first) (drop (first - 1) lines)
 
 abbrev pub section_of : List Line → Step → Section
 section_of lines step = section (is_kept step.operand.target) true (lines_between step.current step.cut lines)
 
--- the last section is kept: the rest after all operands, and else as the operand at which the plan ends
+-- whether the last section is kept: the rest after all operands is, and otherwise the operand decides at which the plan
+-- ends
 abbrev pub is_last_kept : Ending → Bool
 is_last_kept used_up = true
 is_last_kept (missed operand repetition) = is_kept operand.target
 is_last_kept (above operand repetition matched cut) = is_kept operand.target
 is_last_kept (below operand repetition) = is_kept operand.target
 
--- The line before which the last section ends, where the input ends after `total` lines: it has all lines that are
--- left, and none where the cut is below the current line. Lines are numbered from 1, so before line 0 there are none.
+-- The line before which the last section ends, if the input ends after `total` lines. The section has all lines that
+-- are left, or none if the cut is below the current line. Lines are numbered from 1, so no line stands before line 0.
 abbrev pub whole_end : (total : ℕ) → Ending → ℕ
 whole_end total used_up = suc total
 whole_end total (missed operand repetition) = suc total
 whole_end total (above operand repetition matched cut) = suc total
 whole_end total (below operand repetition) = 0
 
--- The line before which its settled lines end, whatever follows the `total` lines that came in. Where no line matched
--- yet, the last ones are not settled, as many as the offset goes back. Where the cut is known to be above the last
--- line, all of them are. Where it is below the current line the section has none, which is said by 0 as in `whole_end`.
+-- The line before which the settled lines of the last section end, whatever follows the `total` lines that came in. If
+-- no line matched yet, as many of the last lines aren't settled as the offset goes back. If the cut is known to be
+-- above the last line, all lines are settled. If the cut is below the current line, the section has no line: that is
+-- said by 0, as in `whole_end`.
 abbrev pub settled_end : (total : ℕ) → Ending → ℕ
 settled_end total used_up = suc total
 settled_end total (missed operand repetition) = suc total - most_held operand.target
 settled_end total (above operand repetition matched cut) = suc total
 settled_end total (below operand repetition) = 0
 
--- the sections of the steps, and the last section, which ends where this says
+-- the sections of the steps, and the last section, which ends before the line that `end_of` gives
 abbrev pub sections_by : Bool → (ℕ → Ending → ℕ) → List Line → Plan → List Section
 sections_by closed end_of lines plan = map (section_of lines) plan.steps
     ++ section (is_last_kept plan.ending) closed
     (lines_between plan.last.current (end_of (length lines) plan.ending) lines) ∷ []
 
--- where the input ends after these lines
+-- the sections if the input ends after these lines
 abbrev pub whole_sections : List Line → Plan → List Section
 whole_sections lines plan = sections_by true whole_end lines plan
 
--- where more may follow
+-- the sections as far as they are settled, if more lines may follow
 abbrev pub settled_sections : List Line → Plan → List Section
 settled_sections lines plan = sections_by false settled_end lines plan
 
--- the cut is below the current line, so lines that follow belong to no section
+-- whether the cut is below the current line, so that lines that follow belong to no section
 abbrev pub is_final : Ending → Bool
 is_final used_up = false
 is_final (missed operand repetition) = false

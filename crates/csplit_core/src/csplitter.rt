@@ -30,9 +30,10 @@ use seg_core::line_back::last_delimiter_end;
 use std::alloc::Global;
 use std::marker::Model;
 
-/// Cuts its input into sections, each in a file of its own, where its lines match (POSIX.1-2017, XCU csplit). One file is
-/// open at a time. It takes memory for the lines that wait, as many as the offset of the next pattern goes back, and
-/// again for those while they are cut off; for the line that lacks its newline; for a pattern's matcher; and for names.
+/// Cuts its input into sections, each in a file of its own, where its lines match (POSIX.1-2017, XCU csplit). One file
+/// is open at a time. It takes memory for the lines that wait, as many as the offset of the next pattern goes back, and
+/// again for these lines while they are cut off; for the line that lacks its newline; for a pattern's matcher; and for
+/// names.
 #[derive(Drop)]
 pub struct Csplitter<'o> {
     cutter: LineCutter<'o>,
@@ -59,8 +60,8 @@ impl<'o> Csplitter<'o> {
     ///
     /// # Errors
     ///
-    /// `Memory` where there is no room for what the first operand needs, or for a name; `Open` where the first section's
-    /// file can't be opened. No file was made then.
+    /// `Memory` if there is no room for what the first operand needs, or for a name; `Open` if the first section's file
+    /// can't be opened. No file was made then.
     pub fn open<O: Outs>(
         alloc: Global,
         operands: &'o Operands,
@@ -92,7 +93,7 @@ impl<'o> Csplitter<'o> {
         }))
     }
 
-    /// Takes in complete lines, of which there is one at least. The open line is the beginning of the first.
+    /// Takes in complete lines, at least one. The open line is the beginning of the first line.
     fn take_lines<O: Outs>(&mut self, lines: &[u8], outs: &mut O) -> Result<(), Fault>
         requires fits { load self.old.cutter + length self.old.rest + length lines.now < 2 ^ 63 }
         requires whole { ends_with newline lines.now ≡ true }
@@ -129,7 +130,7 @@ impl<'o> Csplitter<'o> {
         Ok(self.rest.extend_from_slice(bytes)?)
     }
 
-    /// Takes in the open line as it is, if there is one: it is the last.
+    /// Takes in the open line as it is, if there is one: it is the last line.
     fn take_last<O: Outs>(&mut self, outs: &mut O) -> Result<(), Fault>
         requires fits { load self.old.cutter + length self.old.rest < 2 ^ 63 }
         requires sound { IsSound self.old.cutter }
@@ -149,7 +150,7 @@ impl<'o> Csplitter<'o> {
 impl<'o> Stage for Csplitter<'o> {
     ghost terms = { terms };
 
-    /// Takes in a piece: its lines, of which the first may complete the open line, and what follows them.
+    /// Takes in a piece: its lines, the first of which may complete the open line, and what follows these lines.
     fn pass<O: Outs>(&mut self, piece: &[u8], outs: &mut O) -> Result<(), Fault>
         requires fits { self.old.taken + length piece.now < 2 ^ 63 }
         requires ready { IsReady self.old (O.slots outs.old) }
@@ -169,8 +170,8 @@ impl<'o> Stage for Csplitter<'o> {
         }
     }
 
-    /// Takes in the open line, if there is one, and ends the last section. Where the work ends with a verdict, the
-    /// files are removed then.
+    /// Takes in the open line, if there is one, and ends the last section. If the work ends with a verdict, the files
+    /// are removed then.
     fn finish<O: Outs>(&mut self, outs: &mut O) -> Result<(), Fault>
         requires { IsReady self.old (O.slots outs.old) }
         ensures bound { self.new.taken ≤ self.old.taken }
@@ -198,7 +199,8 @@ impl<'o> Stage for Csplitter<'o> {
         false
     }
 
-    /// Those of the lines that came in and that no file has yet, and of the line that lacks its newline.
+    /// How many bytes wait: those of the lines that came in and are in no file yet, and those of the line that lacks
+    /// its newline.
     fn waits(&self) -> u64
         ensures { result ≡ min (length self.now.cutter.window.held + length self.now.rest) (2 ^ 64 - 1) }
     {

@@ -7,11 +7,11 @@ use crate::Style;
 use ports_core::{Fault, FileWriter, Keeps, Naming, Numbering, Opening, Tells};
 use std::alloc::Global;
 
-/// A writer of files that has made none.
+/// A writer of files that has made no file.
 ///
 /// # Errors
 ///
-/// `Memory` where there is no room for what names begin and end with.
+/// `Memory` if there is no room for what names begin and end with.
 pub(crate) fn writer_of(alloc: Global, style: &Style) -> Result<FileWriter, Fault>
     ensures ok { IfOk result (λ writer. seen_writer writer ≡ new_for style.now) }
     ensures err { IfErr result (λ fault. fault ≡ Fault.Memory) }
@@ -22,7 +22,7 @@ pub(crate) fn writer_of(alloc: Global, style: &Style) -> Result<FileWriter, Faul
     Ok(FileWriter::new(alloc, naming, tells, Keeps::All))
 }
 
-/// When a section gets its file: one that is skipped gets none, and an empty one may be left out.
+/// When a section gets its file. A section that is skipped gets none, and an empty section may get none.
 pub(crate) fn opening_of(style: &Style, is_kept: bool) -> Opening
     ensures { result ≡ opens style.now is_kept }
 {
@@ -35,7 +35,7 @@ pub(crate) fn opening_of(style: &Style, is_kept: bool) -> Opening
     Opening::AtOnce
 }
 
-/// What standard output is told of files.
+/// What standard output gets about files.
 fn tells_of(style: &Style) -> Tells
     ensures { result ≡ tells_by style.now }
 {

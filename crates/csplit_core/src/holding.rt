@@ -7,12 +7,12 @@ use ports_core::{Fault, FileWriter, Outs};
 use seg_core::line_window::LineWindow;
 use std::alloc::Global;
 
-/// Takes in a text after the lines that wait: the last lines of both wait, and what stands before them goes to the open
-/// section, first from what waited and then straight from the text.
+/// Takes in a text after the lines that wait. The last lines of both wait then. What stands before them goes to the
+/// open section, first from what waited and then straight from the text.
 ///
 /// # Errors
 ///
-/// Those of `FileWriter::put`, and `Memory` where there is no room for what waits.
+/// The errors of `FileWriter::put`, and `Memory` if there is no room for what waits.
 pub(crate) fn hold_last<O: Outs>(
     window: &mut LineWindow,
     text: &[u8],
@@ -64,7 +64,7 @@ pub(crate) fn write_front<O: Outs>(
     Ok(())
 }
 
-/// Puts lines after those that wait.
+/// Puts lines after the lines that wait.
 fn keep(window: &mut LineWindow, text: &[u8]) -> Result<(), Fault>
     requires { but_last_lines window.old.delim window.old.most (window.old.held ++ text.now) ≡ [] }
     ensures ok { OnOk result (window.new ≡ record window.old { held = window.old.held ++ text.now }) }
@@ -76,11 +76,11 @@ fn keep(window: &mut LineWindow, text: &[u8]) -> Result<(), Fault>
     }
 }
 
-/// The lines that wait, and a text after them. None wait any more.
+/// The lines that wait, and a text after them. No line waits any more.
 ///
 /// # Errors
 ///
-/// `Memory` where there is no room for them.
+/// `Memory` if there is no room for the lines and the text.
 pub(crate) fn drain(alloc: Global, window: &mut LineWindow, text: &[u8]) -> Result<Vec<u8>, Fault>
     ensures ok { IfOk result (λ all. all.items ≡ window.old.held ++ text.now) }
     ensures window { OnOk result (window.new ≡ record window.old { held = [] }) }

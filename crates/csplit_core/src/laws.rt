@@ -13,7 +13,7 @@ ghost use Rattle.csplit_core.specs.{
 ghost use Rattle.operand_core.specs.declared.operand.Operand.{Operand};
 ghost use Rattle.ports_core.specs.Part.{Begins, lines_for};
 
-/// For any operands and lines there is one plan: the one that is computed is a plan, and no other is (POSIX.1-2017, XCU
+/// For any operands and lines there is one plan: the plan that is computed is right, and no other is (POSIX.1-2017, XCU
 /// csplit).
 pub fn one_plan()
     ensures is { (style : Style) (operands : List Operand) (lines : List Line)
@@ -24,7 +24,7 @@ pub fn one_plan()
         → plan style operands lines ≡ record { steps = steps; last = last; ending = ending } }
 {}
 
-/// What is settled only grows as more comes in, and what is written in the end begins with it.
+/// What is settled only grows as more comes in, and what is written at the end begins with it.
 pub fn settled_grows()
     ensures grows { (style : Style) (operands : List Operand) (x y : List ℕ)
         → Begins (settled_by style operands x) (settled_by style operands (x ++ y)) }
@@ -32,8 +32,8 @@ pub fn settled_grows()
         → Begins (settled_by style operands x) (whole_by style operands x) }
 {}
 
-/// Where sizes are wanted, standard output has those of just the files that are closed, in their order: of what is settled
-/// and of what is written in the end.
+/// If sizes are wanted, standard output has the sizes of exactly the files that are closed, in their order. This is
+/// true of what is settled and of what is written at the end.
 pub fn sizes_are_of_closed_files()
     ensures settled { (style : Style) (operands : List Operand) (x : List ℕ) → style.quiet ≡ false
         → (settled_by style operands x).out ≡ lines_for size_of_file (settled_by style operands x).files }
@@ -41,9 +41,9 @@ pub fn sizes_are_of_closed_files()
         → (whole_by style operands x).out ≡ lines_for size_of_file (whole_by style operands x).files }
 {}
 
-/// Where the line at a cut isn't left out, no line is lost: the sections, skipped ones too, and what waits are together
-/// the lines that came in, in their order; and at the end the sections alone. The exception is a cut below the current
-/// line, after which lines belong to no section.
+/// If the line at a cut isn't left out, no line is lost. The sections, skipped sections too, and what waits are
+/// together the lines that came in, in their order; at the end the sections alone are. The exception is a cut below the
+/// current line: lines after it belong to no section.
 pub fn no_line_is_lost()
     ensures settled { (style : Style) (operands : List Operand) (x : List Line) → style.suppress ≡ false
         → is_final (plan style operands x).ending ≡ false
@@ -58,10 +58,10 @@ pub fn few_lines_wait()
         → length (waiting_lines x (plan style operands x)) ≤ most_waiting (plan style operands x).ending }
 {}
 
-/// What is settled is what all continuations agree on, and the lines that wait are those that two continuations put into
-/// different places, or one of them nowhere. This is said over complete lines, each with a mark for each operand; the line
-/// at a cut may be left out or not. Places are right: each section, a skipped one too, has in their order the lines that
-/// go into it, and no others.
+/// What is settled is what all continuations agree on. The lines that wait are those that two continuations put into
+/// different places, or that one of them puts nowhere. This is said of complete lines, each with a mark for each
+/// operand; the line at a cut may be left out or not. Places are right: each section, a skipped section too, has the
+/// lines that go into it, in their order, and no others.
 pub fn agreed_is_settled()
     ensures outputs { (style : Style) (operands : List Operand) (x : List Line)
         → IsAgreed (whole_outputs style operands) x (settled_outputs style operands x) }

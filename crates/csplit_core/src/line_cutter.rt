@@ -1,4 +1,4 @@
-//! Cutting lines into sections as they come in: what is settled of them goes to the sections, and the others wait.
+//! Cutting lines into sections as they come in: the lines that are settled go to the sections, and the others wait.
 ghost use Rattle.std.specs.{
   Prelude.{◌≡◌, ◌≢◌, ◌+◌, ◌-◌, ◌<◌, ◌≤◌, ◌^◌, ◌++◌, List, ℕ, [], length, drop, take, Some, None, IfOk, IfErr, IfSome},
   Prelude.{IfNone, OnOk, IsTrue, true, false},
@@ -34,18 +34,18 @@ use std::alloc::Global;
 /// Where an operand cuts: the line that the last pattern matched, and the line of the cut.
 #[derive(Clone, Copy)]
 pub struct CutPoint {
-    /// The line that the last pattern matched, 0 where none was performed.
+    /// The line that the last pattern matched, 0 if no pattern was performed.
     pub matched: u64,
     /// The line of the cut.
     pub line: u64,
 }
 
-/// How far lines were passed over.
+/// How many bytes of lines were passed over.
 #[derive(Clone, Copy)]
 pub struct Passed {
-    /// How many bytes they are.
+    /// How many bytes these lines are.
     pub size: usize,
-    /// How many bytes the next line is, with its newline, where the pattern that is searched for was found in it.
+    /// How many bytes the next line is, with its newline, if the pattern that is searched for was found in it.
     pub found: Option<usize>,
 }
 
@@ -72,8 +72,8 @@ impl<'o> LineCutter<'o> {
     ///
     /// # Errors
     ///
-    /// `Memory` where there is no room for what the first operand needs, or for a name; `Open` where the first section's
-    /// file can't be opened.
+    /// `Memory` if there is no room for what the first operand needs, or for a name; `Open` if the first section's file
+    /// can't be opened.
     pub(crate) fn open<O: Outs>(
         alloc: Global,
         operands: &'o [Operand],
@@ -118,11 +118,11 @@ impl<'o> LineCutter<'o> {
         self.window.len()
     }
 
-    /// Ends the last section: it has all lines that wait.
+    /// Ends the last section, which has all lines that wait.
     ///
     /// # Errors
     ///
-    /// Those of `take`.
+    /// The errors of `take`.
     pub(crate) fn end<O: Outs>(&mut self, outs: &mut O) -> Result<(), Fault>
         requires fits { load (seen self.old) < 2 ^ 63 }
         requires sound { IsSound (seen self.old) }
@@ -135,7 +135,7 @@ impl<'o> LineCutter<'o> {
         self.writer.end(outs)
     }
 
-    /// The verdict with which the work ends where the input ends here, if it ends with one.
+    /// The verdict with which the work ends if the input ends here. None if it ends well.
     pub(crate) fn verdict(&self) -> Option<Verdict>
         ensures { Judges (seen self.now) result }
     {
@@ -149,8 +149,8 @@ impl<'o> LineCutter<'o> {
         }
     }
 
-    /// Removes all files that are still there, in order. One that can't be removed is broken and closed, and the next
-    /// is tried.
+    /// Removes all files that are still there, in order. A file that can't be removed is broken and closed, and the
+    /// next is tried.
     pub(crate) fn clear<O: Outs>(&mut self, outs: &mut O)
         requires { AreThere (seen self.old).writer.files (O.slots outs.old) }
         ensures { Clears (seen self.old) (O.slots outs.old) (O.slots outs.new) (seen self.new) }
@@ -162,8 +162,8 @@ impl<'o> LineCutter<'o> {
     ///
     /// # Errors
     ///
-    /// `Write` where an output broke; `Open` where a section's file can't be opened; `Memory` where there is no room for
-    /// lines that wait, for a name, or for what the next pattern needs.
+    /// `Write` if an output broke; `Open` if a section's file can't be opened; `Memory` if there is no room for lines
+    /// that wait, for a name, or for what the next pattern needs.
     pub(crate) fn take<O: Outs>(&mut self, text: &[u8], outs: &mut O) -> Result<(), Fault>
         requires whole { IsWhole text.now }
         requires fits { load (seen self.old) + length text.now < 2 ^ 63 }
@@ -191,10 +191,10 @@ impl<'o> LineCutter<'o> {
         matches!(self.aim, Attempt::Below)
     }
 
-    /// Takes in a beginning of a text: its first line, which has `size` bytes and may lack its newline if it is the only one, and
-    /// the lines after it that the next operand doesn't cut. `is_found` says that the pattern that is searched for was found in the
-    /// first line. Returns how far that is, and how long the next line is where it was found in that. Where lines go nowhere any
-    /// more, that is all of it.
+    /// Takes in a beginning of a text: its first line, and the lines after it that the next operand doesn't cut. The
+    /// first line has `size` bytes; it may lack its newline if it is the only line. `is_found` says that the pattern
+    /// that is searched for was found in the first line. Returns how many bytes were taken in, and how long the next
+    /// line is if the pattern was found in that line. If lines go nowhere any more, all of the text is taken in.
     fn stretch<O: Outs>(
         &mut self,
         text: &[u8],
@@ -226,9 +226,9 @@ impl<'o> LineCutter<'o> {
         Ok(unfound(size))
     }
 
-    /// Cuts the first line of a text, which has `size` bytes, where no line waits, and holds what is left of it together
-    /// with the lines after it that the next operand doesn't cut. Returns how far that is, and how long the next line is
-    /// where the pattern that is searched for was found in it.
+    /// Cuts the first line of a text, which has `size` bytes. No line waits. Holds what is left of the first line
+    /// together with the lines after it that the next operand doesn't cut. Returns how many bytes were taken in, and
+    /// how long the next line is if the pattern that is searched for was found in that line.
     fn cut_on<O: Outs>(
         &mut self,
         cut: CutPoint,
@@ -251,9 +251,10 @@ impl<'o> LineCutter<'o> {
         self.go_on(text, size - left.len(), size, outs)
     }
 
-    /// Passes over the lines of a text after its first `size` bytes, as far as the next operand stands as it does now,
-    /// and holds what stands from `from` on of those bytes together with these lines: one write serves both. Returns
-    /// how far that is, and how long the next line is where the pattern that is searched for was found in it.
+    /// Passes over the lines of a text after its first `size` bytes, as far as the next operand stands as it does now.
+    /// Holds these lines together with the first `size` bytes from `from` on, so that one write serves both. Returns
+    /// how many bytes were taken in, and how long the next line is if the pattern that is searched for was found in
+    /// that line.
     fn go_on<O: Outs>(
         &mut self,
         text: &[u8],
@@ -281,7 +282,7 @@ impl<'o> LineCutter<'o> {
         })
     }
 
-    /// How many of the next line's bytes are left out, of which it has `size`: all or none.
+    /// How many bytes of the next line, which has `size` bytes, are left out: all or none.
     fn left_out(&self, size: usize) -> usize
         requires { self.now.lines < 2 ^ 64 - 1 }
         ensures all { WillSkip (seen self.now) → result ≡ size }
@@ -313,7 +314,8 @@ impl<'o> LineCutter<'o> {
         Ok(())
     }
 
-    /// Counts the lines at the beginning of a text of complete lines after which the next operand stands as it does now.
+    /// Counts the lines at the beginning of a text of complete lines after which the next operand stands as it does
+    /// now.
     fn pass_over(&mut self, text: &[u8]) -> Passed
         requires whole { IsWhole text.now }
         requires fits { self.old.lines + length text.now < 2 ^ 63 }
@@ -334,7 +336,7 @@ impl<'o> LineCutter<'o> {
         }
     }
 
-    /// Counts the lines of a text before the one with which the next operand cuts at the line of this number.
+    /// Counts the lines of a text before the line that the next operand needs to cut at the line of this number.
     fn pass_below(&mut self, line: u64, text: &[u8]) -> usize
         requires whole { IsWhole text.now }
         requires fits { self.old.lines + length text.now < 2 ^ 63 }
@@ -362,7 +364,7 @@ impl<'o> LineCutter<'o> {
         past_next(&self.style, next_operand(self.operands, self.progress.done))
     }
 
-    /// Counts the lines of a text before the first one with the pattern that is searched for.
+    /// Counts the lines of a text before the first line that has the pattern that is searched for.
     fn pass_unmatched(&mut self, text: &[u8]) -> Passed
         requires whole { IsWhole text.now }
         requires fits { self.old.lines + length text.now < 2 ^ 63 }
@@ -388,8 +390,8 @@ impl<'o> LineCutter<'o> {
         unfound(text.len() - left.len())
     }
 
-    /// Counts the lines at the beginning of a text of complete lines that are seen to have no match without matching them.
-    /// Returns how many bytes they are.
+    /// Counts lines at the beginning of a text of complete lines that are known to have no match without matching them.
+    /// Returns how many bytes these lines are.
     fn pass_clear(&mut self, text: &[u8]) -> usize
         requires whole { IsWhole text.now }
         requires fits { self.old.lines + length text.now < 2 ^ 64 }
@@ -400,7 +402,7 @@ impl<'o> LineCutter<'o> {
         size
     }
 
-    /// How many bytes the lines at the beginning of a text of complete lines are that are seen to have no match without
+    /// How many bytes at the beginning of a text of complete lines are lines that are known to have no match without
     /// matching them.
     fn clear_lines(&mut self, text: &[u8]) -> usize
         requires whole { IsWhole text.now }
@@ -416,8 +418,8 @@ impl<'o> LineCutter<'o> {
         }
     }
 
-    /// Counts one more line, and tries the next operand with it. `is_found` says that the pattern that is searched for was
-    /// found in it. Returns its cut, if it makes one.
+    /// Counts one more line, and tries the next operand with it. `is_found` says that the pattern that is searched for
+    /// was found in this line. Returns the operand's cut, if it makes one.
     fn try_line(&mut self, line: &[u8], is_found: bool) -> Option<CutPoint>
         requires line { IsLine line.now }
         requires found { is_found ≡ true
@@ -445,8 +447,8 @@ impl<'o> LineCutter<'o> {
         }
     }
 
-    /// Tries the next operand, where this is the last line that came in, and none before it is to be looked at. `is_found`
-    /// says that its pattern was found there. Returns its cut, if it makes one.
+    /// Tries the next operand with the last line that came in; no line before it is to be looked at. `is_found` says
+    /// that the operand's pattern was found in this line. Returns the operand's cut, if it makes one.
     fn try_last(&mut self, line: &[u8], is_found: bool) -> Option<CutPoint>
         requires line { IsLine line.now }
         requires found { is_found ≡ true → IsFound (seen self.old) (without_newline line.now) self.old.lines true }
@@ -464,8 +466,8 @@ impl<'o> LineCutter<'o> {
         self.attempt_last(found)
     }
 
-    /// Tries the next operand with the last line that came in, where `found` says whether it has the operand's pattern.
-    /// Returns its cut, if it makes one.
+    /// Tries the next operand with the last line that came in. `found` says whether this line has the operand's
+    /// pattern. Returns the operand's cut, if it makes one.
     fn attempt_last(&mut self, found: bool) -> Option<CutPoint>
         requires few { self.old.lines ≤ 2 ^ 63 }
         requires fit { IsFit (seen self.old) }
@@ -504,7 +506,7 @@ impl<'o> LineCutter<'o> {
         }
     }
 
-    /// Cuts the lines that wait and the last line, and then keeps of them what waits.
+    /// Cuts the lines that wait and the last line, and then keeps of these lines those that still wait.
     fn cut_line<O: Outs>(&mut self, cut: CutPoint, line: &[u8], outs: &mut O) -> Result<(), Fault>
         requires line { IsLine line.now }
         requires few { self.old.lines ≤ 2 ^ 63 }
@@ -523,8 +525,8 @@ impl<'o> LineCutter<'o> {
         self.hold(left, outs)
     }
 
-    /// Cuts the last lines that came in, which begin with the line of number `place`, as often as operands cut them. No
-    /// line waits. Returns what is left, which isn't held yet.
+    /// Cuts the last lines that came in as often as operands cut them. The first of these lines has the number `place`,
+    /// and no line waits. Returns the lines that are left, which aren't held yet.
     fn cut_often<'l, O: Outs>(
         &mut self,
         cut: CutPoint,
@@ -553,8 +555,8 @@ impl<'o> LineCutter<'o> {
         Ok(left)
     }
 
-    /// Ends the open section before the line of the cut, and begins the next. Returns the lines that follow the cut. No
-    /// line waits.
+    /// Ends the open section before the line of the cut, and begins the next section. No line waits. Returns the lines
+    /// that follow the cut.
     fn cut_at<'l, O: Outs>(
         &mut self,
         cut: CutPoint,
@@ -585,7 +587,7 @@ impl<'o> LineCutter<'o> {
         Ok(skip_line(suppress, rest))
     }
 
-    /// Goes on after a cut of the next operand, where no line waits.
+    /// Goes on after a cut of the next operand. No line waits.
     fn pass(&mut self, cut: CutPoint) -> Result<(), Fault>
         requires few { self.old.lines ≤ 2 ^ 63 }
         requires fit { IsFit (seen self.old) }
@@ -615,7 +617,7 @@ impl<'o> LineCutter<'o> {
         Ok(())
     }
 
-    /// Writes what is settled of the lines that wait and of those after them, and keeps the others.
+    /// Writes what is settled of the lines that wait and of the lines after them, and keeps the others.
     fn hold<O: Outs>(&mut self, text: &[u8], outs: &mut O) -> Result<(), Fault>
         requires fits { size_of self.old.writer.current + length self.old.window.held + length text.now < 2 ^ 63 }
         requires fit { IsFit (seen self.old) }
@@ -631,7 +633,7 @@ impl<'o> LineCutter<'o> {
     }
 }
 
-/// How many bytes the first line of a text of complete lines has, which isn't empty: those that were found, if any were.
+/// How many bytes the first line has, of a text of complete lines that isn't empty. It is `found`, if that is known.
 fn first_size(text: &[u8], found: Option<usize>) -> usize
     requires some { 0 < length text.now }
     requires whole { IsWhole text.now }
@@ -652,7 +654,7 @@ fn first_size(text: &[u8], found: Option<usize>) -> usize
     }
 }
 
-/// Lines that were passed over, after which no match was found.
+/// Lines that were passed over, and no match was found after them.
 fn unfound(size: usize) -> Passed
     ensures size { result.size ≡ size }
     ensures found { result.found ≡ None }
@@ -660,7 +662,7 @@ fn unfound(size: usize) -> Passed
     Passed { size, found: None }
 }
 
-/// The verdict where an operand's pattern matches no line, if there is one.
+/// The verdict if an operand's pattern matches no line. None if the work ends well then.
 fn verdict_of_miss(operand: &Operand, repetition: u64) -> Option<Verdict>
     ensures { result ≡ verdict_of (missed operand.now repetition) }
 {
@@ -670,7 +672,7 @@ fn verdict_of_miss(operand: &Operand, repetition: u64) -> Option<Verdict>
     }
 }
 
-/// The verdict where an operand's cut is above the last line, if there is one.
+/// The verdict if an operand's cut is above the last line. None if the work ends well then.
 fn verdict_of_range(operand: &Operand, repetition: u64) -> Option<Verdict>
     ensures { (matched cut : ℕ) → result ≡ verdict_of (above operand.now repetition matched cut) }
 {
@@ -681,7 +683,7 @@ fn verdict_of_range(operand: &Operand, repetition: u64) -> Option<Verdict>
     }
 }
 
-/// The cut of an attempt, if it is one.
+/// The cut of an attempt, if it is a cut.
 fn cut_of(attempt: Attempt) -> Option<CutPoint>
     ensures some { IfSome result (λ cut. attempt ≡ attempt_is.Cuts cut.matched cut.line) }
     ensures none { IfNone result (IsNoCut attempt) }

@@ -6,7 +6,8 @@ ghost use Rattle.csplit_core.specs.Input.{newline};
 use seg_core::line::{NEWLINE, next_line, reach};
 use seg_core::line_reach::Reach;
 
-/// The first `lines` lines of a text, or all of it where it has no more complete ones, and what follows them.
+/// The first `lines` lines of a text, and what follows them. The first part is all of the text if it has no more
+/// complete lines.
 pub(crate) fn split_lines(text: &[u8], lines: u64) -> (&[u8], &[u8])
     ensures first { result.0.now ≡ first_lines newline lines text.now }
     ensures rest { result.1.now ≡ after_lines newline lines text.now }
@@ -18,7 +19,7 @@ pub(crate) fn split_lines(text: &[u8], lines: u64) -> (&[u8], &[u8])
     }
 }
 
-/// What follows the first line of a text, or with `skips` unset the text.
+/// What follows the first line of a text; the whole text if `skips` isn't set.
 pub(crate) fn skip_line(skips: bool, text: &[u8]) -> &[u8]
     ensures first { skips ≡ true → result.now ≡ after_lines newline 1 text.now }
     ensures none { skips ≡ false → result.now ≡ text.now }

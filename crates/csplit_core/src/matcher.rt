@@ -34,7 +34,7 @@ impl<'o> Matcher<'o> {
     ///
     /// # Errors
     ///
-    /// `Memory` where there is no room for it.
+    /// `Memory` if there is no room for it.
     pub(crate) fn new(alloc: Global, pattern: &'o Bre) -> Result<Matcher<'o>, Fault>
         ensures ok { IfOk result (λ matcher. matcher ≡ pattern.now) }
         ensures err { IfErr result (λ fault. fault ≡ Fault.Memory) }
@@ -53,8 +53,8 @@ impl<'o> Matcher<'o> {
         self.scan.search(self.pattern, text).found
     }
 
-    /// How many bytes the lines at the beginning of a text of complete lines are that are seen to have no match without
-    /// matching them; 0 where looking for what each has is of no use any more, and is tried again later.
+    /// How many bytes at the beginning of a text of complete lines are lines that are known to have no match without
+    /// matching them. It is 0 while looking for what each match contains is of no use; that is tried again later.
     pub(crate) fn clear_lines(&mut self, text: &[u8]) -> usize
         requires { IsWhole text.now }
         ensures within { result ≤ length text.now }
@@ -66,7 +66,7 @@ impl<'o> Matcher<'o> {
     }
 }
 
-/// A line without its newline, which stands nowhere but at its end.
+/// A line without its newline. A newline stands only at the end of a line.
 pub(crate) fn text_of(line: &[u8]) -> &[u8]
     requires { IsLine line.now }
     ensures { result.now ≡ without_newline line.now }

@@ -14,14 +14,14 @@ use seg_core::line::NEWLINE;
 use seg_core::line_window::LineWindow;
 use std::alloc::Global;
 
-/// The next operand, if one is left, where this many are done.
+/// The next operand, if one is left after this many were done.
 pub(crate) fn next_operand(operands: &[Operand], done: usize) -> Option<&Operand>
     ensures { option_map (λ operand. operand.now) result ≡ next_of (drop done operands.now) }
 {
     operands.get(done)
 }
 
-/// Whether the section that it ends is kept; the rest after all operands is.
+/// Whether the section that the next operand ends is kept. The rest after all operands is kept.
 pub(crate) fn is_kept(next: Option<&Operand>) -> bool
     ensures { result ≡ kept_next (option_map (λ operand. operand.now) next.entry) }
 {
@@ -34,7 +34,7 @@ pub(crate) fn is_kept(next: Option<&Operand>) -> bool
     }
 }
 
-/// How many lines past the last one its cut may stand.
+/// How many lines past the last one the cut of the next operand may stand.
 pub(crate) fn past_next(style: &Style, next: Option<&Operand>) -> u64
     ensures { result ≡ past_next style.now (option_map (λ operand. operand.now) next.entry) }
 {
@@ -44,11 +44,11 @@ pub(crate) fn past_next(style: &Style, next: Option<&Operand>) -> u64
     past_last(style, &operand.target)
 }
 
-/// What matching with its pattern needs, if it has one.
+/// What matching with the next operand's pattern needs, if it has a pattern.
 ///
 /// # Errors
 ///
-/// `Memory` where there is no room for it.
+/// `Memory` if there is no room for it.
 pub(crate) fn find_matcher<'o>(
     alloc: Global,
     next: Option<&'o Operand>,
@@ -65,11 +65,11 @@ pub(crate) fn find_matcher<'o>(
     }
 }
 
-/// Room for the lines that may wait for its cut, as many as its offset goes back.
+/// Room for the lines that may wait for the next operand's cut, as many as its offset goes back.
 ///
 /// # Errors
 ///
-/// `Memory` where there is no room for it.
+/// `Memory` if there is no room for these lines.
 pub(crate) fn find_window(alloc: Global, next: Option<&Operand>) -> Result<LineWindow, Fault>
     ensures ok { IfOk result (λ window. window
         ≡ record { most = most_next (option_map (λ operand. operand.now) next.entry); delim = newline; held = [] }) }
@@ -81,7 +81,7 @@ pub(crate) fn find_window(alloc: Global, next: Option<&Operand>) -> Result<LineW
     }
 }
 
-/// How many lines may wait for its cut.
+/// How many lines may wait for the next operand's cut.
 fn most_held(next: Option<&Operand>) -> u64
     ensures { result ≡ most_next (option_map (λ operand. operand.now) next.entry) }
 {

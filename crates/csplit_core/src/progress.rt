@@ -13,16 +13,16 @@ use crate::{Offset, Operand, Style, Target, Times};
 /// What the next operand does.
 #[derive(Clone, Copy)]
 pub enum Attempt {
-    /// None is left.
+    /// No operand is left.
     UsedUp,
-    /// Its pattern matches no line.
+    /// The operand's pattern matches no line.
     Missed,
-    /// It cuts further than it may: the line that the last pattern matched, and the line of the cut, or the last number
-    /// that there is where that line is further.
+    /// The operand cuts further than it may: the line that the last pattern matched, and the line of the cut, or the
+    /// greatest number that there is if that line is further.
     Above(u64, u64),
-    /// It cuts below the current line.
+    /// The operand cuts below the current line.
     Below,
-    /// It cuts: the line that the last pattern matched, and the line of the cut.
+    /// The operand cuts: the line that the last pattern matched, and the line of the cut.
     Cuts(u64, u64),
 }
 
@@ -31,11 +31,11 @@ pub enum Attempt {
 pub struct Progress {
     /// How many operands are done.
     pub done: usize,
-    /// How often the next one was performed.
+    /// How often the next operand was performed.
     pub repetition: u64,
     /// The current line.
     pub current: u64,
-    /// The line that the last pattern matched, 0 where none was performed.
+    /// The line that the last pattern matched, 0 if no pattern was performed.
     pub matched: u64,
 }
 
@@ -67,8 +67,8 @@ impl Progress {
         }
     }
 
-    /// What the next operand does where there are `total` lines. `found` says whether the last of them has its pattern;
-    /// the lines before that one don't have it, from the beginning of its search on.
+    /// What the next operand does if there are `total` lines. `found` says whether the last line has its pattern. The
+    /// lines before the last don't have it, from the beginning of its search on.
     pub fn attempt(&self, style: &Style, operands: &[Operand], total: u64, found: bool) -> Attempt
         requires current { self.now.current < 2 ^ 64 - 1 }
         requires matched { self.now.matched < 2 ^ 64 - 1 }
@@ -100,7 +100,7 @@ impl Progress {
         }
     }
 
-    /// Goes on after a cut of this operand, the next one.
+    /// Goes on after a cut of this operand, which is the next one.
     pub fn pass(&mut self, suppress: bool, operand: &Operand, matched: u64, cut: u64)
         requires cut { cut < 2 ^ 64 - 1 }
         requires repetition { self.old.repetition < 2 ^ 64 - 1 }
@@ -119,8 +119,8 @@ impl Progress {
     }
 }
 
-/// The line at an offset from a line: the last number that there is where it is further, and 0 where there are too few lines
-/// before it.
+/// The line at an offset from a line: the greatest number that there is if that line is further, and 0 if there are too
+/// few lines before it.
 fn line_at(offset: Offset, line: u64) -> u64
     ensures { result ≡ min (moved offset line) (2 ^ 64 - 1) }
 {
@@ -150,7 +150,7 @@ pub(crate) fn past_last(style: &Style, target: &Target) -> u64
     }
 }
 
-/// Where a cut falls, which may stand at the line `most` at most.
+/// Where a cut falls, if it may stand at the line `most` at most.
 fn fall(most: u64, current: u64, matched: u64, cut: u64) -> Attempt
     ensures { FallsAt most current matched cut result }
 {

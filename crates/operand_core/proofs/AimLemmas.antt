@@ -32,7 +32,7 @@ use Rattle.operand_core.specs.declared.operand_fault.OperandFaultKind.TheVariant
 
 -- Lemmas on what a word spells.
 
--- the last place, where those from `place` on are still to be looked at
+-- the last place that was found, if the text from `place` on is still to be looked at
 abbrev pub last_of : (last : Option ℕ) (place : ℕ) → Option ℕ → Option ℕ
 last_of last place None = last
 last_of last place (Some further) = Some (place + further)
@@ -66,7 +66,7 @@ is_brace inner {byte} is = before_brace_at inner byte ∙ ap (λ b. cond b (Some
 pub is_no_brace : (inner : List ℕ) (byte : ℕ) → byte ≢ 125 → before_brace (inner ++ byte ∷ []) ≡ None
 is_no_brace inner byte differ = before_brace_at inner byte ∙ ap (λ b. cond b (Some inner) None) (ne_eqb byte 125 differ)
 
--- the pattern and the offset that a closing delimiter stands between
+-- a closing delimiter was found: the pattern stands before it, and the offset after it
 pub search_closed : (delimiter : ℕ) (text : List ℕ) {place : ℕ} {found : Option ℕ} {offset now : Option Offset}
     → found ≡ closing delimiter false text
     → found ≡ Some place → offset ≡ offset_of (take (length text - (place + 1)) (drop (place + 1) text)) → offset ≡ now
@@ -85,7 +85,7 @@ pub not_below : (calling : Calling) (least n : ℕ) → least ≤ n
     → IsAimed (aim_of calling least (number n)) (Ok (Number n))
 not_below calling least n more = is_target (line n) (Number n) (ap (λ b. cond b (fails kind.LineOrder) (aims (line n))) (le-ltb n least more)) refl
 
--- how a `?` ends
+-- reading ends with a `?` for want of memory
 
 pub lacks : (aimed : Aimed) (result : Result Target OperandFaultKind) → IsErrAnd result (λ e. e ≡ kind.Memory)
     → IsAimed aimed result
@@ -104,7 +104,7 @@ posix_read (Err TooLarge) reads groups size none large = large refl
 posix_read (Err Memory) reads groups size none large = tt
 posix_read (Err fault) reads groups size none large = none tt
 
--- another place in the text, for the same reason
+-- a fault at another place in the text has the same reason
 pub read_elsewhere : (text : List ℕ) (fault other : BreFault) → number_of other ≡ number_of fault
     → IsReadAs text (Err fault) → IsReadAs text (Err other)
 read_elsewhere text TooLarge TooLarge same is = is
@@ -137,10 +137,10 @@ pub no_target : (calling : Calling) (least : ℕ) (word : Word) (text : List ℕ
 no_target calling least word text times is at =
     is_wrong kind.RepeatFirst (ap (aim_of calling least) (sym is ∙ ap seen at))
 
--- A pattern that is too large is none that is read: no more groups are open after any of its first tokens than its tree has
+-- A pattern that is too large isn't read: after any of its first tokens no more groups are open than its tree has
 -- within one another.
 
--- no more than `most` groups are open at any of these tokens, nor after them
+-- at most `most` groups are open at any of these tokens, and after them
 abbrev Stays : ℕ → ℕ → List Token → Type 0
 Stays most depth [] = depth ≤ most
 Stays most depth (Open ∷ tokens) = (depth ≤ most) × Stays most (suc depth) tokens

@@ -27,11 +27,11 @@ use Rattle.operand_core.specs.declared.operand_fault.OperandFaultKind.TheVariant
 
 -- Reading a list of words.
 
--- the operands before these words, and what these ask for
+-- the operands before these words, and then what these words ask for
 abbrev pub after_front : List Spelled → Words → Words
 after_front front words = record { operands = front ++ words.operands; fault = words.fault }
 
--- a step over an operand and the words that say how often it is performed again
+-- a step over an operand and the word that says how often it is performed again, if a word says so
 pub step_over : (calling : Calling) (index least : ℕ) (word : List ℕ) {words : List (List ℕ)} {aim : Aim}
     {times : Times} {said : ℕ}
     → aim_of calling least (spelling word) ≡ aims aim → SayTimes words times said
@@ -69,7 +69,7 @@ pub first_is_other : (words : List (Bor (List ℕ))) {text : List ℕ} (default 
 first_is_other [] default some is reads at = search rules
 first_is_other (word ∷ words) default some is reads at = other word.now (texts words) (sym (ap (λ those. times_by (spelling those)) is) ∙ sym reads ∙ at)
 
--- Some words were read, and these are left.
+-- Some words were read, and the words `left` are left.
 pub record Reads (calling : Calling) (words : List (Bor (List ℕ))) (read : List Operand) (least : ℕ)
     (left : List (Bor (List ℕ)))
     : Type 0 where
@@ -79,12 +79,12 @@ pub record Reads (calling : Calling) (words : List (Bor (List ℕ))) (read : Lis
   pub asks : words_of calling (texts words) ≡ after_front front
       (words_from calling (length words - length left) least (texts left))
 
--- what a word that is no operand makes of the list
+-- what the list is if a word is no operand
 
 abbrev pub spelled_as : ℕ → Aim → Times → Spelled
 spelled_as index aim times = record { index = index; aim = aim; times = times }
 
--- there is a time for each operand
+-- the words after an operand say how often it is performed again
 says_by : {next : List ℕ} {words : List (List ℕ)} (says : Option Times) → times_by (spelling next) ≡ says
     → (times : Times) × (said : ℕ) × SayTimes (next ∷ words) times said
 says_by {next} {words} None is = (Count 0, 0, other next words is)
@@ -165,7 +165,7 @@ pub reads_next : {calling : Calling} {words : List (Bor (List ℕ))} {read : Lis
 reads_next [] default reads some is aimed at rest_is says within now_is after_is least_is = search rules
 reads_next {calling} {words} {read} {least} (word ∷ left) default {result} {target} {times} {said} {after} {least'} reads some is aimed at rest_is says within now_is after_is least_is = grind (arith, common_steps, (next_by calling), says, drop-map)
 
--- Words are read in one way.
+-- Words are read in only one way.
 
 target_once : (aim : Aim) (one another : Target) → IsTarget aim one → IsTarget aim another → one ≡ another
 target_once (line n) (Number a) (Number b) is are = cc

@@ -31,7 +31,7 @@ same_fault : (least : ℕ) (spelled : Spelling) {what : OperandFaultKind} → ai
 same_fault least (search delimiter text offset) is = cc
 same_fault least spelled is = is
 
--- by both callings these words, of which the first has this index, ask for the same, if they are read
+-- these words ask for the same by both callings, if they are read; `index` is the index of the first word
 abbrev AreAlike : ℕ → List (List ℕ) → Type 0
 AreAlike index words = (least : ℕ) (operands : List Operand) → AreRead (words_from Cutters index least words).operands operands
     → words_from OwnName index least words ≡ words_from Cutters index least words

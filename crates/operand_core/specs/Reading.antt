@@ -16,12 +16,12 @@ use Rattle.operand_core.specs.{
 }
 use Rattle.operand_core.specs.declared.operand_fault.OperandFaultKind.TheVariants as kind
 
--- what an operand aims at, its pattern being a text
+-- where an operand cuts; its pattern is still a text
 pub data Aim : Type 0 where
   line : ℕ → Aim
   match : (is_kept : Bool) (text : List ℕ) → Offset → Aim
 
--- an operand whose pattern is a text
+-- an operand whose pattern is still a text
 pub record Spelled : Type 0 where
   pub index : ℕ
   pub aim : Aim
@@ -31,13 +31,13 @@ pub data Aimed : Type 0 where
   aims : Aim → Aimed
   fails : OperandFaultKind → Aimed
 
--- The text of a pattern as POSIX spells it. Where a tool is called by its own name, it may be in GNU's spelling.
+-- The text of a pattern as POSIX spells it. If a tool is called by its own name, the pattern may be in GNU's spelling.
 abbrev pub posix_text : Calling → List ℕ → List ℕ
 posix_text Cutters text = text
 posix_text OwnName text = respelled text
 
--- What a word aims at that no repetition before it takes in. `least` is the nearest line number before it, 0 where
--- there is none. Only a pattern between `/` and `/` is kept.
+-- Where a word cuts, unless the operand before it has taken the word as its repetition. `least` is the nearest line
+-- number before the word, or 0 if there is none. Only a pattern between `/` and `/` has its section kept.
 abbrev pub aim_of : Calling → (least : ℕ) → Spelling → Aimed
 aim_of calling least (number n) = if nat_lt n least then fails kind.LineOrder else aims (line n)
 aim_of calling least (search delimiter text offset) =
@@ -45,7 +45,7 @@ aim_of calling least (search delimiter text offset) =
 aim_of calling least (again times) = fails kind.RepeatFirst
 aim_of calling least (wrong fault) = fails fault
 
--- the nearest line number before what follows
+-- the nearest line number before what follows an operand
 abbrev pub least_after : (least : ℕ) → Aim → ℕ
 least_after least (line n) = n
 least_after least (match kept text offset) = least
@@ -55,7 +55,7 @@ abbrev pub times_by : Spelling → Option Times
 times_by (again times) = Some times
 times_by spelled = None
 
--- the operands before the first word that is wrong, and what is wrong with that one
+-- the operands before the first word that is wrong, and what is wrong with this word, if one is wrong
 pub record Words : Type 0 where
   pub operands : List Spelled
   pub fault : Option OperandFault
@@ -72,7 +72,7 @@ with_operand index aim times words = record {
   fault = words.fault;
 }
 
--- What words ask for, of which the first has this index. A repetition belongs to the operand directly before it.
+-- What words ask for; the first of them has this index. A repetition belongs to the operand directly before it.
 abbrev pub words_from : Calling → (index least : ℕ) → List (List ℕ) → Words
 words_from calling index least [] = no_more
 words_from calling index least (word ∷ []) = elim (aim_of calling least (spelling word)) [
@@ -110,7 +110,7 @@ IsTarget (match is_kept text offset) (Search pattern kept moved) = IsPattern tex
     × (moved ≡ offset)
 IsTarget aim target = ⊥
 
--- the pattern of an operand is read, and all else is as it was spelled
+-- the operand is as it was spelled, with its pattern read
 pub record IsRead (spelled : Spelled) (operand : Operand) : Type 0 where
   pub index : operand.index ≡ spelled.index
   pub target : IsTarget spelled.aim operand.target
@@ -131,7 +131,7 @@ HasRefused (line n) fault = ⊥
 HasRefused (match is_kept text offset) fault = IsRefused text fault
 
 -- The first fault of the words, in their order: a word is wrong and all patterns before it are read, or a pattern is
--- refused and those before it are read. Want of memory may come at any word.
+-- refused and the patterns before it are read. Want of memory may come at any word.
 pub data IsFault (calling : Calling) (words : List (List ℕ)) : OperandFault → Type 0 where
   is_wrong : (fault : OperandFault) (read : List Operand) → (words_of calling words).fault ≡ Some fault
       → AreRead (words_of calling words).operands read → IsFault calling words fault
@@ -140,7 +140,7 @@ pub data IsFault (calling : Calling) (words : List (List ℕ)) : OperandFault �
       → IsFault calling words (record { kind = kind.Bre fault; index = refused.index })
   no_memory : (index : ℕ) → IsFault calling words (record { kind = kind.Memory; index = index })
 
--- the fault says what is wrong with a word; it is no want of memory
+-- the fault is something wrong with a word, and not want of memory
 abbrev pub IsOfWords : OperandFaultKind → Type 0
 IsOfWords kind.Memory = ⊥
 IsOfWords _ = Unit {0}

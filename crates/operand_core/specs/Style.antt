@@ -3,19 +3,19 @@
 use Rattle.std.specs.Prelude.{ℕ, Bool, List}
 use Rattle.ports_core.specs.declared.form.Form.{Form}
 
--- how it cuts, and how files are made
+-- how `csplit` cuts, and how files are made
 pub record Style : Type 0 where
   -- what a file's name has before its number and after it, and how the number is written
   pub prefix : List ℕ
   pub form : Form
   pub ending : List ℕ
-  -- files are kept after a fault
+  -- whether files are kept after a fault
   pub keep : Bool
-  -- no sizes are written
+  -- whether no sizes are written
   pub quiet : Bool
-  -- an empty section makes no file
+  -- whether an empty section makes no file
   pub elide : Bool
-  -- the line at a cut is left out
+  -- whether the line at a cut is left out
   pub suppress : Bool
-  -- the cut of a pattern may stand one line past the last
+  -- whether the cut of a pattern may stand one line past the last
   pub one_past : Bool

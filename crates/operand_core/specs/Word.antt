@@ -1,5 +1,5 @@
--- What one word of `csplit`'s operands spells (POSIX.1-2017, XCU csplit, OPERANDS; `{*}` is GNU's). A pattern is a text
--- still. The bytes that have a meaning: 37 `%`, 42 `*`, 43 `+`, 45 `-`, 47 `/`, 92 `\`, 123 `{`, 125 `}`.
+-- What one word of `csplit`'s operands spells (POSIX.1-2017, XCU csplit, OPERANDS; `{*}` is GNU's). A pattern is still
+-- a text. These bytes have a meaning: 37 `%`, 42 `*`, 43 `+`, 45 `-`, 47 `/`, 92 `\`, 123 `{`, 125 `}`.
 use Rattle.std.specs.{
   Prelude.{ℕ, ◌==◌, ◌&&◌, suc, Bool, false, not, List, [], ◌∷◌, codes, take, drop, Option, Some, None, Ok, Err},
   Prelude.{option_map, if◌then◌else◌, bytes_eq},
@@ -14,14 +14,14 @@ use Rattle.operand_core.specs.declared.operand_fault.OperandFaultKind.TheVariant
 pub data Spelling : Type 0 where
   -- a line number
   number : ℕ → Spelling
-  -- a delimiter, the text between it and the closing one as it stands, and the offset
+  -- a pattern: the delimiter, the text up to the closing delimiter as it stands, and the offset
   search : (delimiter : ℕ) (text : List ℕ) → Offset → Spelling
   -- how often an operand is performed again
   again : Times → Spelling
-  -- it is none of these
+  -- a word that is none of these, and what is wrong with it
   wrong : OperandFaultKind → Spelling
 
--- one or more digits, at most 2^63-1
+-- the number that a text writes: one or more digits, at most 2^63-1
 abbrev pub number_of : List ℕ → Option ℕ
 number_of text = elim (digits_of text) [ Ok n ↦ Some n | Err fault ↦ None ]
 
@@ -32,12 +32,12 @@ abbrev pub numbered : Option ℕ → Spelling
 numbered None = wrong kind.Number
 numbered (Some n) = line_number n
 
--- a `\` is here that escapes what follows it
+-- whether the byte is a `\` that escapes what follows it
 abbrev pub is_escape : (escaped : Bool) (byte : ℕ) → Bool
 is_escape escaped byte = byte == 92 && not escaped
 
 -- The place of the closing delimiter: the last delimiter that isn't preceded by an odd number of backslashes. `escaped`
--- says whether an odd number of them stands directly before the text.
+-- says whether an odd number of backslashes stands directly before the text.
 abbrev pub closing : (delimiter : ℕ) (escaped : Bool) → List ℕ → Option ℕ
 closing delimiter escaped [] = None
 closing delimiter escaped (byte ∷ text) = elim (closing delimiter (is_escape escaped byte) text) [
@@ -45,7 +45,7 @@ closing delimiter escaped (byte ∷ text) = elim (closing delimiter (is_escape e
   | None ↦ if byte == delimiter && not escaped then Some 0 else None
 ]
 
--- The text of the pattern: read from left to right, a `\` and the delimiter become the delimiter, and a `\` and any
+-- The text of a pattern. It is read from left to right: a `\` and the delimiter become the delimiter, and a `\` and any
 -- other byte stay.
 abbrev pub unescaped : ℕ → List ℕ → List ℕ
 unescaped delimiter [] = []
@@ -55,7 +55,7 @@ unescaped delimiter (byte ∷ next ∷ text) =
     else byte ∷ next ∷ unescaped delimiter text)
     else byte ∷ unescaped delimiter (next ∷ text)
 
--- nothing, or digits with a sign or without one
+-- the offset that a text writes: nothing, or digits with a sign or without one
 abbrev pub offset_of : List ℕ → Option Offset
 offset_of [] = Some (Plus 0)
 offset_of (byte ∷ text) =
@@ -71,13 +71,13 @@ abbrev pub closed_at : (delimiter : ℕ) (text : List ℕ) → Option ℕ → Sp
 closed_at delimiter text None = wrong kind.Unclosed
 closed_at delimiter text (Some place) = searched delimiter (take place text) (offset_of (drop (suc place) text))
 
--- what stands before a `}` at the end
+-- what stands before a `}` at the end of a text
 abbrev pub before_brace : List ℕ → Option (List ℕ)
 before_brace [] = None
 before_brace (byte ∷ []) = if byte == 125 then Some [] else None
 before_brace (byte ∷ next ∷ text) = option_map (λ inner. byte ∷ inner) (before_brace (next ∷ text))
 
--- `*` or digits
+-- how often an operand is performed again, as braces say it: `*`, or digits
 abbrev pub times_of : List ℕ → Option Times
 times_of text = if bytes_eq (codes "*") text then Some Endless else option_map Count (number_of text)
 
@@ -89,7 +89,8 @@ abbrev pub repeated : Option Times → Spelling
 repeated None = wrong kind.RepeatText
 repeated (Some times) = again times
 
--- A word that begins with `/` or `%` is a pattern, one that begins with `{` a repetition, and any other a line number.
+-- What a word spells. A word that begins with `/` or `%` is a pattern, a word that begins with `{` is a repetition, and
+-- any other word is a line number.
 abbrev pub spelling : List ℕ → Spelling
 spelling [] = wrong kind.Number
 spelling (byte ∷ text) =

@@ -6,7 +6,8 @@ ghost use Rattle.operand_core.specs.{
   declared.{operand_fault.OperandFault.OperandFault, operand.Operand.Operand},
 };
 
-/// Words ask for one list of operands at most, and for none where a word is no operand, or its pattern is none or too large.
+/// Words ask for at most one list of operands, and for none if a word is no operand, or if its pattern can't be read or
+/// is too large.
 pub fn one_reading()
     ensures only { (calling : Calling) (words : List (List ℕ)) (one other : List Operand) → Asks calling words one
         → Asks calling words other → one ≡ other }
@@ -14,7 +15,7 @@ pub fn one_reading()
         → Asks calling words operands → IsFault calling words fault → IsOfWords fault.kind → ⊥ }
 {}
 
-/// What words ask for by `cutters csplit`, they ask for by its own name too.
+/// What words ask for by `cutters csplit`, they also ask for if `csplit` is called by its own name.
 pub fn own_name_takes_no_meaning_away()
     ensures { (words : List (List ℕ)) (operands : List Operand) → Asks Cutters words operands
         → Asks OwnName words operands }

@@ -39,10 +39,10 @@ pub enum Times {
 /// One operand, with the repetition that stands after it.
 #[derive(Drop)]
 pub struct Operand {
-    /// Its place among the words that are operands, counted from 0; a repetition is a word too.
+    /// The operand's place among the words that are operands, counted from 0; a repetition is a word, too.
     pub index: usize,
-    /// Where it cuts.
+    /// Where the operand cuts.
     pub target: Target,
-    /// How often it is performed again.
+    /// How often the operand is performed again.
     pub times: Times,
 }

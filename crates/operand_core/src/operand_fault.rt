@@ -24,7 +24,7 @@ pub enum OperandFaultKind {
     RepeatText,
     /// The pattern can't be read, for a reason that isn't want of memory.
     Bre(BreFault),
-    /// The line number is below the nearest one before it.
+    /// The line number is below the nearest line number before it.
     LineOrder,
     /// A growth was refused.
     Memory,

@@ -40,15 +40,15 @@ impl Operands {
     }
 }
 
-/// Reads the words that are `csplit`'s operands after its file: line numbers, patterns and repetitions. Where the tool was
-/// called by its own name, a pattern may be in GNU's spelling. It takes memory for each pattern, and a fixed amount for each
-/// operand.
+/// Reads the words that are `csplit`'s operands after its file: line numbers, patterns and repetitions. If the tool was
+/// called by its own name, a pattern may be in GNU's spelling. It takes memory for each pattern, and a fixed amount for
+/// each operand.
 ///
 /// # Errors
 ///
 /// The first fault in the order of the words, with the word's index. Of one word, what is wrong with the word by itself
 /// comes before what is wrong with its place: `RepeatText` before `RepeatFirst`; `Unclosed`, then `Offset`, then `Bre`;
-/// `Number`, then `LineZero`, then `LineOrder`. `Missing` where there is no word, at index 0. `Memory` where there is no
+/// `Number`, then `LineZero`, then `LineOrder`. `Missing` if there is no word, at index 0. `Memory` if there is no
 /// room, at any word.
 pub fn read_operands(
     alloc: Global,

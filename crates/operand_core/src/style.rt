@@ -13,17 +13,17 @@ pub struct Style {
     pub prefix: String,
     /// How the number is written (`-n`, `-b`).
     pub form: Form,
-    /// What it has after the number (`-b`).
+    /// What a file's name has after its number (`-b`).
     pub ending: String,
-    /// Files are kept after a fault (`-k`).
+    /// Whether files are kept after a fault (`-k`).
     pub keep: bool,
-    /// No sizes are written (`-s`).
+    /// Whether no sizes are written (`-s`).
     pub quiet: bool,
-    /// An empty section makes no file (`-z`).
+    /// Whether an empty section makes no file (`-z`).
     pub elide: bool,
-    /// The line at a cut is left out (`--suppress-matched`).
+    /// Whether the line at a cut is left out (`--suppress-matched`).
     pub suppress: bool,
-    /// The cut of a pattern may stand one line past the last.
+    /// Whether the cut of a pattern may stand one line past the last.
     pub one_past: bool,
 }
 
@@ -50,7 +50,7 @@ impl Style {
     ///
     /// # Errors
     ///
-    /// `AllocError` where there is none.
+    /// `AllocError` if there is no memory for the texts.
     pub fn try_clone(&self, alloc: Global) -> Result<Style, AllocError>
         ensures { IfOk result (λ style. style ≡ self.now) }
     {

@@ -14,12 +14,12 @@ use ports_core::Calling;
 use scan_core::{Bre, BreFault};
 use std::alloc::{AllocError, Global};
 
-/// Reads where an operand cuts. `least` is the nearest line number before it, 0 where there is none. It takes memory for
-/// the text of a pattern, and for the pattern.
+/// Reads where an operand cuts. `least` is the nearest line number before it, or 0 if there is none. It takes memory
+/// for the text of a pattern, and for the pattern.
 ///
 /// # Errors
 ///
-/// All kinds but `Missing`.
+/// All kinds except `Missing`.
 pub fn read_target(
     alloc: Global,
     calling: Calling,
@@ -39,7 +39,7 @@ pub fn read_target(
     }
 }
 
-/// A line number, unless it is below the one before it.
+/// A line number, unless it is below the line number before it.
 fn in_order(least: u64, number: u64) -> Result<Target, OperandFaultKind>
     ensures { (calling : Calling) → IsAimed (aim_of calling least (line_number number)) result }
 {
@@ -70,7 +70,7 @@ fn read_pattern(
     })
 }
 
-/// Reads the text of a pattern. The place in a fault is one in this text, also where it is in GNU's spelling.
+/// Reads the text of a pattern. The place in a fault is a place in this text, even if the text is in GNU's spelling.
 fn read_text(alloc: Global, calling: Calling, text: &[u8]) -> Result<Bre, BreFault>
     ensures { IsReadAs (posix_text calling text.now) result }
 {

@@ -14,13 +14,13 @@ use seg_core::digits::read_digits;
 pub enum Word<'a> {
     /// A line number, at least 1.
     Number(u64),
-    /// A pattern, between two of these delimiters.
+    /// A pattern, between two delimiters.
     Search {
         /// `/` or `%`.
         delimiter: u8,
         /// What stands between the delimiters.
         text: &'a [u8],
-        /// What follows them.
+        /// What follows the closing delimiter.
         offset: Offset,
     },
     /// A repetition.
@@ -28,7 +28,7 @@ pub enum Word<'a> {
 }
 
 impl Word<'_> {
-    /// The repetition, if it is one.
+    /// The repetition, if the word is one.
     pub fn again(self) -> Option<Times>
         ensures { result ≡ times_by (seen self.entry) }
     {
@@ -93,7 +93,7 @@ fn read_search(delimiter: u8, text: &[u8]) -> Result<Word<'_>, OperandFaultKind>
     }
 }
 
-/// The place of the closing delimiter: the last one that isn't preceded by an odd number of backslashes.
+/// The place of the closing delimiter: the last delimiter that isn't preceded by an odd number of backslashes.
 fn find_closing(delimiter: u8, text: &[u8]) -> Option<usize>
     ensures is { result ≡ closing delimiter false text.now }
     ensures within { IfSome result (λ place. place < length text.now) }

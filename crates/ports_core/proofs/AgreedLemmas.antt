@@ -43,7 +43,7 @@ other_comes (suc delim) = lit< tt
 pub beginning_short : {A : Type 0} (front whole : List A) → IsBeginning front whole → length front ≤ length whole
 beginning_short front whole (rest, is) = grind (arith, common_steps)
 
--- Two continuations show it: one has no further output, and one has in each output no more.
+-- Two continuations show that outputs are agreed: one has no further output, and one has no more in any of the outputs.
 pub agreed_as : {A W : Type 0} {comes : List A → Type 0} {begins : W → W → Type 0} {outputs : W → List (List A)}
     {whole : List A → W} {x : List A} {agreed : W} (few y : List A)
     → ((z : List A) → comes z → begins agreed (whole (x ++ z))) → comes few → comes y
@@ -54,7 +54,7 @@ pub agreed_as : {A W : Type 0} {comes : List A → Type 0} {begins : W → W →
 agreed_as few y begin few_come come no_more short =
     grind (arith, common_steps, beginning_short)
 
--- Nothing waits, where what follows decides nothing of what came in.
+-- Nothing waits if what follows decides nothing of what came in.
 pub nothing_waits : {A P : Type 0} {comes : List A → Type 0} {Goes : List A → ℕ → P → Type 0} {x : List A}
     → ((i : ℕ) → i < length x → (y z : List A) (at : P) → Goes (x ++ y) i at → Goes (x ++ z) i at)
     → DifferOn comes Goes x []
@@ -65,11 +65,12 @@ nothing_waits {x = x} same = record {
   decided = λ i less y z at can also goes. same i less y z at goes;
 }
 
--- what is settled begins the whole of every continuation
+-- what is settled is a beginning of the whole of every continuation
 pub common : (work : Work) → IsLawful work → (x y : List ℕ) → Begins (work.settled x) (work.whole (x ++ y))
 common work lawful x y = part_trans _ _ _ (lawful.grows x y) (lawful.ends (x ++ y))
 
--- One continuation shows it, if its outputs are what is settled and perhaps further ones, and another has no further ones.
+-- Two continuations show that what is settled is agreed. One has no further outputs. The other has exactly what is
+-- settled, and perhaps further outputs.
 pub agreed_by : (work : Work) (x few y : List ℕ) (more : List (List ℕ))
     → ((z : List ℕ) → Begins (work.settled x) (work.whole (x ++ z))) → CanCome few → CanCome y
     → length (outputs_of (work.whole (x ++ few))) ≡ length (outputs_of (work.settled x))
@@ -79,7 +80,7 @@ agreed_by work x few y more begin few_bytes bytes no_more same = agreed_as _ y (
     grind (arith, common_steps) in
     omega (arith, ap length here)))
 
--- the end shows it, where all that came in is settled
+-- the end of the input shows that what is settled is agreed, if all that came in is settled
 pub agreed_now : (work : Work) (x : List ℕ) → ((z : List ℕ) → Begins (work.settled x) (work.whole (x ++ z)))
     → outputs_of (work.whole x) ≡ outputs_of (work.settled x) → IsAgreed work x (work.settled x)
 agreed_now work x begin same =
@@ -104,13 +105,13 @@ only_spot (inr none) = absurd none
 pub some_spot : (one : Spot) (spots : List Spot) → one ∷ spots ≡ [] → ⊥
 some_spot one spots is = cc
 
--- what follows decides nothing of a byte whose spots stay
+-- what follows decides nothing if the spots of each byte stay
 pub same_spots : {comes : List ℕ → Type 0} (spots_of : List ℕ → ℕ → List Spot) {x : List ℕ}
     → ((i : ℕ) → i < length x → (y z : List ℕ) → spots_of (x ++ y) i ≡ spots_of (x ++ z) i)
     → DifferOn comes (GoesBy spots_of) x []
 same_spots spots_of same = nothing_waits (λ i less y z at. subst (GoesTo at) (same i less y z))
 
--- a byte that goes to one place at the most
+-- a byte goes to one spot at most
 abbrev pub AtMostOne : List Spot → Type 0
 AtMostOne [] = Unit {0}
 AtMostOne (at ∷ []) = Unit {0}
@@ -121,7 +122,7 @@ spots_few place [] i = tt
 spots_few place (bytes ∷ outputs) i = cond_both (nat_lt i (length bytes)) _ _ AtMostOne (λ less. tt)
     (λ past. spots_few (place + 1) outputs (i - length bytes))
 
--- where two differ, it goes by one of them where it doesn't by the other
+-- if two lists of at most one spot differ, a byte goes to a spot by one list and not by the other
 one_alone : (one other : List Spot) → AtMostOne one → AtMostOne other → one ≢ other
     → ((at : Spot) × GoesTo at one × (GoesTo at other → ⊥)) ⊎ ((at : Spot) × GoesTo at other × (GoesTo at one → ⊥))
 one_alone [] [] few also apart = absurd (apart refl)
@@ -132,7 +133,7 @@ one_alone (at ∷ []) (there ∷ []) few also apart =
 one_alone (at ∷ next ∷ one) other few also apart = absurd few
 one_alone one (at ∷ next ∷ other) few also apart = absurd also
 
--- So what waits is shown by spots that differ, or stay.
+-- Spots that differ, or stay, show which bytes wait.
 pub spots_differ : {comes : List ℕ → Type 0} (spots_of : List ℕ → ℕ → List Spot) {x waiting : List ℕ}
     (before : List ℕ) → ((x : List ℕ) (i : ℕ) → AtMostOne (spots_of x i)) → x ≡ before ++ waiting
     → ((i : ℕ) → length before ≤ i → i < length x
@@ -160,14 +161,14 @@ none_before from i place offset (bytes ∷ outputs) before is = elim (cases_lt i
   | inr past ↦ none_before (from + 1) _ _ _ outputs (omega arith) (sym (spot_past _ i _ _ past) ∙ is)
 ]
 
--- Outputs that are, one after another, a stretch of their input: their spots are right.
+-- Outputs that are a stretch of their input, one after another: their spots are right.
 
--- they are, one after another, the beginning of a text
+-- the outputs are the beginning of a text, one after another
 abbrev pub AreFront : List (List ℕ) → List ℕ → Type 0
 AreFront [] text = Unit {0}
 AreFront (bytes ∷ outputs) text = (rest : List ℕ) × (text ≡ bytes ++ rest) × AreFront outputs rest
 
--- how many bytes the first ones have
+-- how many bytes the first outputs have
 abbrev bytes_of : ℕ → List (List ℕ) → ℕ
 bytes_of zero outputs = 0
 bytes_of (suc k) [] = 0
@@ -189,7 +190,7 @@ byte_at (bytes ∷ outputs) text zero offset (rest, is, are) less = grind (arith
 byte_at (bytes ∷ outputs) text (suc k) offset (rest, is, are) less =
     grind (arith, get_or-append_right, byte_at outputs _ k _ are less)
 
--- where it stands, there its spot is that
+-- a byte has its spot where it stands in an output
 spot_at : (place : ℕ) (outputs : List (List ℕ)) (k offset : ℕ) → offset < length (get_or outputs k [])
     → spots_from place outputs (bytes_of k outputs + offset) ≡ spot (place + k) offset ∷ []
 spot_at place [] k offset less = search rules
@@ -197,7 +198,7 @@ spot_at place (bytes ∷ outputs) zero offset less = grind arith
 spot_at place (bytes ∷ outputs) (suc k) offset less =
     grind (arith, spot_past, spot_at (place + 1) _ k _ less)
 
--- a byte that goes to a spot is one of an output
+-- a byte that goes to a spot is a byte of an output
 record IsIn (place : ℕ) (outputs : List (List ℕ)) (i : ℕ) (at : Spot) : Type 0 where
   k : ℕ
   there : at.place ≡ place + k
@@ -226,7 +227,7 @@ pub record IsStretch (whole : List ℕ → Part) (spots_of : List ℕ → ℕ �
   pub there : (x : List ℕ) (i : ℕ) → length (before x) ≤ i
       → spots_of x i ≡ spots_from place (outputs x) (i - length (before x))
 
--- the outputs that aren't empty
+-- the outputs after those that are empty
 past_empty : (place k : ℕ) (outputs : List (List ℕ))
     → get_or (replicate place [] ++ outputs) (place + k) [] ≡ get_or outputs k []
 past_empty place k outputs = grind (arith, common_steps)
@@ -280,8 +281,8 @@ module _ (work : Work) {spots_of : List ℕ → ℕ → List Spot} (place : ℕ)
     apart = grind (arith, stretched);
   }
 
--- There is one list of outputs that all continuations agree on, and one stretch of bytes that is undecided.
--- beginnings of one text that are as long as each other are the same
+-- Beginnings of one text that are as long as each other are the same. By this there is one list of outputs that all
+-- continuations agree on, and one stretch of bytes that is undecided.
 beginnings_same : {A : Type 0} (one other whole : List A) → IsBeginning one whole → IsBeginning other whole
     → length one ≡ length other → one ≡ other
 beginnings_same one other whole (rest, is) (more, are) same =
@@ -310,12 +311,12 @@ begins_at : {low high : Part} (place : ℕ) → Begins low high → place < leng
 begins_at zero begins less = begins.out
 begins_at (suc place) begins less = files_at _ _ _ begins.files (omega arith)
 
--- as many outputs
+-- neither of two agreed lists of outputs has more outputs than the other
 no_more : (work : Work) {x : List ℕ} (one other : Part) → IsAgreed work x one → IsAgreed work x other
     → length (outputs_of one) ≤ length (outputs_of other)
 no_more work one other agreed also = grind (arith, common_steps, no_fewer, length-map, common)
 
--- and in each as many bytes
+-- no output has more bytes in one of two agreed lists than in the other
 no_longer : (work : Work) {x : List ℕ} (one other : Part) (place : ℕ) → IsAgreed work x one → IsAgreed work x other
     → place < length (outputs_of one) → place < length (outputs_of other)
     → length (output_at one place) ≤ length (output_at other place)
@@ -334,7 +335,7 @@ one_is_agreed work x one other agreed also =
     (begins_at _ (agreed.common [] none_comes) less) (begins_at _ (also.common [] none_comes) within)
     (let short = no_longer work one other place agreed also less within in omega (arith, no_longer work other one place also agreed within less)))
 
--- places that are said otherwise are the same
+-- the waiting elements are the same if their places are said in another way
 pub alike_differ : {A P : Type 0} {comes : List A → Type 0} (Goes Other : List A → ℕ → P → Type 0) {x waiting : List A}
     → ((x : List A) (i : ℕ) (at : P) → Goes x i at ↔ Other x i at) → DifferOn comes Goes x waiting
     → DifferOn comes Other x waiting

@@ -23,7 +23,7 @@ last_digit : (width : ℕ) {n : ℕ} → n < 10 ^ suc width
 last_digit width {n} small = let front : suc width - 1 ≡ width = omega arith in
     more_digits Digits (omega arith) small ∙ ap (λ digits. written Digits digits (n / 10) ++ (48 + n % 10) ∷ []) front
 
--- filled with zeros, it is its last digits
+-- filled with zeros to any width that holds n, the text is n written with this width
 abbrev Fills : ℕ → List ℕ → Type 0
 Fills n text = (width : ℕ) → n < 10 ^ suc width → zero_filled (suc width) text ≡ written Digits (suc width) n
 
@@ -46,7 +46,7 @@ pub fills : (width n : ℕ) → 0 < width → n < 10 ^ width → n < 2 ^ 64
 fills zero n some small least = absurd (omega arith)
 fills (suc width) n some small least = decimal_by_steps Fills fills_one fills_more n least width small
 
--- it has as many digits as it needs, and one for 0
+-- a number in decimal has as many digits as it needs; the number 0 has one digit
 long_enough : (n : ℕ) → n < 2 ^ 64 → digit_count Digits n ≤ length (decimal n)
 long_enough n least =
     grind (arith, decimal_is_IsNumeral, digits_needed, digits_value-lt)

@@ -1,4 +1,4 @@
--- What the writer of files does with what is begun: it has no file yet, gets one, and ends
+-- What the writer of files does with a file that was begun: it is made, gets its first bytes, and ends.
 use Rattle.std.proofs.{
   lemmas.{Grind.common_steps, List.length-map},
   Common.{◌≡◌, ℕ, ◌+◌, ◌<◌, ◌^◌, suc, eqb, Bool, false, IsTrue, List, [], ◌∷◌, ◌++◌, length, map, decimal, Option},
@@ -45,9 +45,9 @@ use Rattle.ports_core.specs.inner.Write as short
 use Rattle.ports_core.specs.declared.fault.Fault.TheVariants as fault
 use Rattle.ports_core.specs.declared.slot.State.TheVariants as state
 
--- A file is made for what is begun.
+-- A file is made of what was begun.
 
--- what is known where what is begun has no file, and one is made of it after a change
+-- what was begun has no file, and a change makes a file of it
 pub record Unwritten (draft next : Draft) : Type 0 where
   same : next.ended ≡ draft.ended
   none : made_of draft.opening draft.bytes ≡ []
@@ -61,20 +61,20 @@ module _ {manner : Manner} {writer : WriterState} {draft : Draft} (none : made_o
   unmade_count : writer.names.drawn ≡ length draft.ended
   unmade_count = writes.made ∙ unmade_shares _ none
 
-  -- its name
+  -- the name of the file that is due
   due_name : next_name writer.names ≡ name_after manner draft
   due_name = grind (arith, unmade_count)
 
-  -- what standard output is told of it first
+  -- the line that standard output gets first
   line_told : line_next writer.tells writer.names ≡ told_before manner.output (name_after manner draft)
   line_told = grind (arith, due_name)
 
-  -- all files up to it have names then
+  -- all files up to the file that is due have names
   due_named : (next : Draft) → writer.names.drawn < 2 ^ 64 → Unwritten draft next → IsTrue (has_next writer.names)
       → AreNamed manner (suc (length next.ended))
   due_named next few so has = grind (arith, common_steps)
 
-  -- the part with it
+  -- the part with the file that is due
   due_part : (next : Draft) → writer.names.drawn < 2 ^ 64 → Unwritten draft next → IsTrue (has_next writer.names)
       → draft_part manner next
       ≡ with_last (begun_out manner.output (ended_files manner draft) (name_after manner draft))
@@ -116,7 +116,7 @@ unmade_leaves can makes = rw makes.same (record {
   ready = tt;
 })
 
--- standard output is told of it before that
+-- standard output gets its line before the file is opened
 
 last_same : (current : Current) (first : ℕ) (old new : List Slot) → length new ≡ length old → IsLast current first old
     → IsLast current first new
@@ -134,7 +134,7 @@ line_leaves : (told : Bool) {writer : WriterState} {old : List Slot} → IsReady
 line_leaves told {writer} ready = wrote_leaves told 0 (line_next writer.tells writer.names) None refl
     (λ first last. last_same _ _ _ _ (length-changed_at 0 _ _) last) (keeps_write 0 _ _ _ refl) (open_same _ _ _ ready.current) ready refl
 
--- it was made
+-- the file was made
 made_becomes : {told : Bool} (manner : Manner) {writer made : WriterState} (draft : Draft) {slot : ℕ}
     {old mid new : List Slot} → next_name writer.names ≡ name_after manner draft
     → mid ≡ with_written 0 (told_of told (told_before manner.output (name_after manner draft))) old
@@ -145,7 +145,7 @@ made_becomes : {told : Bool} (manner : Manner) {writer made : WriterState} (draf
 made_becomes {told} manner draft {mid} name line made = becomes_again (line_begins _) (out_added _ _ _ line)
     (opens _ _ _ _ _ (made.added ∙ ap (λ those. mid ++ opened those Fresh ∷ []) name))
 
--- it could not be made
+-- the file could not be made
 module _ {told : Bool} {writer next : WriterState} {change : Draft → Draft} {old new : List Slot} {f : Fault}
     (ready : IsReady writer old) (of : (draft : Draft) → IsCurrent writer.tells draft.opening draft.bytes writer.current
     → Unwritten draft (change draft)) (makes : MakesNone told writer old new next f) where
@@ -155,7 +155,7 @@ module _ {told : Bool} {writer next : WriterState} {change : Draft → Draft} {o
       (ap (λ ended. part_of manner (map (share state.Closed) ended ++ [])) so.same ∙ ap (part_of manner) (append-nil (map (share state.Closed) draft.ended)))
       (part_grows manner (map (share state.Closed) (change draft).ended) [] _ tt)
 
-  -- the file that is due
+  -- the file that was due
   unmade_due : (manner : Manner) (draft : Draft) → Unwritten draft (change draft) → Writes manner writer draft
       → IsNextName writer.names (next_name writer.names)
       → (bytes : List ℕ)
@@ -164,7 +164,7 @@ module _ {told : Bool} {writer next : WriterState} {change : Draft → Draft} {o
       (file_of (next_name writer.names) bytes state.Open))
   unmade_due manner draft so writes (few, has, same) = ((change draft).bytes, rw (due_name so.none writes) (due_part so.none writes (change draft) few so has))
 
-  -- names ran out: the part after the change has no file more
+  -- names ran out: the part after the change has no more files
   unmade_short : f ≡ Verdict Suffixes → (manner : Manner) (draft : Draft) → Writes manner writer draft
       → RunsShort told writer change manner draft old new
   unmade_short is manner draft writes = ran (subst (OpensNone told writer.tells writer.names next.names old new) is makes.none) where
@@ -194,7 +194,7 @@ module _ {told : Bool} {writer next : WriterState} {change : Draft → Draft} {o
     writes = tt;
   }
 
--- and gets its first bytes, if there are any
+-- a file was made and gets its first bytes, if there are any
 pub goes_made : {told : Bool} {writer made next : WriterState} {change : Draft → Draft} {slot : ℕ} (bytes : List ℕ)
     {old mid new : List Slot} {fault : Option Fault}
     → ((draft : Draft) → IsCurrent writer.tells draft.opening draft.bytes writer.current
@@ -234,28 +234,28 @@ goes_made {told} {writer} {made} {next} {change} {slot} bytes {old} {mid} {new} 
   leaves = leaves_again (line_leaves told ready) (leaves_again (made_leaves line_ready makes)
       (appends_leaves bytes is_file (made_ready line_ready makes) appends))
 
--- The first bytes of what gets its file with them
+-- The first bytes of a file that is opened with its first byte
 pub first_bytes : (tells : Tells) {current : Current} (bytes : List ℕ) → current ≡ Due → false ≡ eqb (length bytes) 0
     → (draft : Draft) → IsCurrent tells draft.opening draft.bytes current
     → Unwritten draft (with_bytes bytes draft) × (draft.bytes ++ bytes ≡ bytes)
 first_bytes tells bytes is some draft now = search rules
 
--- What is begun where nothing is
+-- A file is begun while nothing is
 
 pub paused_ready : {writer : WriterState} {slots : List Slot} → IsReady writer slots → IsReady (paused writer) slots
 paused_ready ready = grind arith
 
--- what was begun had no file
+-- what was begun had no file, so no more files have ended
 pub ended_none : (draft : Draft) → made_of draft.opening draft.bytes ≡ []
     → draft.ended ++ made_of draft.opening draft.bytes ≡ draft.ended
 ended_none draft none = search rules
 
--- what has one at once is begun
+-- a file is begun that is opened at once
 pub at_once : {opening : Opening} → opening ≡ AtOnce → (draft : Draft) → draft.opening ≡ Never
     → Unwritten draft (with_next opening draft)
 at_once is draft never = grind (arith, common_steps)
 
--- it could not be made
+-- a file that was to be opened at once could not be made
 pub begin_unmade : {told : Bool} {writer next : WriterState} {opening : Opening} {old new : List Slot} {f : Fault}
     → opening ≡ AtOnce → IsReady writer old → MakesNone told writer old new next f
     → Goes told (paused writer) (with_next opening) old new next (Some f)
@@ -273,7 +273,7 @@ begin_made {told} {next = next} {slot = slot} is ready made =
     (record { few = made.few; named = made.named; place = made.place; added = made.added; same = made.same })
     (record { same = refl; current = (0, ap (λ (w : WriterState). w.current) made.same, counts_none next.tells); still = tt; wrote = none_written told slot })
 
--- What is begun ends, where it has a file.
+-- What was begun ends, if it has a file.
 
 file_ends : {manner : Manner} {writer : WriterState} {draft : Draft} (slot size : ℕ) → writer.current ≡ File slot size
     → Writes manner writer draft → Writes manner (paused writer) (with_next Never draft)
@@ -299,8 +299,7 @@ closed_leaves slot size is ready closed =
       ready = grind (arith, can_tell, common_steps, there_same);
     }
 
--- the file breaks as it is closed
--- what standard output is told as a file is opened begins what it is told of it in all
+-- what standard output gets before a file is opened is a beginning of what it gets about this file in all
 closed_told : (output : Output) (name bytes : List ℕ)
     → IsBeginning (told_before output name) (told_of_files output (file_of name bytes state.Closed ∷ []))
 closed_told (gets_lines line) name bytes = nothing_begins _
@@ -347,7 +346,7 @@ close_not {told} {writer} slot size {old} {new} is ready which broken = subst (�
       owns : KeepsFiles writer (paused writer) old new
       owns = file_closed (made_again old (changed_at slot closes old) new (made_close slot old _ (at_file is ready).1 refl) (made_break slot _ new broken))
 
--- it is told of, or standard output breaks
+-- standard output gets the line for a closed file, or breaks
 tells_file : (tells : Tells) (output : Output) (told : Bool) (size : ℕ) (front : List PartFile) (file : PartFile)
     (old : List Slot) {new : List Slot} (fault : Option Fault) → output_of tells ≡ output → file.state ≡ state.Closed
     → IsCounted tells file.bytes size → AllClosed front → 0 < length old → TellsSize told tells size old new fault
@@ -374,7 +373,7 @@ told_leaves told writer size {old} {new} fault Sizes is ready wrote =
       slots (Some f) can wrote = grind (arith, line_breaks)
 told_leaves told writer size fault tells is ready (well, same) = rw (well, same) (leaves_still ready)
 
--- what can go wrong there is a write
+-- if writing a size fails, that is a failed write
 pub tells_write : (told : Bool) (tells : Tells) (size : ℕ) (old new : List Slot) (result : Result (Unit {0}) Fault)
     → TellsSize told tells size old new (fault_in result) → IfErr result IsWrite
 tells_write told tells size old new (Ok done) tells_it = tt
@@ -382,7 +381,7 @@ tells_write told Nothing size old new (Err f) (well, same) = absurd (cc)
 tells_write told Sizes size old new (Err _) (short.broke n cut) = (0, refl)
 tells_write told Openings size old new (Err f) (well, same) = absurd (cc)
 
--- telling a size wants no names
+-- writing a size needs no names
 told_short : (P : Type 0) (told : Bool) (tells : Tells) (size : ℕ) (old new : List Slot) (fault : Option Fault)
     → TellsSize told tells size old new fault → IfSome fault (λ fault. fault ≡ Verdict Suffixes → P)
 told_short P told Sizes size old new fault wrote = never_short P told 0 (decimal size ++ 10 ∷ []) _ _ _ wrote

@@ -45,12 +45,13 @@ use Rattle.ports_core.specs.inner.Write as short
 use Rattle.ports_core.specs.declared.fault.Fault.TheVariants as fault
 use Rattle.ports_core.specs.declared.slot.State.TheVariants as state
 
--- Outputs that have a part have another, as a file is opened or standard output gets a line; or a fault stops them in between.
+-- Outputs get from one part to another as a file is opened or standard output gets a line; or a fault stops them in
+-- between.
 
 -- standard output gets the line for the last file, which is closed
 module _ (line : PartFile → List ℕ) (told : Bool) (front : List PartFile) (file : PartFile)
     (shut : file.state ≡ state.Closed) where
-  -- the line of the last file alone is cut short
+  -- only the line of the last file is cut short
   cut_short : (n : ℕ) (high : Part)
       → LinesTo (gets_lines line) (with_last (lines_for line front ++ take n (line file)) front file) high
       (length front) (fault.Write 0)
@@ -80,7 +81,7 @@ module _ (line : PartFile → List ℕ) (told : Bool) (front : List PartFile) (f
         cut.slots,
       ) (λ before at. inl refl))
 
--- a `?` handed a fault on
+-- a statement on the fault of a call in which a `?` handed a fault on
 pub stop_is : {T : Type 0} (P : Option Fault → Type 0) (result : Result T Fault) (fault : Fault)
     → IsErrAnd result (λ given. given ≡ fault) → P (Some fault) → P (fault_in result)
 stop_is P result fault handed holds = grind (arith, handed_on)
@@ -93,14 +94,14 @@ pub reaches_again : {output : Output} {told : Bool} {low middle high : Part} {ol
     → Reaches output told two three middle high mid new fault → Reaches output told one three low high old new fault
 reaches_again begins first second = grind (arith, there_from)
 
--- it was stopped on its way to more
+-- a step that was stopped is a step to more that was stopped there
 pub stops_wider : {output : Output} {told : Bool} {low middle high : Part} {old new : List Slot} {fault : Fault}
     {writer next : WriterState} → Reaches output told writer next low middle old new (Some fault) → Begins middle high
     → Reaches output told writer next low high old new (Some fault)
 stops_wider stops begins =
     record { there = λ before at. turn_between _ _ _ _ _ _ _ _ _ (part_begins_itself _) (stops.there before at) begins }
 
--- a step that is known of the outputs alone, as long as the open file is the last
+-- a step is known for the outputs alone, as long as the open file is the last output
 pub reaches_by : {output : Output} {told : Bool} {low high : Part} {old new : List Slot} {fault : Option Fault}
     {writer next : WriterState} → KeepsFiles writer next old new
     → ((first : ℕ) → IsLast writer.current first old → Becomes output told low high old new fault)
@@ -113,7 +114,7 @@ reaches_by {output} {told} {low} {high} {old} {new} {fault} {writer} {next} keep
       by None before at outputs = grind arith
       by (Some why) before at stops = stops
 
--- the same of parts that are written otherwise
+-- a step between two parts that are written in another way
 pub reaches_as : {output : Output} {told : Bool} {low low' high high' : Part} {old new : List Slot}
     {fault : Option Fault} {writer next : WriterState} → low ≡ low' → high ≡ high'
     → Reaches output told writer next low' high' old new fault → Reaches output told writer next low high old new fault
@@ -151,13 +152,13 @@ lacks_memory manner draft named = elim (made_or draft.opening draft.bytes) [
 
 -- Outputs that were broken stay broken, and files stay the writer's own.
 
--- what is so of a call that ended for want of names
+-- what follows from a statement on a call that ran out of names
 pub where_short : {A B : Type 0} (fault : Option Fault) → IfSome fault (λ fault. fault ≡ Verdict Suffixes → A) → (A → B)
     → IfSome fault (λ fault. fault ≡ Verdict Suffixes → B)
 where_short None holds follows = tt
 where_short (Some why) holds follows = λ is. follows (holds is)
 
--- what is so of a call that went well
+-- what follows from a statement on a call that went well
 pub where_well : {A B : Type 0} (fault : Option Fault) → IfNone fault A → (A → B) → IfNone fault B
 where_well fault holds follows = grind arith
 
@@ -178,7 +179,7 @@ pub breaks_later : {manner other : Manner} (old mid new : List Slot) (fault : Fa
     → KeepsBroken old mid → Breaks other mid new fault → Breaks manner old new fault
 breaks_later old mid new fault same keeps breaks = grind arith
 
--- how files are made stays
+-- a call doesn't change how files are made
 pub same_manner : {writer next : WriterState} {old new : List Slot} {fault : Option Fault}
     → Leaves writer next old new fault → manner_in next ≡ manner_in writer
 same_manner leaves = grind (arith, common_steps)
@@ -195,7 +196,7 @@ pub leaves_still : {writer : WriterState} {slots : List Slot} → IsReady writer
     → Leaves writer writer slots slots None
 leaves_still ready = grind (arith, keeps_files)
 
--- want of memory leaves them as they are
+-- want of memory leaves the writer and its outputs as they are
 pub leaves_lacking : {writer : WriterState} {slots : List Slot} → Leaves writer writer slots slots (Some Memory)
 leaves_lacking = grind (arith, keeps_files)
 
@@ -204,12 +205,12 @@ pub at_file : {writer : WriterState} {slot size : ℕ} {slots : List Slot} → w
     → IsReady writer slots → (2 ≤ slot) × IsTrue (is_writable slots slot)
 at_file is ready = grind (arith, common_steps)
 
--- and is the last output, where that is known of it
+-- the open file is the last output, if that is known of the current file
 pub last_file : (writer : WriterState) {slot size first : ℕ} (slots : List Slot) → writer.current ≡ File slot size
     → IsLast writer.current first slots → (first ≤ slot) × (suc slot ≡ length slots)
 last_file writer slots is last = grind (arith, common_steps)
 
--- what can be told stays so, where standard output can still be written
+-- lines about files can still be written if standard output can still be written
 pub can_tell : (tells : Tells) (old new : List Slot) → (IsTrue (is_writable old 0) → IsTrue (is_writable new 0))
     → CanTell tells old → CanTell tells new
 can_tell Nothing old new stays can = tt
@@ -232,7 +233,7 @@ among_more : (place slot : ℕ) (files : List ℕ)
     → is_among place (files ++ slot ∷ []) ≡ (is_among place files || eqb place slot)
 among_more place slot files = or_push (is_among place) (eqb place) refl (λ one others. refl) files slot
 
--- a file that is there stands before the end
+-- a file that is opened stands after all files that are there
 
 there_more : (files : List ℕ) (slots : List Slot) (name : List ℕ) {slot : ℕ} → slot ≡ length slots → 2 ≤ length slots
     → AreThere files slots → AreThere (files ++ slot ∷ []) (slots ++ opened name Fresh ∷ [])
@@ -279,14 +280,14 @@ owned_unopened {writer = writer} {next = next} {old = old} {new} none = let kept
 
 -- Which faults come
 
--- the manner in which files are made may be said otherwise
+-- a fault has its causes if the manner in which files are made is written in another way
 pub breaks_as : {manner own : Manner} (old new : List Slot) (fault : Fault) → IsManner manner own
     → Breaks own old new fault → Breaks manner old new fault
 breaks_as old new (fault.Write slot) same (out, rose) = grind arith
 breaks_as old new (Verdict Suffixes) same (place, few, none) = grind (arith, common_steps)
 breaks_as old new fault same breaks = breaks
 
--- standard output breaks where it is told anything alone
+-- standard output breaks in a line only if it gets lines
 line_rose : (told : Bool) (tells : Tells) (names : Names) (n : ℕ) {old new : List Slot} → CanTell tells old
     → BrokeAfter told old new 0 (line_next tells names) n → (writes (output_of tells) ≡ true) × Rose 0 old new
 line_rose told Openings names n can cut = search (rules, write_rose)
@@ -313,32 +314,32 @@ one_left zero (suc all) less = refl
 one_left (suc n) (suc all) less = one_left n _ (omega arith)
 one_left n all less = absurd (omega arith)
 
--- of a row of newlines the front was replaced by the digits, and one more is taken
+-- in a row of newlines the digits replaced the front, and one newline after them is taken
 pub line_is : (size all : ℕ) {digits : List ℕ} (copied : List ℕ) → copied ≡ digits → digits ≡ decimal size
     → length digits < all
     → take (length digits + 1) (copied ++ drop (length digits) (replicate all 10)) ≡ decimal size ++ 10 ∷ []
 line_is size all copied same is fits = search (rules, take-append-add, one_left)
 
--- What is begun
+-- What was begun
 
 pub now_is : {manner : Manner} {writer : WriterState} {draft : Draft} {current : Current} → writer.current ≡ current
     → Writes manner writer draft → IsCurrent writer.tells draft.opening draft.bytes current
 now_is is writes = grind arith
 
--- all its files have names, the open one too
+-- all files of the writer have names, also the open file
 pub file_named : {manner : Manner} {writer : WriterState} {draft : Draft}
     → made_of draft.opening draft.bytes ≡ draft.bytes ∷ [] → Writes manner writer draft
     → AreNamed manner (suc (length draft.ended))
 file_named makes writes = grind (arith, made_count)
 
--- it writes more, where no file was made
+-- the writer goes on, and no file was made
 pub writes_on : {manner : Manner} {writer next : WriterState} {draft after : Draft}
     → next ≡ record writer { current = next.current } → length (shares_of draft) ≡ length (shares_of after)
     → IsCurrent writer.tells after.opening after.bytes next.current → Writes manner writer draft
     → Writes manner next after
 writes_on same count current writes = grind (arith, common_steps)
 
--- Nothing is written: what is begun had no file, and has none
+-- Nothing is written: what was begun had no file, and gets none
 
 pub goes_still : {told : Bool} {writer : WriterState} {change : Draft → Draft} (current : Current) {slots : List Slot}
     → IsReady writer slots → IsOpenAt current slots
@@ -351,7 +352,7 @@ goes_still {writer = writer} current {slots} ready at last stays = grind (arith,
   keeps : KeepsFiles writer (record writer { current = current }) slots slots
   keeps = grind arith
 
--- nothing more is written
+-- a call without bytes writes nothing
 pub put_nothing : {told : Bool} {writer : WriterState} {bytes : List ℕ} {slots : List Slot} → bytes ≡ []
     → IsReady writer slots → Goes told writer (with_bytes bytes) slots slots writer None
 put_nothing none ready = grind (arith, common_steps)
@@ -370,7 +371,7 @@ wrote_slots : (told : Bool) (manner : Manner) (slot : ℕ) (bytes : List ℕ) (o
 wrote_slots told manner slot bytes old new None at wrote = keeps_write _ _ _ _ wrote
 wrote_slots told manner slot bytes old new (Some _) at (short.broke n cut) = (λ none. absurd (omega arith), write_rose _ _ _ n _ _ at.1 cut)
 
--- a write never wants for names
+-- a write needs no names
 pub never_short : (P : Type 0) (told : Bool) (slot : ℕ) (bytes : List ℕ) (old new : List Slot) (fault : Option Fault)
     → Wrote told slot bytes old new fault → IfSome fault (λ fault. fault ≡ Verdict Suffixes → P)
 never_short P told slot bytes old new None wrote = tt
@@ -381,14 +382,14 @@ wrote_made : (told : Bool) (slot : ℕ) (bytes : List ℕ) (old new : List Slot)
 wrote_made told slot bytes old new None wrote = made_write _ _ _ _ wrote
 wrote_made told slot bytes old new (Some f) wrote = made_short _ _ _ _ _ f wrote
 
--- what can be written still can, where a write went well
+-- after a write that went well, an output that could be written still can
 wrote_can : (told : Bool) (slot : ℕ) (bytes : List ℕ) (place : ℕ) (old new : List Slot) (fault : Option Fault)
     → Wrote told slot bytes old new fault
     → IfNone fault (IsTrue (is_writable old place) → IsTrue (is_writable new place))
 wrote_can told slot bytes place old new None wrote = grind (arith, written_writable)
 wrote_can told slot bytes place old new (Some f) wrote = tt
 
--- a write to one of the outputs
+-- what a write to one of the outputs leaves of a writer
 pub wrote_leaves : (told : Bool) {writer next : WriterState} (slot : ℕ) (bytes : List ℕ) {old new : List Slot}
     (fault : Option Fault) → next ≡ record writer { current = next.current }
     → ((first : ℕ) → IsLast writer.current first old → IsLast next.current first new)
@@ -415,12 +416,12 @@ wrote_leaves told {writer} {next} slot bytes {old} {new} fault same last slots s
   owns : KeepsFiles writer next old new
   owns = grind (arith, there_same, made)
 
--- bytes can be counted where 64 bits count them
+-- a count below 2^64 can be counted
 pub can_count : (tells : Tells) (size : ℕ) (bytes : List ℕ) → size + length bytes < 2 ^ 64 → CanCount tells size bytes
 can_count Sizes size bytes few = few
 can_count tells size bytes few = tt
 
--- the bytes that are counted
+-- the count of bytes stays right
 pub counted_on : (tells : Tells) (had bytes : List ℕ) (size more : ℕ) → IsCounted tells had size
     → CountsOn tells size bytes more → IsCounted tells (had ++ bytes) more
 counted_on Sizes had bytes size more is on = grind (arith, length-append)

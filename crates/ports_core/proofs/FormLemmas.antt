@@ -1,4 +1,4 @@
--- How many digits a number has, and what is read of one in a form.
+-- How many digits a number has, and what is read of a number in a form.
 use Rattle.std.proofs.{
   Common.{◌≡◌, ℕ, ◌+◌, ◌-◌, ◌*◌, ◌/◌, ◌%◌, ◌^◌, ◌<◌, ◌≤◌, ◌==◌, ◌||◌, ◌&&◌, zero, suc, not},
   Common.{nat_lt, Bool, true, false, cond, List, [], ◌∷◌, ◌++◌, length, filter, replicate, inl, inr, refl, sym, ◌∙◌},
@@ -20,7 +20,7 @@ use Rattle.ports_core.specs.declared.form.Base.TheVariants as base
 
 -- how many digits a number has
 
--- the bound is enough
+-- the digits that are found are enough, if the bound is enough
 enough_up_to : (alphabet : Alphabet) (number bound : ℕ) → number < radix alphabet ^ bound
     → number < radix alphabet ^ digits_up_to alphabet number bound
 enough_up_to alphabet number zero small = small
@@ -28,7 +28,7 @@ enough_up_to alphabet number (suc bound) small =
     cond_both (nat_lt number (radix alphabet ^ bound)) (digits_up_to alphabet number bound) (suc bound) (λ count. number < radix alphabet ^ count)
     (λ less. enough_up_to _ _ bound (ltb-true _ _ less)) (λ more. small)
 
--- and none of them can be left out
+-- no fewer digits than those that are found are enough
 pub least_up_to : (alphabet : Alphabet) (number bound count : ℕ) → number < radix alphabet ^ count
     → digits_up_to alphabet number bound ≤ count
 least_up_to alphabet number zero count small = omega arith
@@ -42,7 +42,7 @@ least_up_to alphabet number (suc bound) count small =
           absurd (omega (arith, ltb-false _ _ more, pow-le-pow_right some reached))
     ])
 
--- a number is below the power of its own
+-- a number is below the radix to the power of this number
 below_power : (alphabet : Alphabet) (number : ℕ) → number < radix alphabet ^ number
 below_power alphabet zero = power_positive _ 0
 below_power alphabet (suc number) =
@@ -67,18 +67,18 @@ counted alphabet {number} {log} least most is =
       | inr reached ↦ absurd (omega (arith, digits_enough alphabet number, pow-le-pow_right some reached))
     ]
 
--- more digits are enough too
+-- more digits are enough, too
 pub below_more : (alphabet : Alphabet) {number few count : ℕ} → number < radix alphabet ^ few → few ≤ count
     → number < radix alphabet ^ count
 below_more alphabet small more = grind (arith, many_characters, pow-le-pow_right)
 
--- what is written of a number
+-- a number that is written with a width has this many characters
 
 pub length_written : (alphabet : Alphabet) (width number : ℕ) → length (written alphabet width number) ≡ width
 length_written alphabet zero number = refl
 length_written alphabet (suc width) number = ap suc (length_written _ _ _)
 
--- what blanks make of a text
+-- a text that blanks fill
 pub before : {filling : Filling} (width : ℕ) (text : List ℕ) {blanks : ℕ} → filling ≡ BlanksBefore
     → blanks ≡ width - length text → filled filling width text ≡ replicate blanks 32 ++ text
 before width text filling blanks = rw (filling, blanks) refl
@@ -87,9 +87,9 @@ pub after : {filling : Filling} (width : ℕ) (text : List ℕ) {blanks : ℕ} �
     → blanks ≡ width - length text → filled filling width text ≡ text ++ replicate blanks 32
 after width text filling blanks = rw (filling, blanks) refl
 
--- what is read of it
+-- What is read of a number in a form
 
--- neither blanks nor the letters of a mark are digits
+-- whether a byte is no blank and no letter of a mark
 abbrev is_shown : ℕ → Bool
 is_shown byte = not (byte == 32 || byte == 88 || byte == 120)
 
@@ -106,7 +106,7 @@ are_digits base.Hex digit small = grind arith
 are_digits base.Capitals digit small = grind arith
 are_digits base digit small = grind arith
 
--- so the digits are shown, and have the value of the number that they write after others
+-- the digits of a number are shown; after other digits they have the value of the number
 written_value : (alphabet : Alphabet) → IsDigit alphabet → (width number front : ℕ) → number < radix alphabet ^ width
     → digits_value_after (radix alphabet) front (filter is_shown (written alphabet width number))
     ≡ front * radix alphabet ^ width + number
@@ -146,6 +146,6 @@ formatted_value form number =
     ∙ mark_value form.base (form.is_marked && nat_lt 0 number) (written alphabet (digits_written form number) number)
     ∙ written_value _ (are_digits _) _ _ 0 enough ∙ omega arith
 
--- so no two numbers are written alike
+-- no two numbers are written alike
 pub no_two_alike : (form : Form) {one other : ℕ} → formatted form one ≡ formatted form other → one ≡ other
 no_two_alike form same = sym (formatted_value form _) ∙ ap (value_in form.base) same ∙ formatted_value form _

@@ -49,7 +49,7 @@ module _ {S : Type 0} (terms : Terms S) (told : Bool) (stage : S) (slots : List 
     met = why;
   }
 
--- why its stage stopped is why an engine did
+-- the cause of a stage's fault is a cause of the engine's fault
 pub caused : (Met : Fault → Type 0) {is_over : Bool} (fed size : ℕ) (old new : List Slot)
     (result : Result (Unit {0}) Fault) → is_over ≡ false → IfErr result Met
     → IfErr result (IsCaused Met is_over fed size old new)

@@ -1,4 +1,4 @@
--- What a function returns where a `?` handed a fault on, from what is known there of the conversion.
+-- What a function returns if a `?` handed a fault on, by what is known of the conversion there.
 use Rattle.std.proofs.{Common.{◌≡◌, ℕ, Result, Err, IfErr, IsErrAnd, arith}}
 use Rattle.ports_core.specs.declared.fault.Fault.{Fault, TheVariants.Write}
 

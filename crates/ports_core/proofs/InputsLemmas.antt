@@ -11,7 +11,7 @@ use Rattle.ports_core.specs.{
 }
 use Rattle.ports_core.proofs.{SlotLemmas.{changed_there, elsewhere, length-changed_at}, SourceLemmas.readable_within}
 
--- what was read of the input with this number so far, and what is left of it
+-- the bytes x were read of this input, and the others are left
 pub record HasRead (content : Content) (x : List ℕ) (slot : ℕ) (sources : List Source) : Type 0 where
   pub bytes : content.bytes ≡ x ++ (source_at sources slot).left.bytes
   pub breaks_off : (source_at sources slot).left.breaks_off ≡ content.breaks_off
@@ -19,7 +19,7 @@ pub record HasRead (content : Content) (x : List ℕ) (slot : ℕ) (sources : Li
 pub nothing_read : (slot : ℕ) (sources : List Source) → HasRead (source_at sources slot).left [] slot sources
 nothing_read slot sources = grind arith
 
--- a change of one input
+-- a change of one input changes no other
 
 pub changed_elsewhere : {X : Type 0} (default : X) (place other : ℕ) (change : X → X) (xs : List X)
     → (other ≡ place → ⊥) → slice_index_or (changed_at place change xs) other default ≡ slice_index_or xs other default
@@ -36,7 +36,7 @@ pub keeps_again : (slot : ℕ) (old mid new : List Source) → KeepsOthers slot 
     → KeepsOthers slot old new
 keeps_again slot old mid new first second = grind arith
 
--- an input that can be read is there, so the change is one of it
+-- a change of an input that can be read is a change of its source
 pub changed_source : (slot : ℕ) (change : Source → Source) (sources new : List Source)
     → IsTrue (is_readable sources slot) → new ≡ changed_at slot change sources
     → source_at new slot ≡ change (source_at sources slot)
@@ -47,7 +47,7 @@ pub sound_at : (sources : List Source) (slot : ℕ) → IsTrue (is_readable sour
     → (source_at sources slot).is_broken ≡ false
 sound_at sources slot can = grind arith
 
--- a read changes no flag
+-- an input that can be read still can after a read
 pub still_readable : (slot : ℕ) (sources new : List Source) (size n : ℕ) → new ≡ changed_at slot (gives size n) sources
     → IsTrue (is_readable sources slot) → IsTrue (is_readable new slot)
 still_readable slot sources new size n is can = grind (arith, changed_source)
@@ -67,13 +67,13 @@ pub read_broken : (content : Content) (x : List ℕ) (slot : ℕ) (sources : Lis
     → BrokeOff (source_at sources slot).left → (content.bytes ≡ x) × (content.breaks_off ≡ true)
 read_broken content x slot sources read broke = grind (arith, append-nil)
 
--- an input that can be read came from its source, where it doesn't break off
+-- an input that can be read came from its source, if the content doesn't break off
 pub came_sound : (told : Bool) {content : Content} (sources : List Source) (slot : ℕ)
     → IsTrue (is_readable sources slot) → (told ≡ false → content.breaks_off ≡ false)
     → CameFrom told content (source_at sources slot)
 came_sound told sources slot can sound = grind arith
 
--- one whose read failed came from its source, where it breaks off
+-- an input whose read failed came from its source, if the content breaks off
 pub came_broken : (told : Bool) {content : Content} (slot size : ℕ) (sources new : List Source)
     → IsTrue (is_readable sources slot) → ReadFails slot size sources new
     → (told ≡ false → content.breaks_off ≡ true) → CameFrom told content (source_at new slot)
@@ -90,13 +90,13 @@ pub read_failed : (content : Content) (x : List ℕ) (slot : ℕ) (sources new :
     → content.bytes ≡ x ++ (source_at new slot).left.bytes
 read_failed content x slot sources new size read can (why, is) = grind (arith, changed_source)
 
--- the read that told the end took nothing
+-- a read that reported the end took nothing
 pub read_none_more : (content : Content) (x : List ℕ) (slot : ℕ) (sources new : List Source) (size n : ℕ)
     → HasRead content x slot sources → IsTrue (is_readable sources slot) → n ≡ 0
     → new ≡ changed_at slot (gives size n) sources → content.bytes ≡ x ++ (source_at new slot).left.bytes
 read_none_more content x slot sources new size n read can none is = grind (arith, changed_source)
 
--- no read asked for more
+-- a read that asks for no more than `most` bytes keeps to the limit
 pub asked_again : (slot size most n : ℕ) (sources new : List Source) → IsTrue (is_readable sources slot)
     → new ≡ changed_at slot (gives size n) sources → size ≤ most → (source_at sources slot).asked ≤ most
     → (source_at new slot).asked ≤ most
@@ -111,7 +111,7 @@ pub broken_now : (slot size : ℕ) (sources new : List Source) → IsTrue (is_re
     → ReadFails slot size sources new → (source_at new slot).is_broken ≡ true
 broken_now slot size sources new can (why, is) = grind (arith, changed_source)
 
--- the read that gave none, though there was room, told the end
+-- a read that gave nothing, though there was room, reported the end
 pub ended_now : (slot size n : ℕ) (sources new : List Source) → IsTrue (is_readable sources slot)
     → new ≡ changed_at slot (gives size n) sources → n ≡ 0 → 0 < size → (source_at new slot).ended ≡ true
 ended_now slot size n sources new can is none room = grind (arith, changed_source)

@@ -22,22 +22,22 @@ none_passed slot [] = refl
 none_passed zero (source ∷ sources) = grind (arith, common_steps)
 none_passed (suc slot) (source ∷ sources) = ap (λ those. source ∷ those) (none_passed _ _)
 
--- of an input that can be read a front was passed over
+-- the front of an input that can be read was passed over
 pub passed_at : (slot count : ℕ) (old new : List Source) → IsTrue (is_readable old slot)
     → new ≡ changed_at slot (skips count) old → source_at new slot ≡ skips count (source_at old slot)
 passed_at slot count old new can is = grind (arith, changed_there, readable_within)
 
--- where no look was made
+-- no look was made
 
 pub looked_none : (most slot : ℕ) (sources : List Source) → HasLooked most slot sources sources
 looked_none most slot sources = grind arith
 
--- one look
+-- one look was made
 pub looked_once : {most slot size : ℕ} {old new : List Source} → IsTrue (is_readable old slot) → size ≤ most
     → new ≡ changed_at slot (looks size) old → HasLooked most slot old new
 looked_once {size} can few is = record { size = size; within = few; looked = changed_source _ _ _ _ can is; others = keeps_others _ _ _ _ is }
 
--- more of them
+-- more looks were made
 pub looked_again : {least most slot : ℕ} {old mid new : List Source} → HasLooked most slot old mid
     → HasLooked least slot mid new → least ≤ most → HasLooked most slot old new
 looked_again first next few = record {
@@ -52,7 +52,7 @@ pub looked_readable : {most slot : ℕ} {old new : List Source} → HasLooked mo
     → IsTrue (is_readable old slot) → IsTrue (is_readable new slot)
 looked_readable looked can = grind arith
 
--- where none is passed over, what holds of nothing holds
+-- if no byte is passed over, a statement on the empty text is enough
 pub passes_none : (told : Bool) {slot : ℕ} (Keeps : List ℕ → Type 0) {sources : List Source} → Keeps []
     → PassesOver told slot 0 Keeps sources sources
 passes_none told Keeps keeps = grind (arith, none_passed)
@@ -81,7 +81,7 @@ passes_front false {count = count} can has few passed = record {
   keeps = tt;
 }
 
--- or none was, where that can't be done
+-- a front was passed over, or nothing if that can't be done
 pub passes_if : (told done : Bool) {slot count : ℕ} {old new : List Source} → IsTrue (is_readable old slot)
     → (IsTrue done → told ≡ true → count ≤ length (source_at old slot).left.bytes) → count < 2 ^ 63
     → (IsTrue done → new ≡ changed_at slot (skips count) old) → (done ≡ false → new ≡ old)
@@ -89,21 +89,21 @@ pub passes_if : (told done : Bool) {slot count : ℕ} {old new : List Source} �
 passes_if told true can has few passed stays = passes_front _ can (has refl) few (passed refl)
 passes_if told false can has few passed stays = rw (stays refl) (passes_none _ _ tt)
 
--- whether they were is known
+-- the flag that says whether bytes were passed over is known
 pub passes_by : {told : Bool} {slot : ℕ} {Keeps : List ℕ → Type 0} {old new : List Source} (count : ℕ) (done : Bool)
     {is : Bool} → done ≡ is
     → PassesOver told slot (if done then count else 0) Keeps old new
     → PassesOver told slot (if is then count else 0) Keeps old new
 passes_by count done is passes = grind arith
 
--- what holds of the bytes that were passed over
+-- what follows from a statement on the bytes that were passed over
 pub passes_so : {told : Bool} {slot count : ℕ} {Before : List ℕ → Type 0} (Keeps : List ℕ → Type 0)
     {old new : List Source}
     → PassesOver told slot count Before old new → ((x : List ℕ) → count ≡ length x → Before x → Keeps x)
     → PassesOver told slot count Keeps old new
 passes_so Keeps passes so = grind arith
 
--- a stage that takes in none stays as it was
+-- a stage that takes in nothing stays as it was
 
 module _ {S : Type 0} (terms : Terms S) where
   pub loads_none : (told : Bool) {slot : ℕ} {stage : S} {sources : List Source} → terms.Holds stage []
@@ -111,7 +111,7 @@ module _ {S : Type 0} (terms : Terms S) where
       → Loads terms told slot 0 stage stage sources sources
   loads_none told fresh none = passes_none _ _ (grind arith)
 
-  -- also where more might have been passed over
+  -- a stage stays as it was if no byte was passed over
   pub loads_still : {told : Bool} {slot : ℕ} {Before : List ℕ → Type 0} {stage : S} {old new : List Source}
       → terms.Holds stage []
       → terms.size stage ≡ 0 → PassesOver told slot 0 Before old new → Loads terms told slot 0 stage stage old new

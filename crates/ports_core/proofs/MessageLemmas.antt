@@ -34,21 +34,21 @@ says_on told message {said} is prints output error since shape =
     let printed = prints output error since shape in
     (printed.0, record { said = said; is = is; printed = printed.1 }, printed.2)
 
--- a fault of which a message is due
+-- a fault that isn't quiet was reported
 pub told_aloud : (told : Bool) {speaker : Speaker} (fault : Fault) {old new : List Slot}
     → is_quiet fault speaker.calling (output_reason old fault) ≡ false
     → SaysOn told speaker (output_reason old fault) (message_of fault (output_named old fault)) old new
     → TellsOn told speaker fault old new × (1 ≡ status_after fault speaker.calling (output_reason old fault))
 told_aloud told fault aloud says = grind arith
 
--- one message more after others
+-- one more message after others
 pub says_more : (told : Bool) (speaker : Speaker) (messages : List Message) (message : Message) (old mid new : Slot)
     → SaysAll told speaker messages old mid → Says told speaker message mid new
     → SaysAll told speaker (messages ++ message ∷ []) old new
 says_more told speaker [] message old mid new so_far says = grind arith
 says_more told speaker (first ∷ messages) message old mid new so_far says = (so_far.0, so_far.1, says_more _ _ messages _ _ _ _ so_far.2 says)
 
--- an output that is open stays open whatever is said on it
+-- a message doesn't change whether an output is open
 pub printed_open : (told : Bool) (text : List ℕ) (old new : Slot) → Prints told text old new → new.state ≡ old.state
 printed_open told text old new (whole sound is) = cc
 printed_open told text old new (cut sound n why within is) = cc

@@ -25,7 +25,7 @@ use Rattle.ports_core.proofs.{
 use Rattle.ports_core.specs.inner.Write as short
 use Rattle.ports_core.specs.declared.slot.State.TheVariants as state
 
--- after standard output was told of the file
+-- the file could not be opened after standard output got the line about it
 pub opens_none : (told : Bool) (tells : Tells) (names : Names) {next : Names} {name : List ℕ} (old : List Slot)
     {mid new : List Slot} → name ≡ next_name names → names.drawn < 2 ^ 64 → IsTrue (has_next names)
     → next ≡ with_one_drawn names
@@ -36,7 +36,7 @@ opens_none told tells names old named few has drew line (broke slot kept why at 
     (subst (λ those. (kept ≡ those) ⊎ (kept ≡ [])) named is) (made ∙ ap (λ slots. slots ++ unopened why kept ∷ []) line)
 opens_none told tells names old named few has drew line (numberless full same) = no_number few has (same ∙ line)
 
--- or of which it could not be told
+-- standard output didn't get the line about the file
 pub untold : (told : Bool) (tells : Tells) (names : Names) {next : Names} {name : List ℕ} (old new : List Slot)
     {fault : Fault} → name ≡ next_name names → names.drawn < 2 ^ 64 → IsTrue (has_next names)
     → TellsOpening told (told_before (output_of tells) name) old new (Some fault)
@@ -50,7 +50,7 @@ pub told_so : (told : Bool) (tells : Tells) (names : Names) {name : List ℕ} (o
     → mid ≡ told_next told tells names old
 told_so told tells names old mid named tells_it = grind arith
 
--- the name that is due
+-- this name is the next name, and there is a next name
 abbrev pub IsNextName : Names → List ℕ → Type 0
 IsNextName names name = (names.drawn < 2 ^ 64) × IsTrue (has_next names) × (name ≡ next_name names)
 
@@ -122,11 +122,11 @@ nothing_in : (front rest : List ℕ) → front ++ rest ≡ [] → front ≡ []
 nothing_in [] rest none = refl
 nothing_in (byte ∷ front) rest none = absurd (cc)
 
--- closed files, and these bytes of the line for the next one
+-- files, and these bytes of the line for the next file
 abbrev begun_with : Output → List File → List ℕ → Part
 begun_with output front bytes = record { out = told_of_files output front ++ bytes; files = front }
 
--- a file with the next name could not be opened, of which standard output is told so
+-- a file with the next name could not be opened; standard output gets the line about it first
 pub opens_not : {output : Output} {told : Bool} (front : List File) {tells : Tells} {names : Names} {high : Part}
     {old new : List Slot} {fault : Fault} → line_next tells names ≡ told_before output (next_name names)
     → AllClosed front → Begins (part_with output front) high

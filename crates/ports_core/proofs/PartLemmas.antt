@@ -40,7 +40,7 @@ take_begins_after n before bytes = (
       (append_assoc before (take n bytes) (drop n bytes)),
 )
 
--- a file that is open may be closed by then; any other stays
+-- a file that is open may be in another state later, and any other file stays: this is transitive
 pub kept_trans : {X : Type 0} (state_of : X → State) (low middle high : X)
     → (state_of low ≡ state.Open) ⊎ (low ≡ middle) → (state_of middle ≡ state.Open) ⊎ (middle ≡ high)
     → (state_of low ≡ state.Open) ⊎ (low ≡ high)
@@ -70,7 +70,7 @@ part_trans low middle high first second = search (rules, begins_trans, files_tra
 pub out_begins : (low high : List ℕ) → IsBeginning low high → Begins (only_out low) (only_out high)
 out_begins low high begins = search rules
 
--- standard output got more, after what it had
+-- standard output got more bytes after those that it had
 pub out_more : (told : Bool) (before : List Slot) (part : Part) (old new : List Slot) (more : List ℕ)
     → OutputsAt told before part old → new ≡ with_written 0 (told_of told more) old
     → OutputsAt told before (record part { out = part.out ++ more }) new
@@ -85,16 +85,16 @@ pub outputs_count : (told : Bool) (before : List Slot) (part : Part) (now : List
     → length now ≡ length before + length part.files
 outputs_count told before part now at = grind (arith, common_steps, length-changed_at, length-map)
 
--- no file is touched
+-- no file was touched
 pub still_in_order : (files : List File) → InOrder files files files 0
 still_in_order files = search rules
 
--- it isn't that a file could not be opened
+-- the fault isn't that a file could not be opened
 abbrev pub IsNoOpen : Fault → Type 0
 IsNoOpen (Open slot) = ⊥
 IsNoOpen fault = Unit {0}
 
--- then there need be no line for the file that is due
+-- unless a file could not be opened, there need be no line for the file that is due
 pub none_due : (IsDue : List ℕ → Type 0) (line : List ℕ → List ℕ) (fault : Fault) → IsNoOpen fault
     → IsDueLine IsDue line [] fault
 none_due IsDue line (Open slot) other = absurd other
@@ -109,7 +109,7 @@ lines_still (gets_lines line) part high place fault other = inl refl
 lines_still (gets_openings line) part high place fault other = grind (arith, common_steps)
 lines_still output part high place fault other = tt
 
--- a write of which the beginning was written before the output broke
+-- standard output broke in a write after a beginning was written
 pub out_cut : (told : Bool) (before : List Slot) (part : Part) (old new : List Slot) (more : List ℕ) (n : ℕ)
     → OutputsAt told before part old → BrokeAfter told old new 0 more n
     → StoppedBetween gets_bytes told before part (record part { out = part.out ++ more }) (Write 0) new
@@ -128,7 +128,7 @@ out_cut told before part old new more n at broke = record {
   there : 0 < length (with_written 0 (told_of told (take n more)) old)
   there = grind (arith, common_steps, length-changed_at, outputs_count)
 
--- a fault that came before anything was written, and from no output
+-- a fault came before anything was written, and not as a file was opened
 pub stopped_here : (output : Output) (told : Bool) (before : List Slot) (low high : Part) (fault : Fault)
     (old new : List Slot) → OutputsAt told before low old → Begins low high → Marks (IsNext low high) fault old new
     → IsAt fault (length before) 0 (length low.files) → IsNoOpen fault
@@ -149,14 +149,14 @@ sound_at place slots can = search rules
 pub nothing_begins_part : (part : Part) → Begins nothing part
 nothing_begins_part part = search rules
 
--- the mark of a fault, where the next file is known by another sentence
+-- the mark of a fault, if the name of the next file is known in another way
 pub marks_by : (IsName IsOther : List ℕ → Type 0) (fault : Fault) (before after : List Slot)
     → ((name : List ℕ) → IsName name → IsOther name) → Marks IsName fault before after
     → Marks IsOther fault before after
 marks_by IsName IsOther (Open slot) before after also is = grind arith
 marks_by IsName IsOther fault before after also is = is
 
--- the files of a part are at their places in what it begins
+-- the files of a part are at their places in any part that it begins
 next_in : (part : Part) {name : List ℕ} (front : List File) (file : File) (rest files : List File)
     → FilesBegin (front ++ file ∷ rest) files → {count : ℕ} → length front ≡ count → file.name ≡ name
     → (these : List File) × (one : File) × (more : List File) × (files ≡ these ++ one ∷ more) × (length these ≡ count)
@@ -173,7 +173,7 @@ next_wider {part} more begins name next =
     let found = next_in part _ _ _ _ (rw next.files at begins.files) next.place next.name_is in
     record { front = found.0; file = found.1; rest = found.2; files = found.3; place = found.4; name_is = found.5 }
 
--- the line for the file that is due, where that is known by another sentence
+-- the line for the file that is due, if the name of this file is known in another way
 pub due_by : (IsDue IsOther : List ℕ → Type 0) (line : List ℕ → List ℕ) (bytes : List ℕ) (fault : Fault)
     → ((name : List ℕ) → IsDue name → IsOther name) → IsDueLine IsDue line bytes fault
     → IsDueLine IsOther line bytes fault
@@ -190,7 +190,7 @@ lines_wider (gets_lines line) part high more place fault begins lines = lines
 lines_wider (gets_openings line) part high more place fault begins lines = search (rules, due_by, next_wider)
 lines_wider output part high more place fault begins lines = tt
 
--- what stopped in turn between two parts stopped between one that begins the lower and one that the higher begins
+-- a fault that stopped outputs between two parts also stopped them between a smaller and a greater part
 pub turn_between : (output : Output) (told : Bool) (before : List Slot) (less low high more : Part) (fault : Fault)
     (now : List Slot) → Begins less low → StoppedInTurn output told before low high fault now → Begins high more
     → StoppedInTurn output told before less more fault now
@@ -214,7 +214,7 @@ no_fewer [] part begins = omega arith
 no_fewer (file ∷ low) [] begins = absurd begins
 no_fewer (file ∷ low) (whole ∷ part) begins = omega (arith, no_fewer low _ begins.5)
 
--- in turn is in order
+-- files that were written in turn are in order
 pub in_order : {low part high : List File} {place : ℕ} → FilesBegin low part → FilesBegin part high → InTurn part place
     → InOrder low part high place
 in_order above below turn = grind (arith, done_by, drop_all, no_fewer)
@@ -224,7 +224,7 @@ pub openings-append : (line : List ℕ → List ℕ) (some more : List File)
 openings-append line [] more = refl
 openings-append line (file ∷ some) more = grind (arith, append_assoc, openings-append line some more)
 
--- the lines for files that are there, and for those that were opened since
+-- the lines for all files are the lines for the first files, and those for the files that were opened since
 pub openings_since : (line : List ℕ → List ℕ) (low part : List File) → FilesBegin low part
     → openings_for line part ≡ openings_for line low ++ openings_for line (drop (length low) part)
 openings_since line [] part begins = refl
@@ -232,7 +232,7 @@ openings_since line (file ∷ low) [] begins = absurd begins
 openings_since line (file ∷ low) (whole ∷ part) begins =
     grind (arith, append_assoc, openings_since line low _ begins.5)
 
--- the lines that standard output had in the lower part, and those that it got since
+-- the lines of standard output are in order if it had the lines for the lower part's files
 lines_in_order : (output : Output) (low part high : Part) (place : ℕ) (fault : Fault) → Begins low part
     → HasLines output low.out low.files → LinesTo output part high place fault
     → LinesInOrder output low part high place fault
@@ -251,7 +251,7 @@ pub stopped_in_turn : (output : Output) (told : Bool) (before : List Slot) (low 
     → StoppedBetween output told before low high fault now
 stopped_in_turn output told before low high fault now has stop = search (rules, in_order, lines_in_order)
 
--- closed files, and one more
+-- closed files and one more file are in turn
 pub turn_last : (files : List File) (file : File) (place : ℕ) → length files ≡ place → AllClosed files
     → InTurn (files ++ file ∷ []) place
 turn_last files file place count closed = grind (arith, common_steps)

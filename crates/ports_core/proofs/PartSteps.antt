@@ -1,4 +1,5 @@
--- Outputs that have a part have another, as their last file is opened, written and closed; or a fault stops them in between.
+-- Outputs get from one part to another as their last file is opened, written and closed; or a fault stops them in
+-- between.
 use Rattle.std.proofs.{
   Common.{◌≡◌, ℕ, ◌+◌, suc, Bool, false, List, [], ◌∷◌, ◌++◌, length, take, Option, Some, None, inl, inr, refl, sym},
   Common.{◌∙◌, ap, arith, length-append},
@@ -48,15 +49,15 @@ pub falls_wider : {output : Output} {told : Bool} {low middle high : Part} {old 
 falls_wider falls begins =
     record { gets = λ before at. turn_between _ _ _ _ _ _ _ _ _ (part_begins_itself _) (falls.gets before at) begins }
 
--- a file with this name
+-- a file with this name, these bytes and this state
 abbrev pub file_of : List ℕ → List ℕ → State → File
 file_of name bytes state = record { name = name; mode = Fresh; bytes = bytes; state = state; is_broken = false; reason = Other }
 
--- these files, and a last one
+-- these files, and a last file
 abbrev pub with_last : List ℕ → List File → File → Part
 with_last out front file = record { out = out; files = front ++ file ∷ [] }
 
--- what standard output is told of files, and of one with this name that is to be opened
+-- what standard output gets about files, and about the next file before it is opened
 abbrev pub begun_out : Output → List File → List ℕ → List ℕ
 begun_out output front name = told_of_files output front ++ told_before output name
 
@@ -76,7 +77,7 @@ front_begins (file ∷ front) low high begins = (refl, refl, refl, inr refl, beg
 
 -- Steps
 
--- a fault that comes while the outputs have the lower part still
+-- a fault came while the outputs still had the lower part
 pub halts_here : {output : Output} {told : Bool} {low high : Part} {old new : List Slot} {fault : Fault} {place : ℕ}
     → Begins low high → InTurn low.files place → LinesTo output low high place fault
     → Marks (IsNext low high) fault old new
@@ -97,7 +98,7 @@ halts_here {low = low} {old = old} {place = place} begins turn lines marks from 
   };
 }
 
--- the lines for files of which the last one isn't closed, or wasn't when they were written
+-- the lines for files, if the last file isn't closed, or wasn't when these lines were written
 pub lines_of_last : (output : Output) (front : List File) (file : File) (high : Part) (fault : Fault) → IsNoOpen fault
     → LinesTo output (with_last (begun_out output front file.name) front file) high (length front) fault
 lines_of_last (gets_lines line) front file high fault other = record {
@@ -114,7 +115,7 @@ lines_of_last (gets_openings line) front file high fault other = record {
 }
 lines_of_last output front file high fault other = tt
 
--- the lines for closed files, and of that for the next one these bytes
+-- the lines for closed files, and these bytes of the line for the next file
 pub lines_due : (output : Output) (front : List File) (name bytes : List ℕ) (high : Part) (fault : Fault)
     → (told_before output name ≡ [] → bytes ≡ [])
     → ((line : List ℕ → List ℕ) → told_before output name ≡ line name
@@ -132,7 +133,7 @@ lines_all (gets_lines line) front high fault other = grind (arith, common_steps)
 lines_all (gets_openings line) front high fault other = grind (arith, common_steps)
 lines_all output front high fault other = tt
 
--- standard output gets more
+-- standard output gets more bytes
 pub out_added : (told : Bool) {part : Part} (more : List ℕ) (old : List Slot) {new : List Slot} {output : Output}
     → new ≡ with_written 0 (told_of told more) old
     → Becomes output told part (record part { out = part.out ++ more }) old new None
@@ -163,7 +164,7 @@ module _ (output : Output) (told : Bool) (out : List ℕ) (front : List File) wh
         (with_last out front (file_of name bytes state.Open)) front (file_of name bytes state.Open) old new slot refl last at wrote;
   }
 
-  -- it is closed
+  -- the last file is closed
   pub closes_last : (name bytes : List ℕ) {slot : ℕ} (old : List Slot) {new : List Slot} → suc slot ≡ length old
       → new ≡ changed_at slot closes old
       → Becomes output told (with_last out front (file_of name bytes state.Open))
@@ -174,7 +175,7 @@ module _ (output : Output) (told : Bool) (out : List ℕ) (front : List File) wh
         (with_last out front (file_of name bytes state.Open)) front (file_of name bytes state.Open) old new slot refl last at closed;
   }
 
--- it gets bytes or is closed, or breaks as it does, where standard output has what it is told of these files
+-- the last file gets bytes, or is closed, or breaks; standard output has what it gets about these files
 module _ (output : Output) (told : Bool) (front : List File) (name bytes : List ℕ) where
   pub writes_to : (more : List ℕ) {slot : ℕ} (old : List Slot) {new : List Slot} (fault : Option Fault)
       → AllClosed front → suc slot ≡ length old → Wrote told slot more old new fault

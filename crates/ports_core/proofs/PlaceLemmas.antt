@@ -10,7 +10,7 @@ use Rattle.std.{
 use denote.Ref.{Bor}
 use Rattle.ports_core.specs.inner.Place.{SaysPlace}
 
--- a plus before digits, or none: no newline is among them
+-- no newline is among digits, with a plus before them or without
 after_plus : (is_plus : Bool) (first : ℕ) (digits : List ℕ) (i : ℕ) → (IsTrue is_plus → first ≡ 43)
     → AllDigits 10 (drop (cond is_plus 1 0) (first ∷ digits)) → i < length (first ∷ digits)
     → get_or (first ∷ digits) i 0 ≢ 10
@@ -34,13 +34,13 @@ one_word (suc (suc zero)) within = λ is. omega (arith, is)
 one_word (suc (suc (suc zero))) within = λ is. omega (arith, is)
 one_word (suc (suc (suc (suc i)))) within = absurd (omega arith)
 
--- what stands after the name in such a text
+-- what stands after the tab in a text that says a place
 after_name : {text : List ℕ} {place : ℕ} (name after : Bor (List ℕ)) → IsSplitOnceResult 9 text (Some (name, after))
     → (said : SaysPlace text place) → after.now ≡ said.digits ++ 10 ∷ said.rest
 after_name {text} name after cut said =
     (split_after 9 text (codes "pos:") (said.digits ++ 10 ∷ said.rest) (Some (name, after)) cut (lit< tt) said.is one_word).1
 
--- it has a second line
+-- a text that says a place has an end of its first line
 pub no_line : {text : List ℕ} {place : ℕ} (name after : Bor (List ℕ)) → IsSplitOnceResult 9 text (Some (name, after))
     → IsSplitOnceResult 10 after.now None → (said : SaysPlace text place) → ⊥
 no_line name after cut uncut said =
@@ -53,7 +53,7 @@ parsed : {E : Type 0} (digits : List ℕ) (place : ℕ) (found : Result ℕ E) �
 parsed digits place (Ok found) (few, is) number value small = ap Some (is ∙ value)
 parsed digits place (Err error) none number value small = absurd (none (number, rw value small))
 
--- its number is found
+-- the place that the text says is found
 pub place_found : {E : Type 0} {text : List ℕ} {place : ℕ} (name after digits rest : Bor (List ℕ)) (found : Result ℕ E)
     → IsSplitOnceResult 9 text (Some (name, after)) → IsSplitOnceResult 10 after.now (Some (digits, rest))
     → ParsesUnsigned 64 10 digits.now found → SaysPlace text place → place < 2 ^ 64 → result_ok found ≡ Some place
@@ -62,7 +62,7 @@ place_found {place} name after digits rest found cut cut_again number said small
     (after_name name after cut said) (λ i within. one_line said.digits i said.number within) in
     parsed said.digits place found (rw line.0 at number) said.number said.value small
 
--- and what is found is said
+-- a place that is found is what the text says
 pub place_said : {E : Type 0} {text : List ℕ} (name after digits rest : Bor (List ℕ)) (found : Result ℕ E)
     → name.now ≡ codes "pos:" → IsSplitOnceResult 9 text (Some (name, after))
     → IsSplitOnceResult 10 after.now (Some (digits, rest)) → ParsesUnsigned 64 10 digits.now found

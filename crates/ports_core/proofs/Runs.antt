@@ -13,7 +13,7 @@ as_status false = refl
 pub adds-nil : (told : Bool) (slot : Slot) → adds (told_of told []) slot ≡ slot
 adds-nil told slot = grind (arith, common_steps)
 
--- bytes and then more bytes
+-- bytes and then more bytes are added as one text
 pub adds_both : (told : Bool) (first second : List ℕ) (slot : Slot)
     → adds (told_of told second) (adds (told_of told first) slot) ≡ adds (told_of told (first ++ second)) slot
 adds_both told first second slot = grind (arith, common_steps)

@@ -1,4 +1,4 @@
--- The files of shares, and what standard output is told of them: what begins what, and the last file.
+-- The files of shares, and what standard output gets about them: what begins what, and the last file.
 use Rattle.std.proofs.{
   lemmas.{Grind.common_steps, Bool.cond_both, List.length-map},
   Common.{◌≡◌, ℕ, ◌+◌, suc, Bool, true, false, cond, List, [], ◌∷◌, ◌++◌, ◌⊎◌, length, map, inl, inr, refl, subst},
@@ -31,7 +31,7 @@ shares_wider [] high more begins = tt
 shares_wider (share ∷ low) [] more begins = absurd begins
 shares_wider (share ∷ low) (whole ∷ high) more begins = (begins.0, begins.1, shares_wider low _ _ begins.2)
 
--- an open share begins one of more bytes, whatever its state
+-- an open share begins a share with more bytes, in any state
 pub made_begin : (opening : Opening) (state : State) (low high : List ℕ) → IsBeginning low high
     → SharesBegin (map (share Open) (made_of opening low)) (map (share state) (made_of opening high))
 made_begin Never state low high begins = tt
@@ -40,7 +40,7 @@ made_begin Late state (byte ∷ low) [] (rest, is) = absurd (cc)
 made_begin Late state (byte ∷ low) (first ∷ high) begins = search rules
 made_begin AtOnce state low high begins = search rules
 
--- Their files begin the files of those
+-- The files of shares that begin others begin the files of those shares
 
 files_by : (manner : Manner) (has : Bool) (place : ℕ) (one other : Share) (low high : List File)
     → (one.state ≡ Open) ⊎ (one ≡ other) → IsBeginning one.bytes other.bytes → FilesBegin low high
@@ -55,7 +55,7 @@ files_begin manner place (share ∷ low) [] begins = absurd begins
 files_begin manner place (share ∷ low) (whole ∷ high) begins =
     grind (arith, files_by, files_begin manner (place + 1) _ high begins.2)
 
--- What standard output is told of them
+-- What standard output gets about files
 
 pub told-append : (output : Output) (a b : List File)
     → told_of_files output (a ++ b) ≡ told_of_files output a ++ told_of_files output b
@@ -70,7 +70,7 @@ has_told (gets_lines line) files = refl
 has_told (gets_openings line) files = refl
 has_told output files = tt
 
--- where there are none
+-- the part without a file is empty
 pub nothing_part : (output : Output) → part_with output [] ≡ nothing
 nothing_part (gets_lines line) = refl
 nothing_part (gets_openings line) = refl
@@ -81,7 +81,7 @@ nothing_told (gets_lines line) = refl
 nothing_told (gets_openings line) = refl
 nothing_told output = tt
 
--- open files have no lines, where those are for closed ones
+-- open files have no lines, if lines are for closed files
 open_untold : (line : File → List ℕ) (manner : Manner) (place : ℕ) (bytes : List (List ℕ))
     → lines_for line (files_from manner place (map (share Open) bytes)) ≡ []
 open_untold line manner place [] = refl
@@ -94,12 +94,12 @@ told_by : (line : File → List ℕ) (has : Bool) (file : File) (low high : List
 told_by line true file low high begins = grind (arith, common_steps)
 told_by line false file low high begins = begins_itself []
 
--- the files that begin others have a beginning of their lines by their names
+-- the lines of files by their names begin the lines of the files that these files begin
 pub openings_begin : (line : List ℕ → List ℕ) (low high : List File) → FilesBegin low high
     → IsBeginning (openings_for line low) (openings_for line high)
 openings_begin line low high begins = (_, openings_since _ _ _ begins)
 
--- nor does it lose what it was told, as the last shares grow
+-- what standard output got only grows as the last shares grow
 told_grows : (output : Output) (manner : Manner) (place : ℕ) (front : List Share) (low : List (List ℕ))
     (high : List Share) → SharesBegin (map (share Open) low) high
     → IsBeginning (told_of_files output (files_from manner place (front ++ map (share Open) low)))
@@ -111,7 +111,7 @@ told_grows (gets_openings line) manner place front low high begins =
     grind (arith, openings_begin, files_begin, shares_after)
 told_grows output manner place front low high begins = begins_itself []
 
--- what is written of shares whose last ones are open, and go on
+-- what is written of shares grows if the last shares are open and go on
 pub part_grows : (manner : Manner) (front : List Share) (low : List (List ℕ)) (high : List Share)
     → SharesBegin (map (share Open) low) high
     → Begins (part_of manner (front ++ map (share Open) low)) (part_of manner (front ++ high))
@@ -135,11 +135,11 @@ next_begins manner opening draft = search (rules, next_shares, part_grows, share
 
 -- Files that all have names
 
--- the place after the next ones is that after the first of them
+-- m places after place n + 1 is m + 1 places after place n
 pub one_on : (n m : ℕ) → n + suc m ≡ n + 1 + m
 one_on n m = omega arith
 
--- the files of shares, and then of those after them
+-- the files of shares are the files of the first shares and those of the others
 files_on : (manner : Manner) (place : ℕ) (front rest : List Share) → AreNamed manner (place + length front)
     → files_from manner place (front ++ rest)
     ≡ files_from manner place front ++ files_from manner (place + length front) rest
@@ -150,7 +150,7 @@ files_on manner place (one ∷ front) rest named = cc (
   files_on manner (place + 1) front _ (λ other less. named other (omega arith)),
 )
 
--- where the place after these has no name, more of them make no file
+-- if the place after these shares has no name, more shares make no file
 pub files_stop : (manner : Manner) (place : ℕ) (front rest : List Share)
     → manner.has_name (place + length front) ≡ false
     → files_from manner place (front ++ rest) ≡ files_from manner place front
@@ -168,7 +168,7 @@ closed_files manner place [] = tt
 closed_files manner place (one ∷ ended) =
     grind (arith, cond_both, closed_files manner (place + 1) ended)
 
--- The files that ended, and one more
+-- The files that ended, and one more file
 
 abbrev pub ended_files : Manner → Draft → List File
 ended_files manner draft = files_from manner 0 (map (share Closed) draft.ended)
@@ -198,26 +198,26 @@ last_told : (output : Output) (name bytes : List ℕ)
 last_told (gets_openings line) name bytes = search rules
 last_told output name bytes = refl
 
--- the last one is open
+-- the last file is open
 pub open_part : (manner : Manner) (draft : Draft) → AreNamed manner (suc (length draft.ended))
     → made_of draft.opening draft.bytes ≡ draft.bytes ∷ []
     → draft_part manner draft ≡ with_last (begun_out manner.output (ended_files manner draft) (name_after manner draft))
     (ended_files manner draft) (file_of (name_after manner draft) draft.bytes Open)
 open_part manner draft named makes = grind (arith, part_last, with_last, file_of, last_told)
 
--- there is none
+-- no file is open
 pub none_part : (manner : Manner) (draft : Draft) → made_of draft.opening draft.bytes ≡ []
     → draft_part manner draft ≡ part_with manner.output (ended_files manner draft)
 none_part manner draft none = search rules
 
--- there is one, or none
+-- what was begun has a file, or has none
 pub made_or : (opening : Opening) (bytes : List ℕ) → (made_of opening bytes ≡ []) ⊎ (made_of opening bytes ≡ bytes ∷ [])
 made_or Never bytes = inl refl
 made_or Late [] = inl refl
 made_or Late (byte ∷ bytes) = inr refl
 made_or AtOnce bytes = inr refl
 
--- what makes a file still does with more bytes
+-- what makes a file still makes it with more bytes
 pub still_made : (opening : Opening) (bytes more : List ℕ) → made_of opening bytes ≡ bytes ∷ []
     → made_of opening (bytes ++ more) ≡ (bytes ++ more) ∷ []
 still_made Never bytes more is = absurd (cc)

@@ -41,7 +41,7 @@ keeps_close slot old new is = grind (arith, flag_stays)
 pub keeps_open : (one : Slot) (old new : List Slot) → new ≡ old ++ one ∷ [] → KeepsBroken old new
 keeps_open one old new is place sound = grind (arith, common_steps)
 
--- One that breaks was sound.
+-- An output that breaks was sound.
 
 pub broken_there : (why : Reason) (place : ℕ) (slots : List Slot) → place < length slots
     → (slot_at (with_broken why place slots) place).is_broken ≡ true
@@ -60,7 +60,7 @@ pub close_rose : (slot : ℕ) (old new : List Slot) → IsTrue (is_writable old 
     → SlotBreaks slot (changed_at slot closes old) new → Rose slot old new
 close_rose slot old new can within (why, is) = grind (arith, sound_at, broken_there, length-changed_at)
 
--- How many there are
+-- How many slots there are
 
 pub written_size : (slot : ℕ) (bytes : List ℕ) (old new : List Slot) → new ≡ with_written slot bytes old
     → length new ≡ length old
@@ -74,7 +74,7 @@ pub broken_size : (slot : ℕ) (old new : List Slot) → SlotBreaks slot (change
     → length new ≡ length old
 broken_size slot old new (why, is) = grind (arith, length-changed_at)
 
--- Which can be written
+-- Which slots can be written
 
 pub writable_within : (place : ℕ) (slots : List Slot) → IsTrue (is_writable slots place) → place < length slots
 writable_within place [] can = search rules
@@ -97,18 +97,18 @@ pub writable_elsewhere : (old new : List Slot) (slot place : ℕ) (change : Slot
     → new ≡ changed_at place change old → IsTrue (is_writable old slot) → IsTrue (is_writable new slot)
 writable_elsewhere old new slot place change differs is can = grind (arith, slot_at-elsewhere)
 
--- Which have a file
+-- Which slots have a file
 
 pub none_past : (slots : List Slot) (place : ℕ) → length slots ≤ place → has_file (slot_at slots place).state ≡ false
 none_past slots place past = grind (arith, common_steps)
 
--- where there is no file, none is removed
+-- if there is no file, no file is removed
 pub swept_none : (clears : Bool) (first : ℕ) (slots : List Slot)
     → ((place : ℕ) → first ≤ place → has_file (slot_at slots place).state ≡ false) → Swept clears first slots slots
 swept_none true first slots no_file = grind (arith, none)
 swept_none false first slots no_file = refl
 
--- as many outputs, each with a file just where it had one
+-- there are as many outputs as before, and each has a file exactly if it had one
 pub record KeepsMade (old new : List Slot) : Type 0 where
   pub size : length new ≡ length old
   pub same : (place : ℕ) → has_file (slot_at new place).state ≡ has_file (slot_at old place).state
@@ -139,7 +139,7 @@ pub made_close : (slot : ℕ) (old new : List Slot) → IsTrue (is_writable old 
     → KeepsMade old new
 made_close slot old new can is = grind (arith, length-changed_at, file_stays)
 
--- no more files are there, and no fewer outputs
+-- exactly the same outputs have a file, and there are no fewer outputs
 pub record KeepsFiled (old new : List Slot) : Type 0 where
   pub same : (place : ℕ) → has_file (slot_at new place).state ≡ has_file (slot_at old place).state
   pub within : length old ≤ length new

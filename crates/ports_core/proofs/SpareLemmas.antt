@@ -10,7 +10,7 @@ use Rattle.std.proofs.{
 }
 use Rattle.ports_core.specs.Work.{Work, IsLawful, IsComplete, IsNeeded, IsSpare}
 
--- while the output isn't complete all is used
+-- while the output isn't complete, all bytes are used
 pub all_used : (work : Work) (x : List ℕ) → work.is_complete x ≡ false → IsSpare work x 0
 all_used work x going = grind (arith, common_steps)
 
@@ -18,12 +18,12 @@ pub none_spare : (work : Work) (x : List ℕ) (n : ℕ) → IsLawful work → wo
     → n ≡ 0
 none_spare work x n lawful going spare = grind arith
 
--- with what is used the output is complete, where it is with all
+-- if the output is complete, it is complete with the bytes that are used
 pub complete_used : (work : Work) (x : List ℕ) (n : ℕ) (spare : IsSpare work x n) → work.is_complete x ≡ true
     → work.is_complete spare.used ≡ true
 complete_used work x n spare done = grind (arith, common_steps)
 
--- no more is spare than what came last, before which the output was not complete
+-- no more bytes are spare than the last piece has, if the output was not complete before this piece
 pub spare_within : (work : Work) (most n : ℕ) (x : List ℕ) → IsLawful work → IsNeeded work.is_complete most x
     → IsSpare work x n → n ≤ most
 spare_within work most n x lawful (inl none) spare = omega (arith, ap length none, ap length spare.joined ∙ length-append spare.used spare.rest)

@@ -13,12 +13,12 @@ use Rattle.ports_core.specs.{
 use Rattle.ports_core.proofs.SlotLemmas.{length-changed_at, changed_at-again, slot_at-elsewhere}
 use Rattle.ports_core.specs.declared.fault.Fault.TheVariants as fault
 
--- Among others
+-- A place among others
 
 differs : {place : ℕ} (one : ℕ) → eqb place one ≡ false → place ≡ one → ⊥
 differs one is same = search rules
 
--- a place, and whether it is the first of these
+-- a place is the first of these places, or not
 pub by_place : {A : Type 0} (place one : ℕ) → (place ≡ one → A) → (eqb place one ≡ false → A) → A
 by_place place one same other = search rules
 
@@ -43,7 +43,7 @@ module _ (one : ℕ) (change : Slot → Slot) (old : List Slot) where
       let same = slot_at-elsewhere _ _ change old (λ same. differs _ both.0 (sym same)) in
       ((are.0.0, rw same are.0.1), are.1, still_there files both.1 are.2)
 
--- what is left of it
+-- a file whose removal was tried is removed, or broken and closed
 
 cleared_one : {one : ℕ} {change : Slot → Slot} {kept : List ℕ} {slot : Slot} → Tries one change kept
     → has_file slot.state ≡ true → Cleared slot (change slot)
@@ -62,7 +62,7 @@ kept_apart : {one : ℕ} {change : Slot → Slot} {kept : List ℕ} (left : List
 kept_apart left place goes other = refl
 kept_apart left place (stays why) other = search rules
 
--- One removal more, after those of other files
+-- One more removal, after the removals of other files
 
 tried_more : {files left : List ℕ} {old mid new : List Slot} (place : ℕ) (more : List ℕ) → Removes files old left mid
     → Removes (place ∷ []) mid more new
@@ -82,7 +82,7 @@ pub record Sweeping (files now : List ℕ) (place left : ℕ) (old slots : List 
 pub none_swept : {files : List ℕ} {slots : List Slot} → AreThere files slots → Sweeping files files 0 0 slots slots
 none_swept {slots} are = record { size = refl; few = omega arith; tried = all_tried slots; rest = refl; are = are }
 
--- the next file was tried, and these are the numbers now
+-- the next file was tried, and `next` is the list now
 one_tried : {files now next kept : List ℕ} {place left few : ℕ} {old mid : List Slot} {file : ℕ} {change : Slot → Slot}
     → Sweeping files now place left old mid
     → place < length now → file ≡ get_or now place 0
@@ -103,7 +103,7 @@ one_tried {files} {now} {next} {kept} {place} {left} {few} {old} {mid} {file} {c
       are = grind (arith, still_there);
     })
 
--- the same by what the removal returned
+-- the next file was tried; what the removal returned says what became of it
 pub sweep_on : {files now : List ℕ} {place left file : ℕ} {old mid new : List Slot} (result : Result (Unit {0}) Fault)
     → Sweeping files now place left old mid → place < length now → file ≡ get_or now place 0 → is_ok result ≡ true
     → OnOk result (new ≡ changed_at file removes mid)
@@ -134,20 +134,20 @@ others_same place (all_tried slots) apart = refl
 others_same place (tried one places kept left' change old' new' tries rest) apart =
     let both = or_parts (eqb place one) (is_among place places) apart in others_same _ rest both.1 ∙ elsewhere one change old' place both.0
 
--- those that are left are some of them
+-- the files that are left are among those that were tried
 pub left_apart : (files left : List ℕ) (old new : List Slot) (place : ℕ) → Removes files old left new
     → is_among place files ≡ false → is_among place left ≡ false
 left_apart files left old new place (all_tried slots) apart = refl
 left_apart files left old new place (tried one places kept left' change old' new' tries rest) apart =
     let both = or_parts (eqb place one) (is_among place places) apart in kept_apart _ _ tries both.0 ∙ left_apart _ _ _ _ _ rest both.1
 
--- what the slot of the first one is at the end
+-- the slot of the first file at the end
 first_is : {one : ℕ} {places left : List ℕ} (change : Slot → Slot) (old : List Slot) {new : List Slot}
     → AreThere (one ∷ places) old
     → Removes places (changed_at one change old) left new → slot_at new one ≡ change (slot_at old one)
 first_is {one} change old are rest = others_same _ rest are.1 ∙ there one change old are.0.1
 
--- each slot whose file was among them is cleared away
+-- each slot whose file is among these is cleared away
 pub each_cleared : {files left : List ℕ} {old new : List Slot} (place : ℕ) → Removes files old left new
     → AreThere files old → has_file (slot_at old place).state ≡ is_among place files
     → Cleared (slot_at old place) (slot_at new place)
@@ -156,7 +156,7 @@ each_cleared place (tried one places kept left' change old' new' tries rest) are
     (λ same. rw (same, first_is _ _ are rest) (cleared_one tries are.0.1)) (λ other. rw (elsewhere one change old' place other) at
     (each_cleared place rest (still_there _ _ _ _ are.1 are.2) (grind (arith, elsewhere))))
 
--- and has a file just where that is left
+-- an output still has a file exactly if this file is left
 pub left_has : (files left : List ℕ) (old new : List Slot) (place : ℕ) → Removes files old left new → AreThere files old
     → has_file (slot_at old place).state ≡ is_among place files
     → has_file (slot_at new place).state ≡ is_among place left
@@ -175,7 +175,7 @@ left_there files left old new (tried one places kept left' change old' new' (sta
   left_there _ _ _ _ rest (still_there _ _ _ _ are.1 are.2),
 )
 
--- all files from a place on, where these are just the ones removed
+-- all files from a place on are cleared away, if these are exactly the files to remove
 pub all_cleared : (first : ℕ) (files left : List ℕ) (old new : List Slot) → Removes files old left new
     → AreThere files old → ((place : ℕ) → is_among place files ≡ true → first ≤ place)
     → ((place : ℕ) → first ≤ place → has_file (slot_at old place).state ≡ is_among place files)

@@ -1,4 +1,4 @@
--- What the writer of files does, one change after another, and where one is stopped.
+-- What the writer of files does, one change after another, and what is true if a change is stopped.
 use Rattle.std.proofs.{
   lemmas.{Grind.common_steps, Bool.false≢true},
   Common.{◌≡◌, ℕ, Bool, false, List, [], ◌∷◌, ◌++◌, ◌⊎◌, length, Option, Some, None, Result, Ok, Err, IfErr, inl},
@@ -46,11 +46,11 @@ goes_again {told} {three = three} {first} both {new = new} {fault} is begins bef
       (more manner (first draft) (before.writes manner draft writes)));
 }
 
--- both make a file where the one does, and as many ended before it
+-- both drafts have as many files that ended, and if the first makes a file, the second does
 abbrev pub GrowsOn : Draft → Draft → Type 0
 GrowsOn low high = (low.ended ≡ high.ended) × (made_of low.opening low.bytes ≡ low.bytes ∷ [] → made_of high.opening high.bytes ≡ high.bytes ∷ [])
 
--- it was stopped on its way to more, where names didn't run out, or the same file is due
+-- a change that was stopped is a change to more that was stopped: names didn't run out, or the same file is due
 pub goes_wider : {told : Bool} {writer next : WriterState} {low : Draft → Draft} (high : Draft → Draft)
     {old new : List Slot} {fault : Fault}
     → ((manner : Manner) (draft : Draft) → Begins (draft_part manner (low draft)) (draft_part manner (high draft)))
@@ -95,7 +95,7 @@ pub goes_more : {told : Bool} {one two three : WriterState} (a b : List ℕ) {ol
     → Goes told two (with_bytes b) mid new three fault → Goes told one (with_bytes (a ++ b)) old new three fault
 goes_more a b first second = search (rules, goes_again, common_steps, bytes_begin)
 
--- it was stopped among them
+-- a write was stopped among these bytes, before further bytes
 pub stops_among : {told : Bool} {writer next : WriterState} (a b : List ℕ) {old new : List Slot} {fault : Fault}
     → Goes told writer (with_bytes a) old new next (Some fault)
     → Goes told writer (with_bytes (a ++ b)) old new next (Some fault)

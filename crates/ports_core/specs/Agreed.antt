@@ -7,36 +7,36 @@ use Rattle.std.specs.{
 use Rattle.ports_core.specs.{Part.{File, Part, IsBeginning, Begins}, Work.Work}
 
 -- The most that the outputs of all continuations of x have in common. `whole` is what is made of an input in the end,
--- `begins` says that one such thing begins another, and `outputs` are its outputs, by their place.
+-- `begins` says that one whole is a beginning of another, and `outputs` gives the outputs of a whole, in order.
 pub record AgreeOn {A W : Type 0} (comes : List A → Type 0) (begins : W → W → Type 0) (outputs : W → List (List A))
     (whole : List A → W) (x : List A) (agreed : W) : Type 0 where
-  -- in the end every continuation has these outputs, each beginning so
+  -- in the end every continuation has these outputs, and each of them begins as here
   pub common : (y : List A) → comes y → begins agreed (whole (x ++ y))
   -- some continuation has no further output
   pub fewest : (y : List A) × comes y × (length (outputs (whole (x ++ y))) ≡ length (outputs agreed))
-  -- at each place two continuations have no more in common
+  -- for each output two continuations have no more in common in it
   pub longest : (place : ℕ) → place < length (outputs agreed) → (y : List A) × (z : List A) × comes y × comes z
       × ((front : List A) → IsBeginning front (get_or (outputs (whole (x ++ y))) place [])
       → IsBeginning front (get_or (outputs (whole (x ++ z))) place [])
       → length front ≤ length (get_or (outputs agreed) place []))
 
--- There is a place to which number i of the input goes under one continuation of x, and not under another.
--- `Goes x i at` says that number i of the input x goes there, counted from 0.
+-- Element i of the input goes to some place under one continuation of x, and not under another. `Goes x i at` says that
+-- element i of the input x, counted from 0, goes to the place `at`.
 abbrev pub GoesApart : {A P : Type 0} → (List A → Type 0) → (List A → ℕ → P → Type 0) → List A → ℕ → Type 0
 GoesApart {A = A} {P} comes Goes x i = (y : List A) × (z : List A) × (at : P) × comes y × comes z × Goes (x ++ y) i at
     × (Goes (x ++ z) i at → ⊥)
 
--- What waits are the last of x, and exactly those on which continuations differ.
+-- The waiting elements are the last of x, and exactly those on which continuations differ.
 pub record DifferOn {A P : Type 0} (comes : List A → Type 0) (Goes : List A → ℕ → P → Type 0)
     (x waiting : List A) : Type 0 where
   pub before : List A
   pub are_last : x ≡ before ++ waiting
   pub differ : (i : ℕ) → length before ≤ i → i < length x → GoesApart comes Goes x i
-  -- any other goes to the same places, or nowhere, under all of them
+  -- any other element goes to the same places, or nowhere, under all continuations
   pub decided : (i : ℕ) → i < length before → (y z : List A) (at : P) → comes y → comes z → Goes (x ++ y) i at
       → Goes (x ++ z) i at
 
--- Of bytes
+-- Inputs of bytes
 
 -- bytes that may still come
 abbrev pub CanCome : List ℕ → Type 0
@@ -65,19 +65,19 @@ pub record Spot : Type 0 where
 abbrev pub spot : ℕ → ℕ → Spot
 spot place offset = record { place = place; offset = offset }
 
--- Where the outputs from a place on are, one after another, the bytes of an input: the spot of byte i, counted from 0.
--- A byte that they lack has none.
+-- The spot of byte i of an input, counted from 0, if the outputs from a place on have the bytes of the input, one
+-- output after another. A byte that these outputs lack has no spot.
 abbrev pub spots_from : ℕ → List (List ℕ) → ℕ → List Spot
 spots_from place [] i = []
 spots_from place (bytes ∷ outputs) i = if nat_lt i (length bytes) then spot place i ∷ []
     else spots_from (place + 1) outputs (i - length bytes)
 
--- the byte that goes to these spots goes to this one
+-- the spot `at` is one of these spots
 abbrev pub GoesTo : Spot → List Spot → Type 0
 GoesTo at [] = ⊥
 GoesTo at (one ∷ spots) = (at ≡ one) ⊎ GoesTo at spots
 
--- where byte i goes where the input is x: `spots_of x i` has a spot, several, or none
+-- byte i of the input x goes to the spot `at`; `spots_of x i` has one spot, several, or none
 abbrev pub GoesBy : (List ℕ → ℕ → List Spot) → List ℕ → ℕ → Spot → Type 0
 GoesBy spots_of x i at = GoesTo at (spots_of x i)
 
@@ -85,14 +85,14 @@ GoesBy spots_of x i at = GoesTo at (spots_of x i)
 abbrev pub IsUndecided : (List ℕ → ℕ → List Spot) → List ℕ → List ℕ → Type 0
 IsUndecided spots_of = DifferOn CanCome (GoesBy spots_of)
 
--- Spots are right: in the end each output has, at each of its offsets, just the one byte of the input that goes there.
+-- The spots are right: in the end each output has, at each of its offsets, the one byte of the input that goes there.
 pub record ArePlaced (work : Work) (spots_of : List ℕ → ℕ → List Spot) : Type 0 where
   -- a byte that goes to a spot stands there
   pub stands : (x : List ℕ) (i : ℕ) (at : Spot) → i < length x → GoesTo at (spots_of x i)
       → (at.offset < length (output_at (work.whole x) at.place))
       × (get_or (output_at (work.whole x) at.place) at.offset 0 ≡ get_or x i 0)
-  -- one goes to each spot of the outputs
+  -- some byte goes to each spot of the outputs
   pub filled : (x : List ℕ) (at : Spot) → at.offset < length (output_at (work.whole x) at.place) → (i : ℕ)
       × (i < length x) × GoesTo at (spots_of x i)
-  -- and no two go to the same
+  -- no two bytes go to the same spot
   pub apart : (x : List ℕ) (i j : ℕ) (at : Spot) → GoesTo at (spots_of x i) → GoesTo at (spots_of x j) → i ≡ j

@@ -1,4 +1,4 @@
--- What a tool has written that writes one file after another: the files that ended, and the one that is open.
+-- What a tool that writes one file after another has written: the files that ended, and the open file.
 use Rattle.std.specs.{
   Prelude.{◌≡◌, ℕ, ◌+◌, ◌<◌, Bool, true, false, List, [], ◌∷◌, ◌++◌, length, map, codes, decimal, if◌then◌else◌},
 }
@@ -19,10 +19,10 @@ pub record Manner : Type 0 where
   -- whether the file at a place has a name, and which
   pub has_name : ℕ → Bool
   pub name : ℕ → List ℕ
-  -- what standard output is told of them
+  -- what standard output gets about the files
   pub output : Output
 
--- files with these names, of which standard output is told this
+-- how files with these names are made, if standard output gets this about them
 abbrev pub manner_by : Naming → Output → Manner
 manner_by naming output = record { has_name = has_name naming; name = name_at naming; output = output }
 
@@ -30,7 +30,7 @@ manner_by naming output = record { has_name = has_name naming; name = name_at na
 abbrev pub AreNamed : Manner → ℕ → Type 0
 AreNamed manner count = (place : ℕ) → place < count → manner.has_name place ≡ true
 
--- what a file gets, and whether it is still open
+-- the bytes that a file gets, and whether it is still open
 pub record Share : Type 0 where
   pub state : State
   pub bytes : List ℕ
@@ -48,19 +48,19 @@ file_at manner place one = record {
   reason = Other;
 }
 
--- the files of these shares, named from a place on, as far as there are names
+-- the files of these shares, named from a place on; the list ends at the first place without a name
 abbrev pub files_from : Manner → ℕ → List Share → List File
 files_from manner place [] = []
 files_from manner place (one ∷ shares) = if manner.has_name place
     then file_at manner place one ∷ files_from manner (place + 1) shares else []
 
--- what standard output is told of files
+-- the lines that standard output gets about these files
 abbrev pub told_of_files : Output → List File → List ℕ
 told_of_files (gets_lines line) files = lines_for line files
 told_of_files (gets_openings line) files = openings_for line files
 told_of_files output files = []
 
--- and before a file with this name is opened
+-- the line that standard output gets before a file with this name is opened
 abbrev pub told_before : Output → List ℕ → List ℕ
 told_before gets_none name = []
 told_before gets_bytes name = []
@@ -87,7 +87,7 @@ output_of Nothing = gets_none
 output_of Sizes = gets_lines size_of_file
 output_of Openings = gets_openings opening_line
 
--- the file that these bytes make, if they make one
+-- the file that these bytes make, if they make one: a list of one file, or of none
 abbrev pub made_of : Opening → List ℕ → List (List ℕ)
 made_of Never bytes = []
 made_of Late [] = []
@@ -95,24 +95,24 @@ made_of Late (byte ∷ bytes) = (byte ∷ bytes) ∷ []
 made_of AtOnce bytes = bytes ∷ []
 
 pub record Draft : Type 0 where
-  -- what the files that ended have
+  -- the bytes of each file that ended
   pub ended : List (List ℕ)
-  -- when what is begun gets its file, and what it has so far
+  -- when the file that was begun is opened, if ever, and the bytes that it has so far
   pub opening : Opening
   pub bytes : List ℕ
 
--- the shares of all files
+-- the shares of all files of a draft
 abbrev pub shares_of : Draft → List Share
 shares_of draft = map (share Closed) draft.ended ++ map (share Open) (made_of draft.opening draft.bytes)
 
 abbrev pub draft_part : Manner → Draft → Part
 draft_part manner draft = part_of manner (shares_of draft)
 
--- what is begun gets more bytes
+-- the draft once the file that was begun got more bytes
 abbrev pub with_bytes : List ℕ → Draft → Draft
 with_bytes bytes draft = record draft { bytes = draft.bytes ++ bytes }
 
--- it ends, and the next begins
+-- the draft once the file that was begun has ended, and the next file was begun
 abbrev pub with_next : Opening → Draft → Draft
 with_next opening draft =
     record { ended = draft.ended ++ made_of draft.opening draft.bytes; opening = opening; bytes = [] }

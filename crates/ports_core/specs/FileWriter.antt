@@ -23,16 +23,16 @@ pub use Rattle.ports_core.specs.Names.{CanTell}
 use Rattle.ports_core.specs.declared.fault.Fault.TheVariants as why
 
 pub record WriterState : Type 0 where
-  -- the names of its files, and how many of them were drawn
+  -- the names of the writer's files, and how many names were drawn
   pub names : Names
   pub tells : Tells
   pub keeps : Keeps
-  -- where all are kept, the outputs of the files that it made and didn't remove, in order; else none
+  -- the outputs of the files that were made and not removed, in order, if all are kept; otherwise none
   pub files : List ℕ
-  -- what bytes go to
+  -- where bytes go
   pub current : Current
 
--- what contracts see of it
+-- what contracts see of a writer of files
 abbrev pub seen_writer : FileWriter → WriterState
 seen_writer writer = record {
   names = writer.names;
@@ -42,50 +42,50 @@ seen_writer writer = record {
   current = writer.current;
 }
 
--- how it makes files
+-- how the writer makes files
 abbrev pub manner_in : WriterState → Manner
 manner_in writer = manner_by writer.names.naming (output_of writer.tells)
 
--- a file is open
+-- whether a file is open
 abbrev pub is_file : Current → Bool
 is_file Skipped = false
 is_file Due = false
 is_file (File slot size) = true
 is_file Unopened = false
 
--- how many bytes the open file has, where sizes are told
+-- how many bytes of the open file are counted; all of them, if sizes are written
 abbrev pub size_of : Current → ℕ
 size_of Skipped = 0
 size_of Due = 0
 size_of (File slot size) = size
 size_of Unopened = 0
 
--- where sizes are told, these bytes are counted
+-- if sizes are written, the count of these bytes is right
 abbrev pub IsCounted : Tells → List ℕ → ℕ → Type 0
 IsCounted Nothing bytes size = Unit {0}
 IsCounted Sizes bytes size = size ≡ length bytes
 IsCounted Openings bytes size = Unit {0}
 
--- and they can be, after as many as there are
+-- if sizes are written, 64 bits can count these bytes after the `size` bytes that came before
 abbrev pub CanCount : Tells → ℕ → List ℕ → Type 0
 CanCount Nothing size bytes = Unit {0}
 CanCount Sizes size bytes = size + length bytes < 2 ^ 64
 CanCount Openings size bytes = Unit {0}
 
--- what is begun gets its file so, and has these bytes so far
+-- where bytes go, if the file that was begun is opened in this way and has these bytes so far
 abbrev pub IsCurrent : Tells → Opening → List ℕ → Current → Type 0
 IsCurrent tells opening bytes Skipped = opening ≡ Never
 IsCurrent tells opening bytes Due = (opening ≡ Late) × (bytes ≡ [])
 IsCurrent tells opening bytes (File slot size) = (made_of opening bytes ≡ bytes ∷ []) × IsCounted tells bytes size
 IsCurrent tells opening bytes Unopened = ⊥
 
--- this is the writer's own manner, as far as 64 bits count files
+-- the manner is the writer's own manner, as far as 64 bits count files
 pub record IsManner (manner own : Manner) : Type 0 where
   pub name : own.name ≡ manner.name
   pub output : own.output ≡ manner.output
   pub has : (place : ℕ) → place < 2 ^ 64 → own.has_name place ≡ manner.has_name place
 
--- it makes files in this manner, and can have been given this
+-- the writer makes files in this manner, and may have been given this draft
 pub record Writes (manner : Manner) (writer : WriterState) (draft : Draft) : Type 0 where
   pub same : IsManner manner (manner_in writer)
   pub made : writer.names.drawn ≡ length (shares_of draft)
@@ -93,15 +93,15 @@ pub record Writes (manner : Manner) (writer : WriterState) (draft : Draft) : Typ
   pub named : AreNamed manner (length (shares_of draft))
   pub current : IsCurrent writer.tells draft.opening draft.bytes writer.current
 
--- the open file is the last output, and doesn't stand before this place
+-- the open file is the last output, at this place or after it
 abbrev pub IsLast : Current → ℕ → List Slot → Type 0
 IsLast Skipped first slots = Unit {0}
 IsLast Due first slots = Unit {0}
 IsLast (File slot size) first slots = (first ≤ slot) × (suc slot ≡ length slots)
 IsLast Unopened first slots = Unit {0}
 
--- The open file is the last output, and stands from this place on. Where the outputs of all files are kept, they are just
--- those from there on that have a file.
+-- The open file is the last output, and the writer's files stand from this place on. If the outputs of all files are
+-- kept, they are exactly the outputs from this place on that have a file.
 pub record OwnsFiles (writer : WriterState) (first : ℕ) (slots : List Slot) : Type 0 where
   pub streams : 2 ≤ first
   pub within : first ≤ length slots
@@ -111,22 +111,23 @@ pub record OwnsFiles (writer : WriterState) (first : ℕ) (slots : List Slot) : 
   pub there : AreThere writer.files slots
   pub last : IsLast writer.current first slots
 
--- the open file can be written
+-- the open file can be written, and no file failed to be made
 abbrev pub IsOpenAt : Current → List Slot → Type 0
 IsOpenAt Skipped slots = Unit {0}
 IsOpenAt Due slots = Unit {0}
 IsOpenAt (File slot size) slots = (2 ≤ slot) × IsTrue (is_writable slots slot)
 IsOpenAt Unopened slots = ⊥
 
--- the outputs that it goes on with can be written, and its files are there. Others may have opened outputs too.
+-- Later calls can write: to standard output if it gets lines about files, and to the open file. The files that are kept
+-- are there. Other callers may have opened outputs, too.
 pub record IsReady (writer : WriterState) (slots : List Slot) : Type 0 where
   pub streams : 2 ≤ length slots
   pub output : CanTell writer.tells slots
   pub files : AreThere writer.files slots
   pub current : IsOpenAt writer.current slots
 
--- The faults of a call that writes: a slot broke in the call where the fault names one. Standard output is written only
--- where it is told anything, and names run out only where a place has none.
+-- The faults of a call that writes. If a fault names a slot, the slot broke in the call. Standard output breaks only if
+-- it gets something, and names run out only if a place has no name.
 abbrev pub Breaks : Manner → List Slot → List Slot → Fault → Type 0
 Breaks manner old new why.Memory = Unit {0}
 Breaks manner old new (why.Write slot) = (slot ≡ 0 → writes manner.output ≡ true) × Rose slot old new
@@ -134,29 +135,29 @@ Breaks manner old new (why.Open slot) = Rose slot old new
 Breaks manner old new (why.Verdict Suffixes) = (place : ℕ) × (place < 2 ^ 64) × (manner.has_name place ≡ false)
 Breaks manner old new fault = ⊥
 
--- an output broke
+-- the fault is that an output broke
 abbrev pub IsWrite : Fault → Type 0
 IsWrite fault = (slot : ℕ) × (fault ≡ why.Write slot)
 
 -- What calls do
 
--- The outputs have this part, and those after the first ones are the writer's own.
+-- Since `before` the outputs got this part, and the writer's files are among the outputs that were opened since.
 pub record At (told : Bool) (writer : WriterState) (before : List Slot) (part : Part) (now : List Slot) : Type 0 where
   pub owns : OwnsFiles writer (length before) now
   pub outputs : OutputsAt told before part now
 
--- so it is of outputs that had the one part
+-- if the outputs had the part `low`, they have the part `high` after the call, or a fault stopped them in between
 pub record Reaches (output : Output) (told : Bool) (writer next : WriterState) (low high : Part) (old new : List Slot)
     (fault : Option Fault) : Type 0 where
   pub there : (before : List Slot) → At told writer before low old
       → IsThere output told (At told next before high new) before low high new fault
 
--- the files stay its own, and there
+-- the writer's files are its own after the call, and are there, if they were before
 pub record KeepsFiles (writer next : WriterState) (old new : List Slot) : Type 0 where
   pub owns : (first : ℕ) → OwnsFiles writer first old → OwnsFiles next first new
   pub there : AreThere writer.files old → AreThere next.files new
 
--- no slot that was broken is sound again, where the call went well; else it broke one, if its fault names one
+-- without a fault no broken slot became sound; with a fault the call has what `Breaks` says
 abbrev pub KeepsOrBreaks : Manner → List Slot → List Slot → Option Fault → Type 0
 KeepsOrBreaks manner old new None = KeepsBroken old new
 KeepsOrBreaks manner old new (Some fault) = Breaks manner old new fault
@@ -172,7 +173,7 @@ pub record Leaves (writer next : WriterState) (old new : List Slot) (fault : Opt
   pub output : IfNone fault (IsTrue (is_writable old 0) → IsTrue (is_writable new 0))
   pub ready : IfNone fault (IsReady next new)
 
--- a writer that has made no file, where the first is made with its first byte
+-- a writer that has made no file, and makes the first file with its first byte
 abbrev pub new_writer : Naming → Tells → Keeps → WriterState
 new_writer naming tells keeps = record {
   names = record { naming = naming; drawn = 0 };
@@ -182,11 +183,11 @@ new_writer naming tells keeps = record {
   current = Due;
 }
 
--- the writer as it is where nothing is begun
+-- the writer while bytes go to no file
 abbrev pub paused : WriterState → WriterState
 paused writer = record writer { current = Skipped }
 
--- names ran out for what was to be begun: the outputs have all that has a name
+-- names ran out for the file that was to be begun: the outputs have all files that have a name
 pub record RunsShort (told : Bool) (writer : WriterState) (change : Draft → Draft) (manner : Manner) (draft : Draft)
     (old new : List Slot) : Type 0 where
   pub none : manner.has_name (length (change draft).ended) ≡ false
@@ -194,7 +195,7 @@ pub record RunsShort (told : Bool) (writer : WriterState) (change : Draft → Dr
   pub all : (before : List Slot) → At told writer before (draft_part manner draft) old
       → OutputsAt told before (draft_part manner (change draft)) new
 
--- The files changed as this says, and so did the outputs; or a fault stopped them.
+-- The files changed as `change` says, and the outputs with them; or a fault stopped that.
 pub record Goes (told : Bool) (writer : WriterState) (change : Draft → Draft) (old new : List Slot) (next : WriterState)
     (fault : Option Fault) : Type 0 where
   pub leaves : Leaves writer next old new fault

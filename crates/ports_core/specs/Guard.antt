@@ -1,4 +1,4 @@
--- What all engines have in common: how much came in, and whether a fault came or the end.
+-- What all engines have in common: how many bytes came in, and whether a fault or the end came.
 use Rattle.std.specs.Prelude.{◌≡◌, ℕ, Bool, false, List, length}
 use Rattle.ports_core.specs.{Slot.Slot, Engine.{Terms, IsCaused, IsMetThere, IsMetWith}, declared.fault.Fault.Fault}
 
@@ -7,7 +7,7 @@ pub record GuardState (S : Type 0) : Type 0 where
   pub fed : ℕ
   pub is_over : Bool
 
--- it can have been fed x, where its stage can
+-- the engine may have been fed x: it isn't over, it counted the bytes of x, and its stage may have been fed x
 pub record HoldsIn {S : Type 0} (Holds : S → List ℕ → Type 0) (guard : GuardState S) (x : List ℕ) : Type 0 where
   pub live : guard.is_over ≡ false
   pub count : guard.fed ≡ length x

@@ -12,21 +12,21 @@ abbrev pub AllClosed : List File → Type 0
 AllClosed [] = Unit {0}
 AllClosed (file ∷ files) = (file.state ≡ state.Closed) × AllClosed files
 
--- the files were reached one after another: those before this place are closed, and after it there is none
+-- the files came one after another: each file before this place is closed, and no file stands after this place
 pub record InTurn (part : List File) (place : ℕ) : Type 0 where
   pub closed : AllClosed (take place part)
   pub within : place ≤ length part
   pub last : length part ≤ suc place
 
--- where files have lines, standard output has those for the files before a place, or for all that were opened
+-- if files have lines, standard output has the lines for the files before a place, or for all that were opened
 abbrev pub LinesTo : Output → Part → Part → ℕ → Fault → Type 0
 LinesTo gets_none part high place fault = Unit {0}
 LinesTo gets_bytes part high place fault = Unit {0}
 LinesTo (gets_lines line) part high place fault = AreLines line part.out part.files place fault
 LinesTo (gets_openings line) part high place fault = AreOpenings line nothing part (IsNext part high) fault
 
--- The same of a tool that closes each file before it opens the next. It says no more of the two parts than that they
--- begin one another, so that steps compose.
+-- A fault stopped a tool that closes each file before it opens the next. The outputs have a part that `low` begins and
+-- that begins `high`. Nothing more relates the files of these parts, so that steps compose.
 pub record StoppedInTurn (output : Output) (told : Bool) (before : List Slot) (low high : Part) (fault : Fault)
     (now : List Slot) : Type 0 where
   pub part : Part
@@ -40,12 +40,12 @@ pub record StoppedInTurn (output : Output) (told : Bool) (before : List Slot) (l
   pub marks : Marks (IsNext part high) fault reached now
   pub from : IsAt fault (length before) place (length part.files)
 
--- the fault of a call, if it ended with one
+-- the fault of a call, if the call ended with a fault
 abbrev pub fault_in : {T : Type 0} → Result T Fault → Option Fault
 fault_in (Ok result) = None
 fault_in (Err fault) = Some fault
 
--- outputs that were to get from one part to another have that, or a fault stopped them between the two
+-- the outputs got from one part to another, as `There` says, or a fault stopped them in between
 abbrev pub IsThere : Output → Bool → Type 0 → List Slot → Part → Part → List Slot → Option Fault → Type 0
 IsThere output told There before low high new None = There
 IsThere output told There before low high new (Some fault) = StoppedInTurn output told before low high fault new

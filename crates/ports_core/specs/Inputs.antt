@@ -5,12 +5,12 @@ use Rattle.ports_core.specs.{Slot.changed_at, Source.{Content, Source, looks, sk
 abbrev pub empty : Content
 empty = unshown []
 
--- an input that tells its bytes had this content; of others it is known no further than their reads gave it
+-- `P` is true of the content of an input; if bytes are visible, the content is `there`
 abbrev pub OfContent : Bool → Content → (Content → Type 0) → Type 0
 OfContent told there P = (content : Content) × (told ≡ true → content ≡ there) × P content
 
--- An input came from this source: it was open. Where inputs don't tell their bytes, the input breaks off just where the
--- source is broken.
+-- An input with this content came from a source that was open. If bytes aren't visible, the content breaks off exactly
+-- if the source is broken.
 pub record CameFrom (told : Bool) (content : Content) (source : Source) : Type 0 where
   pub was_open : source.is_open ≡ true
   pub breaks : told ≡ false → content.breaks_off ≡ source.is_broken
@@ -27,8 +27,8 @@ pub record HasLooked (most slot : ℕ) (old new : List Source) : Type 0 where
   pub looked : source_at new slot ≡ looks size (source_at old slot)
   pub others : KeepsOthers slot old new
 
--- The next `count` bytes of an input were passed over, no more than any tool takes. Of these bytes `Keeps` holds, or of
--- some text of that length, where inputs don't tell theirs.
+-- The next `count` bytes of an input were passed over, fewer than 2^63. `Keeps` is true of these bytes. If bytes aren't
+-- visible, it is true of some text of that length.
 pub record PassesOver (told : Bool) (slot count : ℕ) (Keeps : List ℕ → Type 0) (old new : List Source)
     : Type 0 where
   pub few : count < 2 ^ 63
@@ -38,7 +38,7 @@ pub record PassesOver (told : Bool) (slot count : ℕ) (Keeps : List ℕ → Typ
   pub passed : new ≡ changed_at slot (skips count) old
   pub keeps : Keeps front
 
--- no read asked for more than `most` bytes, and no look
+-- no read or look asked for more than `most` bytes
 abbrev pub AsksAtMost : ℕ → List Source → Type 0
 AsksAtMost most sources = (place : ℕ) → (source_at sources place).asked ≤ most
 

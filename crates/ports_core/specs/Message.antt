@@ -10,7 +10,7 @@ use Rattle.ports_core.specs.{
   },
 }
 
--- an output got the text, or a beginning of it and broke; one that was broken is passed over
+-- an output got the text; or it got a beginning of the text and broke; or it was broken before, and got nothing
 pub data Prints (told : Bool) (text : List ℕ) (old new : Slot) : Type 0 where
   whole : old.is_broken ≡ false → new ≡ adds (told_of told text) old → Prints told text old new
   cut : old.is_broken ≡ false → (n : ℕ) (why : Reason) → n < length text
@@ -18,27 +18,27 @@ pub data Prints (told : Bool) (text : List ℕ) (old new : Slot) : Type 0 where
       → Prints told text old new
   passed : old.is_broken ≡ true → new ≡ old → Prints told text old new
 
--- what happens to standard error, the slot after standard output, where no other output changes
+-- standard error, the slot after standard output, changed as `Change` says, and no other output changed
 abbrev pub OnError : (Slot → Slot → Type 0) → List Slot → List Slot → Type 0
 OnError Change old new = (output error : Slot) (since : List Slot) → old ≡ output ∷ error ∷ since
     → (after : Slot) × Change error after × (new ≡ output ∷ after ∷ since)
 
--- standard error got the text in that way, and no other output changed
+-- standard error got the text, as `Prints` says, and no other output changed
 abbrev pub PrintsOn : Bool → List ℕ → List Slot → List Slot → Type 0
 PrintsOn told text = OnError (Prints told text)
 
--- an output got the line of a message with this reason; where memory for that is exhausted, the line that says so stands
--- in its place
+-- an output got the line of a message with this reason; if there was no memory for this line, the line that says so
+-- stands in its place
 pub record SaysFor (told : Bool) (speaker : Speaker) (why : Reason) (message : Message) (old new : Slot) : Type 0 where
   pub said : List ℕ
   pub is : (said ≡ line_of speaker why message) ⊎ (said ≡ line_of speaker why (message_of Memory []))
   pub printed : Prints told said old new
 
--- the same for some reason, as the system gives one
+-- an output got the line of a message, with some reason, as the system gives one
 abbrev pub Says : Bool → Speaker → Message → Slot → Slot → Type 0
 Says told speaker message old new = (why : Reason) × SaysFor told speaker why message old new
 
--- it got these messages, one after another
+-- an output got these messages, one after another
 abbrev pub SaysAll : Bool → Speaker → List Message → Slot → Slot → Type 0
 SaysAll told speaker [] old new = new ≡ old
 SaysAll told speaker (message ∷ messages) old new = (mid : Slot) × Says told speaker message old mid
@@ -48,7 +48,7 @@ SaysAll told speaker (message ∷ messages) old new = (mid : Slot) × Says told 
 abbrev pub SaysOn : Bool → Speaker → Reason → Message → List Slot → List Slot → Type 0
 SaysOn told speaker why message = OnError (SaysFor told speaker why message)
 
--- a fault was told, or there was nothing to say of it
+-- an output got the line of a message, unless nothing is to be said
 abbrev pub TellsIf : (quiet : Bool) → Bool → Speaker → Reason → Message → Slot → Slot → Type 0
 TellsIf true told speaker why message old new = new ≡ old
 TellsIf false told speaker why message old new = SaysFor told speaker why message old new
@@ -57,19 +57,20 @@ abbrev pub Tells : Bool → Speaker → Reason → Fault → List ℕ → Slot �
 Tells told speaker why fault name =
     TellsIf (is_quiet fault speaker.calling why) told speaker why (message_of fault name)
 
--- the name of the output that a fault speaks of; there is none where no memory was left to keep it
+-- the name of the output that a fault names; the name is empty if there was no memory to keep it
 abbrev pub output_named : List Slot → Fault → List ℕ
 output_named slots (Write slot) = (slot_at slots slot).name
 output_named slots (Open slot) = (slot_at slots slot).name
 output_named slots fault = []
 
--- why that output broke
+-- why the output broke that a fault names
 abbrev pub output_reason : List Slot → Fault → Reason
 output_reason slots (Write slot) = (slot_at slots slot).reason
 output_reason slots (Open slot) = (slot_at slots slot).reason
 output_reason slots fault = Other
 
--- a fault was told on standard error, with the name of the output that it speaks of and the reason for which that broke
+-- a fault was reported on standard error, with the name of the output that it names, and the reason why this output
+-- broke
 abbrev pub TellsOn : Bool → Speaker → Fault → List Slot → List Slot → Type 0
 TellsOn told speaker fault old new =
     OnError (Tells told speaker (output_reason old fault) fault (output_named old fault)) old new

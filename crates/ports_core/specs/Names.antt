@@ -12,7 +12,7 @@ use Rattle.ports_core.specs.{
   Write.BrokeAfter,
 }
 
--- the next one, where there is one, and what drawing it changes
+-- the next name; `has_next` says whether there is one
 abbrev pub next_name : Names → List ℕ
 next_name names = name_at names.naming names.drawn
 
@@ -22,23 +22,23 @@ has_next names = has_name names.naming names.drawn
 abbrev pub with_one_drawn : Names → Names
 with_one_drawn names = record names { drawn = names.drawn + 1 }
 
--- standard output can be written, where it is told anything
+-- standard output can be written, if it gets lines about files
 abbrev pub CanTell : Tells → List Slot → Type 0
 CanTell Nothing slots = Unit {0}
 CanTell Sizes slots = IsTrue (is_writable slots 0)
 CanTell Openings slots = IsTrue (is_writable slots 0)
 
--- what standard output is told of the next file, before that is opened
+-- the line that standard output gets about the next file, before this file is opened
 abbrev pub line_next : Tells → Names → List ℕ
 line_next tells names = told_before (output_of tells) (next_name names)
 
--- the outputs once it was told of it
+-- the outputs once standard output got the line about the next file
 abbrev pub told_next : Bool → Tells → Names → List Slot → List Slot
 told_next told tells names slots = with_written 0 (told_of told (line_next tells names)) slots
 
--- Why a file with the next name wasn't opened: there was no memory; standard output broke as it was told of the file;
--- after that the file can't be opened, or no number is left for it; or no name is left. 64 bits count the names that
--- were drawn.
+-- Why no file with the next name was opened: there was no memory; standard output broke in the line about the file;
+-- after this line the file can't be opened, or no number is left for it; or no name is left. 64 bits count the names
+-- that were drawn.
 pub data OpensNone (told : Bool) (tells : Tells) (names next : Names) (old new : List Slot) : Fault → Type 0 where
   no_memory : new ≡ old → OpensNone told tells names next old new Memory
   no_line : (n : ℕ) → names.drawn < 2 ^ 64 → IsTrue (has_next names)

@@ -16,10 +16,10 @@ pub record File : Type 0 where
   pub name : List ℕ
   pub mode : Mode
   pub bytes : List ℕ
-  -- open, closed or removed, or it could never be opened
+  -- open, closed or removed; or the file could never be opened
   pub state : State
   pub is_broken : Bool
-  -- why it broke; `Other` of one that is sound
+  -- why the file broke; `Other` if it is sound
   pub reason : Reason
 
 pub record Part : Type 0 where
@@ -45,20 +45,21 @@ file_of slot = record {
 abbrev pub told_file : Bool → File → File
 told_file told file = record file { bytes = told_of told file.bytes }
 
--- From the state `before` on, the outputs have got this part: standard output has its bytes after what it had, and
--- the slots that were opened since are its files, in order, no more and no fewer.
+-- Since the state `before` the outputs got exactly this part: standard output got the part's bytes, and the slots that
+-- were opened since are the part's files, in order.
 pub record OutputsAt (told : Bool) (before : List Slot) (part : Part) (now : List Slot) : Type 0 where
   pub standard : 0 < length before
   pub since : List Slot
   pub slots : now ≡ with_written 0 (told_of told part.out) before ++ since
   pub files : map file_of since ≡ map (told_file told) part.files
 
--- the bytes are a beginning of the whole, perhaps empty, perhaps all
+-- `front` is a beginning of `whole`, perhaps empty, perhaps all of it
 abbrev pub IsBeginning : {A : Type 0} → List A → List A → Type 0
 IsBeginning {A} front whole = (rest : List A) × (whole ≡ front ++ rest)
 
--- Each file begins the one at its place, and there may be more of these. One that is open may be closed by then, and
--- any other is as it was; it is broken just where that one is.
+-- The bytes of each file are a beginning of those of the file at its place in the other list, which may have more
+-- files. Name and mode are the same, and both files are broken, or neither is. A file that is open may be in another
+-- state in the other list. Any other file is the same in both.
 abbrev pub FilesBegin : List File → List File → Type 0
 FilesBegin [] wholes = Unit {0}
 FilesBegin (file ∷ files) [] = ⊥
@@ -70,7 +71,7 @@ pub record Begins (low high : Part) : Type 0 where
   pub out : IsBeginning low.out high.out
   pub files : FilesBegin low.files high.files
 
--- after the files of one part, the next one of another has this name
+-- the whole has more files than the part, and the first of these further files has this name
 pub record IsNext (part whole : Part) (name : List ℕ) : Type 0 where
   pub front : List File
   pub file : File
@@ -79,8 +80,8 @@ pub record IsNext (part whole : Part) (name : List ℕ) : Type 0 where
   pub place : length front ≡ length part.files
   pub name_is : file.name ≡ name
 
--- What a fault leaves in the slots by itself. A file that could not be opened was due, and its slot has its name, or
--- none where there was no memory to keep it.
+-- What a fault itself changes in the slots. A write fault breaks its slot. An open fault adds a broken slot for a file
+-- that was due; the slot has the file's name, or none if there was no memory to keep it. Other faults change nothing.
 abbrev pub Marks : (List ℕ → Type 0) → Fault → List Slot → List Slot → Type 0
 Marks IsDue (Write slot) before after = (slot < length before) × SlotBreaks slot before after
 Marks IsDue (Open slot) before after = (slot ≡ length before)
@@ -88,41 +89,40 @@ Marks IsDue (Open slot) before after = (slot ≡ length before)
     × (after ≡ before ++ unopened why kept ∷ []))
 Marks IsDue fault before after = after ≡ before
 
--- Where a fault comes from, of a tool whose files are the slots from `first` on: a write fault from standard output or
--- from the file at this place, an open fault from the next file, when there are `count`.
+-- Where a fault comes from, if the tool's files are the slots from `first` on. A write fault comes from standard output
+-- or from the file at this place. An open fault comes from the next file, so the place is `count`, the number of files.
 abbrev pub IsAt : Fault → ℕ → ℕ → ℕ → Type 0
 IsAt (Write slot) first place count = (slot ≡ 0) ⊎ (slot ≡ first + place)
 IsAt (Open slot) first place count = place ≡ count
 IsAt fault first place count = Unit {0}
 
--- The files were reached in their order: those before this place are as they were to become, and those after it as they
--- were.
+-- The files were reached in their order: those before this place are as in `high`, and those after it as in `low`.
 pub record InOrder (low part high : List File) (place : ℕ) : Type 0 where
   pub done : take place part ≡ take place high
   pub untouched : drop (suc place) part ≡ drop (suc place) low
 
--- What a tool writes to standard output: nothing; bytes of its own; a line for each of its files, which comes once the
--- file is closed and before the next is opened; or a line for each by its name, which comes before it is opened.
+-- What a tool writes to standard output: nothing; bytes of its own; a line for each file, once the file is closed and
+-- before the next is opened; or a line for each file by its name, before the file is opened.
 pub data Output : Type 0 where
   gets_none : Output
   gets_bytes : Output
   gets_lines : (File → List ℕ) → Output
   gets_openings : (List ℕ → List ℕ) → Output
 
--- it writes any
+-- whether the tool writes to standard output
 abbrev pub writes : Output → Bool
 writes gets_none = false
 writes gets_bytes = true
 writes (gets_lines line) = true
 writes (gets_openings line) = true
 
--- the lines for these files, but for those that are open
+-- the lines for those of these files that aren't open
 abbrev pub lines_for : (File → List ℕ) → List File → List ℕ
 lines_for line [] = []
 lines_for line (file ∷ files) = (if is_open file.state then [] else line file) ++ lines_for line files
 
--- These bytes are the lines for the files before a place, and a beginning of the next line only where standard output
--- broke in it.
+-- These bytes are the lines for the files before a place. A beginning of the next line may follow, but only if standard
+-- output broke in it.
 pub record AreLines (line : File → List ℕ) (bytes : List ℕ) (files : List File) (place : ℕ)
     (fault : Fault) : Type 0 where
   pub next : List ℕ
@@ -135,8 +135,9 @@ abbrev pub openings_for : (List ℕ → List ℕ) → List File → List ℕ
 openings_for line [] = []
 openings_for line (file ∷ files) = line file.name ++ openings_for line files
 
--- What there is of the line for a file that is due: nothing; a beginning of it, perhaps all, where standard output broke
--- in it; or all of it, where the file could not be opened after it, or no number was left for it.
+-- What standard output has of the line for a file that is due: nothing; a beginning of the line, perhaps all, if
+-- standard output broke in it; or the whole line, if after it the file could not be opened, or no number was left for
+-- the file.
 abbrev pub IsDueLine : (List ℕ → Type 0) → (List ℕ → List ℕ) → List ℕ → Fault → Type 0
 IsDueLine IsDue line bytes (Write slot) = (bytes ≡ [])
     ⊎ ((slot ≡ 0) × ((name : List ℕ) × IsDue name × IsBeginning bytes (line name)))
@@ -144,7 +145,7 @@ IsDueLine IsDue line bytes (Open slot) = (name : List ℕ) × IsDue name × (byt
 IsDueLine IsDue line bytes Memory = (bytes ≡ []) ⊎ ((name : List ℕ) × IsDue name × (bytes ≡ line name))
 IsDueLine IsDue line bytes fault = bytes ≡ []
 
--- Since the lower part standard output got the lines for the files that were opened since, and then at most that for the
+-- Since `low` standard output got the lines for the files that were opened since, and then at most the line for the
 -- next file.
 pub record AreOpenings (line : List ℕ → List ℕ) (low part : Part) (IsDue : List ℕ → Type 0) (fault : Fault)
     : Type 0 where
@@ -152,9 +153,9 @@ pub record AreOpenings (line : List ℕ → List ℕ) (low part : Part) (IsDue :
   pub all : part.out ≡ low.out ++ (openings_for line (drop (length low.files) part.files) ++ next)
   pub due : IsDueLine IsDue line next fault
 
--- Where closed files have lines: nothing was written since the lower part; or standard output had the lines for its
--- files, and with what it got since it has those for the files before this place. Where files have lines before they are
--- opened, it got those for the files since.
+-- The lines for files came in order. For lines about closed files: nothing was written since `low`; or the lines for
+-- the files of `low`, and after them what standard output got since, are the lines for the files before this place. For
+-- lines about files that are opened: standard output got the lines for the files that were opened since `low`.
 abbrev pub LinesInOrder : Output → Part → Part → Part → ℕ → Fault → Type 0
 LinesInOrder gets_none low part high place fault = Unit {0}
 LinesInOrder gets_bytes low part high place fault = Unit {0}
@@ -163,9 +164,8 @@ LinesInOrder (gets_lines line) low part high place fault = (part ≡ low)
     × AreLines line (lines_for line low.files ++ since) part.files place fault)
 LinesInOrder (gets_openings line) low part high place fault = AreOpenings line low part (IsNext part high) fault
 
--- A fault stopped the outputs at some part between two, at one of its files, and left its mark. So a file is closed
--- before the next is opened, the line for a closed one comes between the two, and nothing is written after an output that
--- broke.
+-- A fault stopped the outputs at a part between `low` and `high`, and left its mark. It came at the file at `place`:
+-- the files before this file have all that was due, and the files after it are as they were.
 pub record StoppedBetween (output : Output) (told : Bool) (before : List Slot) (low high : Part) (fault : Fault)
     (now : List Slot) : Type 0 where
   pub part : Part

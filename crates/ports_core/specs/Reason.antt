@@ -1,4 +1,5 @@
--- Why outputs, inputs and names break, and what is said of it: the numbers of Linux, and the texts of the C library.
+-- Why outputs, inputs and names break, and what messages say of it: the numbers of Linux, and the texts of the C
+-- library.
 use Rattle.std.specs.{
   Prelude.{ℕ, ℤ, pos, negsuc, ◌==◌, List, [], ◌∷◌, codes, Option, Some, None, Bool, true, false},
   Prelude.{if◌then◌else◌},
@@ -11,7 +12,7 @@ use Rattle.ports_core.specs.declared.reason.Reason.{
   TheVariants.{LongName, Circle, NotOpen, NoDevice, Input, MayBeInput, Endless, NotUtf8, Other},
 }
 
--- what a message says of it after the name
+-- what a message says of a reason, after the name
 abbrev pub reason_text : Reason → List ℕ
 reason_text Gone = []
 reason_text Missing = codes ": No such file or directory"
@@ -35,12 +36,12 @@ reason_text Endless = []
 reason_text NotUtf8 = codes ": name is not UTF-8"
 reason_text Other = []
 
--- an input that goes on without an end isn't read to its end
+-- whether the reason is that an input goes on without an end, and isn't read to its end for that
 abbrev pub is_endless : Reason → Bool
 is_endless Endless = true
 is_endless why = false
 
--- the numbers that the system has for them
+-- the numbers that the system has for reasons
 abbrev pub reasons : List (ℕ × Reason)
 reasons = (2, Missing) ∷ (5, Device) ∷ (6, NoDevice) ∷ (9, NotOpen) ∷ (13, Denied) ∷ (20, NoFolder) ∷ (21, Folder)
     ∷ (24, TooMany) ∷ (26, Busy) ∷ (27, TooLarge) ∷ (28, Full) ∷ (30, ReadOnly) ∷ (32, Gone) ∷ (36, LongName)
@@ -54,7 +55,7 @@ abbrev pub reason_at : ℤ → Reason
 reason_at (pos number) = reason_in reasons number
 reason_at (negsuc n) = Other
 
--- Of an error without a number: the library itself refuses a name with a byte 0, as input that isn't valid.
+-- The reason of an error without a number: the library itself refuses a name with a byte 0, as input that isn't valid.
 abbrev pub reason_without : ErrorKind → Reason
 reason_without InvalidInput = NotUtf8
 reason_without kind = Other

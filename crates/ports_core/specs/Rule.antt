@@ -1,13 +1,13 @@
--- What a tool says in words, by its own name, of a rule that a word breaks. Those of operands and patterns of `csplit` have
--- numbers, which `cutters csplit` prints.
+-- What a tool that is called by its own name says, in words, of a rule that a word breaks. The rules of operands and
+-- patterns of `csplit` have numbers, which `cutters csplit` prints.
 use Rattle.std.specs.Prelude.{ℕ, List, [], codes, ◌==◌, if◌then◌else◌}
 use Rattle.ports_core.specs.declared.fault.UsageKind.{
   UsageKind,
   TheVariants.{PatternTooLarge, BadSeparator, BadSuffix, BadMode, BadFormat},
 }
 
--- What is wrong with an operand. The numbers 1, 7 and 9 stand in no message: they are of no operand at all, of a pattern,
--- and of want of memory.
+-- What is wrong with an operand, by the rule's number. The numbers 1, 7 and 9 stand in no message: no operand at all, a
+-- pattern that can't be read, and want of memory.
 abbrev pub operand_rule : ℕ → List ℕ
 operand_rule rule =
     if rule == 2 then codes "no closing delimiter"
@@ -19,7 +19,7 @@ operand_rule rule =
     else (if rule == 10 then codes "neither a pattern nor a line number up to 9223372036854775807"
     else codes "invalid"))))))
 
--- what is wrong with a pattern, at one of its bytes
+-- what is wrong with a pattern, at one of its bytes, by the rule's number
 abbrev pub pattern_rule : ℕ → List ℕ
 pattern_rule rule =
     if rule == 1 then codes "empty pattern"
@@ -33,7 +33,7 @@ pattern_rule rule =
     else (if rule == 9 then codes "unknown class"
     else codes "invalid"))))))))
 
--- what a pattern is as a whole, or what the value of an option may be
+-- what is wrong with a whole pattern or with the value of an option, or what values the option can have
 abbrev pub value_rule : UsageKind → List ℕ
 value_rule PatternTooLarge = codes ": too large"
 value_rule BadSeparator = codes ": one byte, or \\0"

@@ -8,6 +8,6 @@ standard_output = opened (codes "standard output") Append
 abbrev pub standard_error : Slot
 standard_error = opened (codes "standard error") Append
 
--- both streams, where nothing went to standard output
+-- both streams, if nothing went to standard output
 abbrev pub streams_with : Slot → List Slot
 streams_with error = standard_output ∷ error ∷ []

@@ -1,8 +1,9 @@
--- What a tool makes of an input, whatever engine does it: what is written once some bytes came in, and what at the end.
+-- What a tool makes of an input, whatever engine does it: what is written once some bytes came in, and what is written
+-- at the end.
 use Rattle.std.specs.Prelude.{◌≡◌, ◌≤◌, ◌⊎◌, Bool, true, false, List, [], ◌++◌, ℕ, length, Option, Some, None}
 use Rattle.ports_core.specs.{Part.{Part, Begins, Output, gets_bytes}, declared.verdict.Verdict.Verdict}
 
--- what a call of an engine may need, and so which faults it can give
+-- what a call of an engine may need; this decides which faults the call can return
 pub record Needs : Type 0 where
   -- memory, for bytes that wait or for names
   pub memory : Bool
@@ -11,18 +12,18 @@ pub record Needs : Type 0 where
 
 -- what an engine uses
 pub record Means : Type 0 where
-  -- what it writes to standard output
+  -- what the engine writes to standard output
   pub output : Output
-  -- it writes to files that it opens
+  -- whether the engine writes to files that it opens
   pub files : Bool
-  -- what it may need as it takes in a piece, and at the end
+  -- what the engine may need as it takes in a piece, and at the end of the input
   pub feeding : Needs
   pub closing : Needs
 
 abbrev pub no_needs : Needs
 no_needs = record { memory = false; files = false }
 
--- an engine that writes to standard output alone
+-- an engine that writes to standard output alone, and may need memory for a piece if `memory` says so
 abbrev pub on_output : Bool → Means
 on_output memory = record {
   output = gets_bytes;
@@ -34,25 +35,25 @@ on_output memory = record {
 pub record Work : Type 0 where
   -- what is written once these bytes came in
   pub settled : List ℕ → Part
-  -- what is written where the input ends after them, before any file is removed
+  -- what is written if the input ends after these bytes, before any file is removed
   pub whole : List ℕ → Part
   -- which of these bytes aren't written yet, since what follows decides where they go
   pub waiting : List ℕ → List ℕ
-  -- whatever comes after them, the outputs stay
+  -- whether the output is complete: whatever comes after these bytes, it stays
   pub is_complete : List ℕ → Bool
-  -- what the work itself ends with there, where it doesn't end well
+  -- the verdict if the input ends after these bytes and the work doesn't end well
   pub verdict : List ℕ → Option Verdict
-  -- after a fault, and after an input that breaks off, its files are removed
+  -- whether the tool's files are removed after a fault or a verdict, and after an input that breaks off
   pub clears : Bool
   pub means : Means
-  -- how many bytes more than it uses it may be given, of an input that others read after it
+  -- how many more bytes than it uses the tool may be given, of an input that others read after it
   pub ahead : ℕ
 
 -- the work of a tool that always ends well
 abbrev pub always_well : List ℕ → Option Verdict
 always_well x = None
 
--- the work ends with this verdict where the input ends after x
+-- the work ends with this verdict if the input ends after x
 abbrev pub Judges : Work → List ℕ → Verdict → Type 0
 Judges work x verdict = work.verdict x ≡ Some verdict
 
@@ -60,21 +61,21 @@ Judges work x verdict = work.verdict x ≡ Some verdict
 abbrev pub IsSettled : Work → List ℕ → Verdict → Type 0
 IsSettled work x verdict = (work.is_complete x ≡ true) × Judges work x verdict
 
--- more input changes nothing
+-- the output is complete with x, and y after it changes nothing
 pub record IsComplete (work : Work) (x y : List ℕ) : Type 0 where
   pub still : work.is_complete (x ++ y) ≡ true
   pub settled_stays : work.settled (x ++ y) ≡ work.settled x
   pub whole_stays : work.whole (x ++ y) ≡ work.settled x
   pub verdict_stays : work.verdict (x ++ y) ≡ work.verdict x
 
--- What came in was needed: the last piece has at most `most` bytes, and the output of those before it was not complete.
+-- What came in was needed: the last piece has at most `most` bytes, and the output was not complete before this piece.
 abbrev pub IsNeeded : (List ℕ → Bool) → ℕ → List ℕ → Type 0
 IsNeeded is_complete most x = (x ≡ [])
     ⊎ ((before : List ℕ) × (piece : List ℕ) × (x ≡ before ++ piece) × (length piece ≤ most)
     × (is_complete before ≡ false))
 
--- The last n bytes of x are not used: the output is complete before them, and was not before the last byte that is used.
--- Where it isn't complete, all are used.
+-- The last n bytes of x are not used: the output is complete before them, and was not before the last byte that is
+-- used. If the output isn't complete, all bytes are used.
 pub record IsSpare (work : Work) (x : List ℕ) (n : ℕ) : Type 0 where
   pub used : List ℕ
   pub rest : List ℕ
@@ -83,7 +84,7 @@ pub record IsSpare (work : Work) (x : List ℕ) (n : ℕ) : Type 0 where
   pub needed : IsNeeded work.is_complete 1 used
   pub enough : (rest ≡ []) ⊎ (work.is_complete used ≡ true)
 
--- What is written is never taken back, and once the output is complete it stays.
+-- What is written is never taken back, the whole goes on from what is settled, and a complete output stays.
 pub record IsLawful (work : Work) : Type 0 where
   pub grows : (x y : List ℕ) → Begins (work.settled x) (work.settled (x ++ y))
   pub ends : (x : List ℕ) → Begins (work.settled x) (work.whole x)

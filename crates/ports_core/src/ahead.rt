@@ -3,16 +3,16 @@ use std::cell::Cell;
 use std::io::{BufRead, ErrorKind, Lock, StdinLock};
 use std::rt::Stdin;
 
-/// What standard input is, where the system doesn't say so. The library can't be asked whether it can be sought, but its lock reads
-/// more than a byte ahead just then.
+/// What standard input is, if the system doesn't say it. The library can't be asked whether standard input can be
+/// sought. But the library's lock reads more than a byte ahead exactly if it can.
 #[derive(Drop)]
 pub(crate) struct Ahead {
     alloc: Global,
-    /// Standard input, of which nothing was read; none where it may not be read, and once a lock has its first bytes.
+    /// Standard input, if it may be read and nothing of it was read. None once a lock has its first bytes.
     unread: Cell<Option<Stdin>>,
-    /// The lock that has its first bytes, and is to be read on.
+    /// The lock that has the first bytes, and is to be read on.
     lock: Cell<Vec<StdinLock<'static>>>,
-    /// Whether it may be a file, once that was asked.
+    /// Whether standard input may be a file, once that was asked.
     may_be: Cell<bool>,
 }
 
@@ -27,13 +27,13 @@ impl Ahead {
         }
     }
 
-    /// Standard input may be read, and nothing of it was.
+    /// Standard input may be read, and nothing of it was read.
     pub(crate) fn begin(&self, standard: Stdin) {
         self.unread.set(Some(standard));
     }
 
-    /// Whether standard input may be a file. This waits for its first byte, as the first read would. It may be one where there is no
-    /// memory to keep that.
+    /// Whether standard input may be a file. This waits for its first byte, as the first read would. If there is no
+    /// memory to keep the lock that read it, standard input may be a file.
     pub(crate) fn may_be_file(&self) -> bool {
         let Some(standard) = self.unread.replace(None) else {
             return self.may_be.get();
@@ -46,7 +46,7 @@ impl Ahead {
         self.may_be.get()
     }
 
-    /// The lock that has the first bytes, for who reads on. None where another one is read.
+    /// The lock that has the first bytes, for the caller to read on. None if there is no such lock.
     pub(crate) fn take(&self) -> Option<StdinLock<'static>> {
         self.may_be_file();
         let mut kept = self.lock.replace(Vec::new(self.alloc));
@@ -63,7 +63,7 @@ impl Ahead {
     }
 }
 
-/// Whether a lock reads more ahead than the next byte. Where no byte is left it may; where it can't be read it doesn't.
+/// Whether a lock reads more ahead than the next byte. If no byte is left, it may; if it can't be read, it doesn't.
 fn reads_ahead(lock: &mut StdinLock<'static>) -> bool {
     for _ in 0..u64::MAX {
         match lock.fill_buf() {

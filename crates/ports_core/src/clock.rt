@@ -1,6 +1,7 @@
 use std::rt::Clock;
 
-/// What the clock tells, in milliseconds from a start that is always the same. Where it tells nothing, the greatest number.
+/// The time of the clock, in milliseconds from a start that is always the same. If the clock says nothing, the greatest
+/// number.
 pub fn time_of(clock: &impl Clock) -> u64 {
     match clock.monotonic() {
         Ok(time) => u64::try_from(time.as_millis()).unwrap_or(u64::MAX),

@@ -1,4 +1,4 @@
-//! Writing one file after another: each is opened when it is due, and closed before the next.
+//! Writing one file after another: each file is opened when it is due, and closed before the next.
 ghost use Rattle.std.specs.{
   Prelude.{◌≡◌, ◌+◌, ◌<◌, ◌≤◌, ◌++◌, ◌∷◌, [], length, decimal, true, vec_capacity, vec_len, IfErr, IsTrue, OnOk},
 };
@@ -16,69 +16,69 @@ use crate::{Fault, Names, Naming, Outs, sweep_files, write_whole};
 use itoa::Buffer;
 use std::alloc::{AllocError, Global};
 
-/// When what is begun gets its file.
+/// When the file that is begun is opened.
 #[derive(Clone, Copy)]
 pub enum Opening {
-    /// It is skipped, and gets none.
+    /// Never: its bytes are skipped.
     Never,
-    /// With its first byte; without any it has none.
+    /// With its first byte. Without a byte there is no file.
     Late,
-    /// As it begins.
+    /// As soon as it is begun.
     AtOnce,
 }
 
-/// What standard output is told of files.
+/// What standard output gets about files.
 #[derive(Clone, Copy)]
 pub enum Tells {
     /// Nothing.
     Nothing,
-    /// The size of each in bytes, as a line, once it is closed.
+    /// The size of each file in bytes, as a line, once the file is closed.
     Sizes,
-    /// The name of each, as a line, before it is opened.
+    /// The name of each file, as a line, before the file is opened.
     Openings,
 }
 
-/// Whose outputs are kept.
+/// Which outputs are kept.
 #[derive(Clone, Copy)]
 pub enum Keeps {
-    /// That of the open file: files stay.
+    /// The output of the open file: files stay.
     Open,
-    /// Those of all files, so that they can be removed.
+    /// The outputs of all files, so that they can be removed.
     All,
 }
 
-/// What bytes go to.
+/// Where bytes go.
 #[derive(Clone, Copy)]
 pub enum Current {
-    /// No file: they are skipped.
+    /// To no file: they are skipped.
     Skipped,
-    /// The next file, which is opened with the first of them.
+    /// To the next file, which is opened with its first byte.
     Due,
-    /// A file that is open.
+    /// To a file that is open.
     File {
-        /// Its output.
+        /// The file's output.
         slot: usize,
-        /// How many bytes it has, where sizes are told.
+        /// How many bytes the file has, if sizes are written.
         size: u64,
     },
-    /// A file that could not be made. Nothing follows but `clear`.
+    /// The file could not be made. Nothing follows except `clear`.
     Unopened,
 }
 
-/// Writes files one after another. It takes memory for names, and for the outputs of all files where they are kept.
+/// Writes files one after another. It takes memory for names, and for the outputs of all files if they are kept.
 #[derive(Drop)]
 pub struct FileWriter {
     names: Names,
     tells: Tells,
     keeps: Keeps,
-    /// Where all are kept, the outputs of the files that were made, in order, but of those that were removed.
+    /// If the outputs of all files are kept: those of the files that were made and not removed, in order.
     files: Vec<usize>,
     current: Current,
 }
 
 impl FileWriter {
-    /// A writer that has made no file, names its files so, by their places from 0 on, and makes the first with its first
-    /// byte, unless something else is begun.
+    /// A writer that has made no file. `naming` names its files by their places, from 0 on. The first file is made with
+    /// its first byte, unless something else is begun.
     pub fn new(alloc: Global, naming: Naming, tells: Tells, keeps: Keeps) -> FileWriter
         ensures { seen_writer result ≡ new_writer naming tells keeps }
     {
@@ -98,13 +98,13 @@ impl FileWriter {
         matches!(self.current, Current::File { .. })
     }
 
-    /// Writes more bytes of what is begun.
+    /// Writes more bytes of the file that was begun.
     ///
     /// # Errors
     ///
-    /// `Write` where the file broke; where it is opened now, `Memory`, `Open` and `Suffixes` where there is no room for its
-    /// name, its line or its output's number, it can't be opened, or no name is left, and `Write` where standard output
-    /// broke before it was opened.
+    /// `Write` if the file broke. If the file is opened now: `Memory` if there is no room for its name, its line or its
+    /// output's number, `Open` if it can't be opened, `Suffixes` if no name is left, and `Write` if standard output
+    /// broke before.
     pub fn put<O: Outs>(&mut self, bytes: &[u8], outs: &mut O) -> Result<(), Fault>
         requires ready { IsReady (seen_writer self.old) (O.slots outs.old) }
         requires fits { CanCount (seen_writer self.old).tells (size_of (seen_writer self.old).current) bytes.now }
@@ -130,12 +130,12 @@ impl FileWriter {
         }
     }
 
-    /// Begins what gets its file as this says. A file that was open is left as it is, and gets no more.
+    /// Begins a file, which is opened as `opening` says. A file that was open is left as it is, and gets no more.
     ///
     /// # Errors
     ///
-    /// `Memory` where there is no room for a name, its line or an output's number, `Open` where the file can't be opened,
-    /// `Suffixes` where no name is left, `Write` where standard output is told of the file and broke.
+    /// `Memory` if there is no room for a name, its line or an output's number, `Open` if the file can't be opened,
+    /// `Suffixes` if no name is left, `Write` if standard output broke in the line about the file.
     pub fn begin<O: Outs>(&mut self, opening: Opening, outs: &mut O) -> Result<(), Fault>
         requires { IsReady (seen_writer self.old) (O.slots outs.old) }
         ensures goes { Goes O.told (paused (seen_writer self.old)) (with_next opening) (O.slots outs.old)
@@ -153,11 +153,11 @@ impl FileWriter {
         Ok(())
     }
 
-    /// Ends what is begun, and begins what gets its file as this says.
+    /// Ends the file that was begun, and begins the next, which is opened as `opening` says.
     ///
     /// # Errors
     ///
-    /// `Write` where the file or standard output broke, and those of `begin`.
+    /// `Write` if the file or standard output broke, and the errors of `begin`.
     pub fn next<O: Outs>(&mut self, opening: Opening, outs: &mut O) -> Result<(), Fault>
         requires { IsReady (seen_writer self.old) (O.slots outs.old) }
         ensures goes { Goes O.told (seen_writer self.old) (with_next opening) (O.slots outs.old) (O.slots outs.new)
@@ -168,11 +168,11 @@ impl FileWriter {
         self.begin(opening, outs)
     }
 
-    /// Ends what is begun: closes its file, and tells of it.
+    /// Ends the file that was begun: closes it, and writes its size if sizes are written.
     ///
     /// # Errors
     ///
-    /// `Write` where the file or standard output broke.
+    /// `Write` if the file or standard output broke.
     pub fn end<O: Outs>(&mut self, outs: &mut O) -> Result<(), Fault>
         requires { IsReady (seen_writer self.old) (O.slots outs.old) }
         ensures goes { Goes O.told (seen_writer self.old) (with_next Never) (O.slots outs.old) (O.slots outs.new)
@@ -195,8 +195,8 @@ impl FileWriter {
         }
     }
 
-    /// Removes all files whose outputs are kept and that are still there, in order. One that can't be removed is broken and
-    /// closed, and the next is tried.
+    /// Removes all files whose outputs are kept and that are still there, in order. A file that can't be removed is
+    /// broken and closed, and the next is tried.
     pub fn clear<O: Outs>(&mut self, outs: &mut O)
         requires { AreThere (seen_writer self.old).files (O.slots outs.old) }
         ensures same { seen_writer self.new ≡ record (seen_writer self.old) { files = (seen_writer self.new).files } }
@@ -243,7 +243,7 @@ impl FileWriter {
     }
 }
 
-/// Makes room for one more output, where all are kept.
+/// Makes room for one more output, if the outputs of all files are kept.
 fn make_room(files: &mut Vec<usize>, keeps: Keeps) -> Result<(), AllocError>
     ensures same { files.new.items ≡ files.old.items }
     ensures room { OnOk result (keeps ≡ Keeps.All → vec_len files.new < vec_capacity files.new) }
@@ -254,7 +254,7 @@ fn make_room(files: &mut Vec<usize>, keeps: Keeps) -> Result<(), AllocError>
     }
 }
 
-/// Keeps the output of one more file, where all are kept.
+/// Keeps the output of one more file, if the outputs of all files are kept.
 fn keep(files: &mut Vec<usize>, keeps: Keeps, slot: usize)
     requires { keeps ≡ Keeps.All → vec_len files.old < vec_capacity files.old }
     ensures { files.new.items ≡ files_with keeps files.old.items slot }
@@ -265,7 +265,7 @@ fn keep(files: &mut Vec<usize>, keeps: Keeps, slot: usize)
     }
 }
 
-/// Appends an output to those of the files, where there is room for it.
+/// Appends an output to the outputs of the files. There is room for it.
 fn add(files: &mut Vec<usize>, slot: usize)
     requires { vec_len files.old < vec_capacity files.old }
     ensures { files.new.items ≡ files.old.items ++ slot ∷ [] }
@@ -276,7 +276,7 @@ fn add(files: &mut Vec<usize>, slot: usize)
     }
 }
 
-/// Tells the size of a file that is closed, where sizes are told.
+/// Writes the size of a file that is closed, if sizes are written.
 fn tell_size<O: Outs>(tells: Tells, size: u64, outs: &mut O) -> Result<(), Fault>
     requires { CanTell tells (O.slots outs.old) }
     ensures { TellsSize O.told tells size (O.slots outs.old) (O.slots outs.new) (fault_in result) }

@@ -11,13 +11,13 @@ use std::alloc::AllocError;
 /// The base in which a number is written.
 #[derive(Clone, Copy, Debug, PartialEq, Eq)]
 pub enum Base {
-    /// In tens (`d`, `i`, `u`).
+    /// Base ten (`d`, `i`, `u`).
     Decimal,
-    /// In eights (`o`).
+    /// Base eight (`o`).
     Octal,
-    /// In sixteens, with `a` to `f` (`x`).
+    /// Base sixteen, with `a` to `f` (`x`).
     Hex,
-    /// In sixteens, with `A` to `F` (`X`).
+    /// Base sixteen, with `A` to `F` (`X`).
     Capitals,
 }
 
@@ -26,25 +26,25 @@ pub enum Base {
 pub enum Filling {
     /// Zeros, between the mark and the digits (`0`).
     Zeros,
-    /// Blanks before it.
+    /// Blanks before the number.
     BlanksBefore,
-    /// Blanks after it (`-`).
+    /// Blanks after the number (`-`).
     BlanksAfter,
 }
 
 /// How a number is written: what flags, width, precision and letter of a conversion say (C standard, `fprintf`).
 #[derive(Clone, Copy, Debug, PartialEq, Eq)]
 pub struct Form {
-    /// In which base.
+    /// The base.
     pub base: Base,
-    /// Whether octal digits begin with a 0, and hexadecimal ones stand after `0x` or `0X` (`#`).
+    /// Whether octal digits begin with a 0, and hexadecimal digits stand after `0x` or `0X` (`#`).
     pub is_marked: bool,
-    /// How many characters it has at least.
+    /// How many characters the number has at least.
     pub width: u8,
-    /// What fills it to them.
+    /// What fills the number to this width.
     pub filling: Filling,
-    /// How many digits it has at least, where blanks fill it. Where that is 0, the number 0 has no digit, but the one that
-    /// `#` gives in octal.
+    /// How many digits the number has at least, if blanks fill it. If that is 0, the number 0 has no digit, except the
+    /// one that `#` gives in octal.
     pub precision: u8,
 }
 
@@ -148,7 +148,7 @@ impl Form {
     }
 }
 
-/// How many digits a number has; 0 has none.
+/// How many digits a number has; the number 0 has none.
 fn digit_count(alphabet: Alphabet, number: u64) -> usize
     ensures is { result ≡ digit_count alphabet number }
     ensures enough { number < radix alphabet ^ result }

@@ -15,8 +15,8 @@ use crate::{Fault, Inputs, Outs, Stage, fed_with};
 use std::marker::Model;
 use std::mem::replace;
 
-/// An engine of a tool's stage: it takes one input's pieces as they come, and after each its outputs have exactly what no
-/// further input can change.
+/// An engine of a tool's stage: it takes the pieces of one input as they come. After each piece its outputs have
+/// exactly what no further input can change.
 #[derive(Drop)]
 pub struct Guarded<S: Stage> {
     stage: S,
@@ -45,16 +45,16 @@ impl<S: Stage> Guarded<S> {
         }
     }
 
-    /// Takes the next piece of the input, and writes what is settled with it. What that is, each tool's law
-    /// `agreed_is_settled` says: exactly what all continuations of the input agree on.
+    /// Takes the next piece of the input, and writes what is settled with it. Each tool's law `agreed_is_settled` says
+    /// what that is: exactly what all continuations of the input agree on.
     ///
     /// # Errors
     ///
-    /// `Write` where an output broke, `Open` where a file can't be opened, `Memory` where there is no room for bytes
-    /// that wait or for a name, `TooLong` where the input has more than 2^63-1 bytes: nothing of this piece is
-    /// written then. After these the outputs have a beginning of what is settled. `Verdict` where the work ends so
-    /// whatever comes: then the outputs have all that is settled, and the files are removed if the work clears them.
-    /// After a fault, and after `close`, `Failed`: nothing is changed.
+    /// `Write` if an output broke, `Open` if a file can't be opened, `Memory` if there is no room for bytes that wait
+    /// or for a name, and `TooLong` if the input has more than 2^63-1 bytes: then nothing of this piece is written.
+    /// After these the outputs have a beginning of what is settled. `Verdict` if the work ends with a verdict, whatever
+    /// comes: then the outputs have all that is settled, and the files are removed if the work says so. `Failed` after
+    /// a fault and after `close`: nothing is changed.
     pub fn feed<O: Outs>(&mut self, piece: &[u8], outs: &mut O) -> Result<(), Fault>
         requires { self.old.is_over ≡ false → S.terms.Ready self.old.stage (O.slots outs.old) }
         ensures passes { Passes S.terms O.told piece.now self.old.stage self.new.stage (O.slots outs.old)
@@ -85,11 +85,11 @@ impl<S: Stage> Guarded<S> {
         }
     }
 
-    /// Takes in bytes that an input has left, before any piece and without reading all of them: where the input can be
-    /// looked at and passed over, and the work writes none of these bytes now. They are all that it has left, where the last
-    /// part is wanted, or what stands before a part that is wanted alone. It returns how many bytes it took in; they are passed
-    /// over, so that the reads that follow give what comes after them. 0 where it took in none, and the input is to be read
-    /// from its front.
+    /// Takes in bytes that an input has left, before any piece and without reading all of them. It does so if the input
+    /// can be looked at and passed over, and the work writes none of these bytes now. They are all that the input has
+    /// left if its last part is wanted, or what stands before the only part that is wanted. Returns how many bytes it
+    /// took in. They are passed over, so that the next reads give what comes after them. If that is 0, the input is to
+    /// be read from its front.
     pub fn load<I: Inputs>(&mut self, slot: usize, most: usize, inputs: &mut I) -> u64
         requires fresh { HoldsIn S.terms.Holds self.old [] }
         requires input { IsTrue (is_readable (I.sources inputs.old) slot) }
@@ -103,14 +103,14 @@ impl<S: Stage> Guarded<S> {
         self.fed
     }
 
-    /// Ends the input, and writes what waited. Where the work writes to standard output and nothing failed, that can
-    /// still be written to afterwards.
+    /// Ends the input, and writes what waited. If the work writes to standard output and nothing failed, standard
+    /// output can still be written to afterwards.
     ///
     /// # Errors
     ///
-    /// `Write` where an output broke. `Open` where a file can't be opened and `Memory` where there is none, each only
-    /// where the work's means say that `close` may need it. `Verdict` where the work ends so: then the outputs have all
-    /// of it, and the files are removed if the work clears them. `Failed` after a fault or after `close`: nothing is
+    /// `Write` if an output broke. `Open` if a file can't be opened and `Memory` if there is none, but each only if the
+    /// work's means say that `close` may need it. `Verdict` if the work ends with a verdict: then the outputs have the
+    /// whole, and the files are removed if the work says so. `Failed` after a fault or after `close`: nothing is
     /// changed.
     pub fn close<O: Outs>(&mut self, outs: &mut O) -> Result<(), Fault>
         requires { self.old.is_over ≡ false → S.terms.Ready self.old.stage (O.slots outs.old) }
@@ -126,9 +126,9 @@ impl<S: Stage> Guarded<S> {
         self.stage.finish(outs)
     }
 
-    /// Gives the input up, after any fault or where it broke off: removes the files that it made and that are still
-    /// there, in order, if its work clears them. One that can't be removed is broken and closed, and the next is tried.
-    /// After a verdict, or when called again, it tries those whose removal failed before.
+    /// Gives the input up, after any fault or if the input broke off: removes the files that the engine made and that
+    /// are still there, in order, if its work says so. A file that can't be removed is broken and closed, and the next
+    /// is tried. After a verdict, or when called again, it tries the files whose removal failed before.
     pub fn abandon<O: Outs>(&mut self, outs: &mut O)
         requires { AreThere (S.terms.files self.old.stage) (O.slots outs.old) }
         ensures sweeps { Sweeps S.terms self.old.stage self.new.stage (O.slots outs.old) (O.slots outs.new) }
@@ -148,8 +148,8 @@ impl<S: Stage> Guarded<S> {
         self.stage.is_done()
     }
 
-    /// How many bytes the next piece may have, so that no more of them than its work's `ahead` are not used: of an input that
-    /// others read after it, as standard input, no more is to be read at once.
+    /// How many bytes the next piece may have, so that at most `ahead` of them, by the work, are not used. Of an input
+    /// that others read after it, as standard input, no more should be read at once.
     pub fn wanted(&self) -> u64
         ensures some { (x : List ℕ) → HoldsIn S.terms.Holds self.now x
             → (S.terms.work self.now.stage).is_complete x ≡ false → 0 < result }
@@ -158,14 +158,14 @@ impl<S: Stage> Guarded<S> {
         self.stage.wanted()
     }
 
-    /// How many of the bytes that came in are not used: those after the byte with which the output was complete.
+    /// How many of the bytes that came in are not used: the bytes after the one with which the output was complete.
     pub fn unused(&self) -> u64
         ensures { (x : List ℕ) → HoldsIn S.terms.Holds self.now x → IsSpare (S.terms.work self.now.stage) x result }
     {
         self.stage.unused()
     }
 
-    /// How many bytes wait, and so aren't written: those that came in and of which it isn't decided yet where they go.
+    /// How many bytes wait: they came in and aren't written, since it isn't decided yet where they go.
     pub fn held(&self) -> u64
         ensures { (x : List ℕ) → HoldsIn S.terms.Holds self.now x
             → result ≡ length ((S.terms.work self.now.stage).waiting x) }

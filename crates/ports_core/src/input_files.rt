@@ -12,7 +12,7 @@ use std::rt::Files;
 /// The system's name for standard input, whatever other names lead to.
 pub(crate) const STANDARD_INPUT: &str = "/proc/self/fd/0";
 
-/// The same for standard output.
+/// The system's name for standard output.
 pub(crate) const STANDARD_OUTPUT: &str = "/proc/self/fd/1";
 
 /// What an input is that was opened.
@@ -24,22 +24,22 @@ pub(crate) enum Opened {
     Other,
 }
 
-/// Which files are read: those that were opened as inputs, and standard input. Inputs note theirs, and outputs ask
+/// Which files are read: those that were opened as inputs, and standard input. Inputs note their files. Outputs ask
 /// before they empty a file, so that no output is an input. A file stays noted when its input has ended.
 ///
-/// Only regular files count, by their identity, so that other names of a file and links to it are the same one. A device
-/// or a pipe may well be read and written.
+/// Only regular files count, by their identity: other names of a file and links to it are the same file. A device or a
+/// pipe may well be read and written.
 ///
-/// Where the system doesn't say which file standard input is, that may be any regular file that has a byte, if it is read and can be
-/// sought.
+/// If the system doesn't say which file standard input is, standard input may be any regular file that has a byte, if
+/// it is read and can be sought.
 #[derive(Drop)]
 pub struct InputFiles {
     alloc: Global,
-    /// The identities, in the order in which the files were opened. None for a file of which the system didn't tell it.
+    /// The identities, in the order in which the files were opened. None for a file of which the system didn't say it.
     noted: Cell<Vec<Option<u128>>>,
-    /// An input was opened by its name. The tools that make files read no other then.
+    /// Whether an input was opened by its name. The tools that make files read no other input then.
     have_name: Cell<bool>,
-    /// Standard input, where the system doesn't say which file it is.
+    /// Standard input, if the system doesn't say which file it is.
     pub(crate) ahead: Ahead,
 }
 
@@ -54,7 +54,7 @@ impl InputFiles {
         }
     }
 
-    /// Notes a file that was opened as an input, and returns what it is. None where there is no memory for that.
+    /// Notes a file that was opened as an input, and returns what it is. None if there is no memory for that.
     pub(crate) fn note(&self, file: &impl OpenFile) -> Option<Opened> {
         self.have_name.set(true);
         let Ok(about) = file.metadata() else {
@@ -82,7 +82,7 @@ impl InputFiles {
         is_kept
     }
 
-    /// Why this regular file can't be an output: it is an input, or may be one for all that the system tells.
+    /// Why this regular file can't be an output: it is an input, or may be an input by what the system says.
     pub(crate) fn refuse(&self, files: &impl Files, about: &Metadata) -> Option<Reason> {
         let id = id_of(about);
         if self.has(id) {
@@ -99,7 +99,7 @@ impl InputFiles {
         }
     }
 
-    /// Whether a file of this identity was noted, or one of which it isn't known.
+    /// Whether a file of this identity was noted, or a file whose identity isn't known.
     fn has(&self, id: u128) -> bool {
         let noted = self.noted.replace(Vec::new(self.alloc));
         let found = noted.contains(&Some(id)) || noted.contains(&None);
@@ -108,19 +108,19 @@ impl InputFiles {
     }
 }
 
-/// Whether standard output writes to the file of this identity and length. Where the system doesn't say so, it may, but to one that
-/// says a length of 0: of the system's own files that says nothing.
+/// Whether standard output writes to the file of this identity and length. If the system doesn't say so, it may, except
+/// to a file that says a length of 0: files of the system itself say that, whatever they hold.
 pub(crate) fn is_standard_output(files: &impl Files, id: u128, len: u64) -> bool {
     is_stream(files, STANDARD_OUTPUT, id).unwrap_or(len > 0)
 }
 
-/// Whether the stream of this name is the file of this identity. None where the system doesn't say so.
+/// Whether the stream of this name is the file of this identity. None if the system doesn't say so.
 fn is_stream(files: &impl Files, stream: &str, id: u128) -> Option<bool> {
     let about = fs::metadata(files, stream).ok()?;
     Some(id_of(&about) == id)
 }
 
-/// Whether it is a character device, as a terminal or `/dev/zero`.
+/// Whether the file is a character device, as a terminal or `/dev/zero`.
 pub(crate) fn is_device(about: &Metadata) -> bool {
     about.file_type().is_char_device()
 }

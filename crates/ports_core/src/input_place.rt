@@ -13,11 +13,11 @@ const STANDARD_INPUT_STATE: &str = "/proc/self/fdinfo/0";
 /// What stands before the place on the first line there.
 const PLACE: &str = "pos:";
 
-/// More bytes than that line has.
+/// More bytes than the first line there has.
 const ROOM: usize = 64;
 
-/// The place in its file at which standard input is read next, as the system says. None where it doesn't say so. It takes no
-/// memory.
+/// The place in its file at which standard input is read next, as the system says. None if the system doesn't say so.
+/// It takes no memory.
 pub(crate) fn standard_input_place(files: &impl Files) -> Option<u64> {
     let mut state = fs::open(files, STANDARD_INPUT_STATE).ok()?;
     let mut buffer = [0u8; ROOM];
@@ -25,7 +25,7 @@ pub(crate) fn standard_input_place(files: &impl Files) -> Option<u64> {
     place_in(from_utf8(&buffer[..count]).ok()?)
 }
 
-/// The place that such a text says.
+/// The place that the system's text says.
 fn place_in(state: &str) -> Option<u64>
     ensures only { IfSome result (SaysPlace state.now) }
     ensures said { (place : ℕ) → place < 2 ^ 64 → SaysPlace state.now place → result ≡ Some place }
@@ -38,7 +38,7 @@ fn place_in(state: &str) -> Option<u64>
     digits.parse().ok()
 }
 
-/// Reads until the buffer is full or the source has ended, and returns how many bytes that gave. None where a read fails.
+/// Reads until the buffer is full or the source has ended, and returns how many bytes that gave. None if a read fails.
 pub(crate) fn fill(source: &mut impl Read, buffer: &mut [u8]) -> Option<usize>
     ensures { IfSome result (λ count. count ≤ length buffer.old) }
 {

@@ -12,8 +12,8 @@ use std::alloc::Global;
 /// The output for messages.
 const STANDARD_ERROR: usize = 1;
 
-/// Says what went wrong, and why. The name is that of the file or the word that the fault speaks of. Where there is no
-/// memory for the message, the line that says so stands in its place. Where standard error can't be written, the message
+/// Says what went wrong, and why. The name is that of the file or the word that the fault speaks of. If there is no
+/// memory for the message, the line that says so stands in its place. If standard error can't be written, the message
 /// is passed over. It takes memory for the message, and gives it back.
 pub fn say<O: Outs>(
     alloc: Global,
@@ -30,10 +30,10 @@ pub fn say<O: Outs>(
     say_line(speaker, line, outs)
 }
 
-/// Says what went wrong as `say` does, with the same memory, and returns the status of a run that ends with it: 1. Where
-/// the fault speaks of an output, the name and the reason are that output's; else there are none. Of an output whose
-/// reader is gone a tool that was called by its own name says nothing, and the status is 141, which a shell gives for one
-/// that the signal stopped.
+/// Says what went wrong as `say` does, with the same memory, and returns the status of a run that ends with this fault:
+/// 1. If the fault names an output, the name and the reason are that output's; otherwise there are none. If the
+/// output's reader is gone and the tool was called by its own name, it says nothing, and the status is 141, as a shell
+/// gives for a tool that the signal stopped.
 pub fn tell<O: Outs>(alloc: Global, speaker: Speaker, fault: &Fault, outs: &mut O) -> u8
     requires { is_open (slot_at (O.slots outs.old) 1).state ≡ true }
     ensures told { TellsOn O.told speaker fault.now (O.slots outs.old) (O.slots outs.new) }
@@ -49,7 +49,7 @@ pub fn tell<O: Outs>(alloc: Global, speaker: Speaker, fault: &Fault, outs: &mut 
     1
 }
 
-/// The name of the output that a fault speaks of.
+/// The name of the output that a fault names.
 fn output_name<'a, O: Outs>(fault: &Fault, outs: &'a O) -> &'a str
     ensures { result.now ≡ output_named (O.slots outs.now) fault.now }
 {
@@ -60,7 +60,7 @@ fn output_name<'a, O: Outs>(fault: &Fault, outs: &'a O) -> &'a str
     }
 }
 
-/// Why the output broke of which a fault speaks.
+/// Why the output broke that a fault names.
 fn output_reason<O: Outs>(fault: &Fault, outs: &O) -> Reason
     ensures { result ≡ output_reason (O.slots outs.now) fault.now }
 {
@@ -71,8 +71,8 @@ fn output_reason<O: Outs>(fault: &Fault, outs: &O) -> Reason
     }
 }
 
-/// Says what this line tells, or, if there was no memory for it, the line that says so. Where standard error can't be written, it is
-/// passed over. It takes no memory.
+/// Writes this line to standard error, or, if there was no memory for the line, the line that says so. If standard
+/// error can't be written, the line is passed over. It takes no memory.
 pub fn say_line<O: Outs>(speaker: Speaker, line: Result<Vec<u8>, Fault>, outs: &mut O)
     requires { is_open (slot_at (O.slots outs.old) 1).state ≡ true }
     ensures { (why : Reason) (message : Message) → IfOk line (λ text. text.items ≡ line_of speaker why message)
@@ -84,8 +84,8 @@ pub fn say_line<O: Outs>(speaker: Speaker, line: Result<Vec<u8>, Fault>, outs: &
     }
 }
 
-/// Writes a text to standard error, as far as that takes it. Where standard error can't be written, the text is passed over. It
-/// takes no memory.
+/// Writes a text to standard error, as far as it takes the text. If standard error can't be written, the text is passed
+/// over. It takes no memory.
 pub fn print<O: Outs>(text: &[u8], outs: &mut O)
     requires { is_open (slot_at (O.slots outs.old) 1).state ≡ true }
     ensures { PrintsOn O.told text.now (O.slots outs.old) (O.slots outs.new) }

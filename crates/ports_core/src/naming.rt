@@ -5,7 +5,8 @@ use crate::{Fault, Numbering};
 use std::alloc::{AllocError, Global};
 use std::marker::Model;
 
-/// How files are named, by their place: a prefix, the place's number, and an ending, which all names have alike.
+/// How files are named, by their place: a prefix, the place's number, and an ending. All names have the same prefix and
+/// ending.
 #[derive(Drop)]
 pub struct Naming {
     alloc: Global,
@@ -30,11 +31,11 @@ impl Model for Naming {
 }
 
 impl Naming {
-    /// Names with this prefix and ending, which it keeps. Numbers that widen have a character at least.
+    /// Names with this prefix and ending, which it keeps. Numbers that widen have at least one character.
     ///
     /// # Errors
     ///
-    /// `Memory` where there is no room for them.
+    /// `Memory` if there is no room for the prefix and the ending.
     pub fn new(
         alloc: Global,
         prefix: &str,
@@ -59,11 +60,11 @@ impl Naming {
         self.alloc
     }
 
-    /// The name of the file at a place, from 0 on. None where a fixed width has no further one.
+    /// The name of the file at a place, from 0 on. None if a fixed width has no further name.
     ///
     /// # Errors
     ///
-    /// `Memory` where there is no room for the name.
+    /// `Memory` if there is no room for the name.
     pub fn name_at(&self, place: u64) -> Result<Option<String>, Fault>
         ensures name { IfOk result (λ found. IfSome found (λ name. string_bytes name ≡ name_at self.now place)) }
         ensures has { IfOk result (λ found. IfSome found (λ _. IsTrue (has_name self.now place))) }
@@ -88,7 +89,7 @@ impl Naming {
 /// Room for a number; a longer one takes more as it is written.
 const ROOM: usize = 16;
 
-/// The name at a place that has one.
+/// The name at a place that has a name.
 fn write_name(
     alloc: Global,
     prefix: &str,

@@ -14,13 +14,14 @@ use std::alloc::AllocError;
 /// How a name writes the number of its place.
 #[derive(Clone, Copy)]
 pub enum Numbering {
-    /// With this many characters of the alphabet (POSIX.1-2017, XCU split, `-a`), from this number on, which place 0 has
-    /// (GNU coreutils manual, split, `--numeric-suffixes`). There are as many places as the characters can number.
+    /// With this many characters of the alphabet (POSIX.1-2017, XCU split, `-a`). Place 0 has this number (GNU
+    /// coreutils manual, split, `--numeric-suffixes`). There are as many places as the characters can number.
     Fixed(Alphabet, u32, u64),
-    /// With this many characters of the alphabet, at least 1, and with more of them before the first character becomes
-    /// the last of the alphabet: so there is always a next number, and they stay in order (GNU coreutils manual, split).
+    /// With this many characters of the alphabet, at least 1, and with more characters before the first of them becomes
+    /// the last of the alphabet. So there is always a next number, and numbers stay in order (GNU coreutils manual,
+    /// split).
     Widening(Alphabet, u32),
-    /// In a form, with at least as many digits as it says (POSIX.1-2017, XCU csplit, `-n`; its `-b` is GNU's).
+    /// In a form, with at least as many digits as the form says (POSIX.1-2017, XCU csplit, `-n`; its `-b` is GNU's).
     Formatted(Form),
 }
 
@@ -37,7 +38,7 @@ impl Numbering {
         }
     }
 
-    /// Appends the number of a place that has one.
+    /// Appends the number of a place that has a number.
     pub(crate) fn push(self, name: &mut String, place: u64) -> Result<(), AllocError>
         requires wide { IsWide self }
         requires has { IsTrue (has_suffix self place) }
@@ -53,7 +54,7 @@ impl Numbering {
     }
 }
 
-/// The number of a place, where place 0 has the number `from`.
+/// The number of a place, if place 0 has the number `from`.
 fn number_at(from: u64, place: u64) -> u128
     ensures { result ≡ from + place }
 {
@@ -70,7 +71,7 @@ fn is_counted(alphabet: Alphabet, digits: u32, number: u128) -> bool
     }
 }
 
-/// Appends the number of a place among those that widen.
+/// Appends the number of a place, if numbers widen.
 fn push_widened(
     name: &mut String,
     alphabet: Alphabet,
@@ -85,7 +86,8 @@ fn push_widened(
     push_number(name, alphabet, width as usize + block, number)
 }
 
-/// How many times numbers have widened before the one at this place, and its number among those of its width.
+/// How many times numbers have widened before the number at this place, and which number it is among those of its
+/// width.
 fn block_at(alphabet: Alphabet, width: u32, place: u64) -> (usize, u64)
     requires { 0 < width }
     ensures block { IsInBlock alphabet width place result.0 result.1 }
@@ -104,7 +106,7 @@ fn block_at(alphabet: Alphabet, width: u32, place: u64) -> (usize, u64)
     (block, number)
 }
 
-/// How many names there are before they widen. None where 64 bits don't count them.
+/// How many names there are before they widen. None if 64 bits don't count them.
 fn first_block(alphabet: Alphabet, width: u32) -> Option<u64>
     requires { 0 < width }
     ensures { SomeIff result (block_size alphabet width 0 < 2 ^ 64) (block_size alphabet width 0) }
@@ -113,7 +115,8 @@ fn first_block(alphabet: Alphabet, width: u32) -> Option<u64>
     (alphabet.radix() - 1).checked_mul(power)
 }
 
-/// Appends a number with this many digits. Hardly any is above those of 64 bits, which the machine divides by itself.
+/// Appends a number with this many digits. The machine divides numbers of 64 bits by itself; hardly any number is
+/// greater.
 fn push_sum(
     name: &mut String,
     alphabet: Alphabet,
@@ -152,7 +155,7 @@ pub(crate) fn push_number(
     push_ascii(name, alphabet.character((number % radix) as u8))
 }
 
-/// Appends a number in decimal, with zeros before it where it has fewer digits.
+/// Appends a number in decimal, with zeros before it if it has fewer digits.
 pub(crate) fn push_decimal(name: &mut String, digits: usize, number: u64) -> Result<(), AllocError>
     ensures { IfOk result (λ _. string_bytes name.new ≡ string_bytes name.old ++ zero_filled digits (decimal number)) }
 {

@@ -1,15 +1,15 @@
-/// What a run over several outputs does once one of them is broken. Where none is left, it ends with each.
+/// What a run over several outputs does once an output is broken. If no sound output is left, the run ends in any case.
 #[derive(Clone, Copy, Debug, PartialEq, Eq)]
 pub enum OnBroken {
-    /// It goes on with those that are left.
+    /// The run goes on with the outputs that are left.
     Warn,
-    /// It ends, and the others keep what they have.
+    /// The run ends, and the other outputs keep what they have.
     Exit,
-    /// As `Warn`, but of one whose reader is gone nothing is said, and it is no fault.
+    /// As `Warn`, but if an output's reader is gone nothing is said, and it is no fault.
     WarnNoPipe,
-    /// As `Exit`, but of one whose reader is gone nothing is said, and it is no fault: with that it goes on.
+    /// As `Exit`, but if an output's reader is gone nothing is said, it is no fault, and the run goes on.
     ExitNoPipe,
-    /// It ends with the first one whose reader is gone, as a signal ends the system's tool: nothing is said of it, and the
-    /// status is 141. With others it goes on.
+    /// The run ends with the first output whose reader is gone, as a signal ends the system's tool: nothing is said,
+    /// and the status is 141. If an output broke for another reason, the run goes on.
     Signal,
 }

@@ -14,15 +14,15 @@ const FOR_READING: u32 = 0o400;
 pub(crate) enum Depth {
     /// To what each process has open.
     Processes,
-    /// To what each thread has, of which one may have other files open than the first.
+    /// To what each thread has open: a thread may have other files open than the first thread of its process.
     Threads,
 }
 
-/// The link by which a process has this pipe open for reading. None where it hasn't, or is gone.
+/// The link by which a process has this pipe open for reading. None if it doesn't have it open, or is gone.
 ///
 /// # Errors
 ///
-/// Why it can't be looked into.
+/// Why the process can't be looked into.
 pub(crate) fn link_of<S: Files + AllocGlobal + Clone + Drop>(
     system: &S,
     pipe: &str,
@@ -41,7 +41,7 @@ pub(crate) fn link_of<S: Files + AllocGlobal + Clone + Drop>(
     }
 }
 
-/// The same of the threads that this folder lists.
+/// The link by which one of the threads that this folder lists has the pipe open for reading.
 fn link_of_thread<S: Files + AllocGlobal + Clone + Drop>(
     system: &S,
     pipe: &str,
@@ -60,7 +60,7 @@ fn link_of_thread<S: Files + AllocGlobal + Clone + Drop>(
     Ok(None)
 }
 
-/// The same of the links in a folder.
+/// The link to the pipe among the links in a folder.
 fn link_in<S: Files + AllocGlobal + Clone + Drop>(
     system: &S,
     pipe: &str,
@@ -92,7 +92,7 @@ pub(crate) fn is_read_by<S: Files + AllocGlobal>(
     match fs::read_link(system, link) {
         Ok(target) if target.as_str() == pipe => {}
         Ok(_) => return Ok(false),
-        // A name that is no text is no pipe's.
+        // A name that isn't text is no name of a pipe.
         Err(error) if error.kind() == ErrorKind::InvalidFilename => return Ok(false),
         Err(error) if error.kind() == ErrorKind::NotFound => return Ok(false),
         Err(error) => return Err(error),

@@ -1,4 +1,4 @@
-//! What the system tells anybody of a process.
+//! What the system says to anybody about a process.
 
 use crate::input_place::fill;
 use std::fs;
@@ -6,7 +6,7 @@ use std::io::{self, Error, ErrorKind};
 use std::rt::Files;
 use std::str::from_utf8;
 
-/// More bytes than what is read of it takes.
+/// More bytes than those that are read of a state.
 const ROOM: usize = 1_024;
 
 /// What stands after the process's name, in which any byte may stand.
@@ -15,20 +15,21 @@ const AFTER_NAME: u8 = b')';
 /// The flag of a part of the system itself, which has no files.
 const OF_SYSTEM: u32 = 0x0020_0000;
 
-/// What the system tells of a process.
+/// What the system says about a process.
 #[derive(Clone, Copy)]
 pub(crate) struct ProcessState {
-    /// Whether it may have files open: it is no part of the system itself, and a thread of it runs still.
+    /// Whether the process may have files open: it is no part of the system itself, and one of its threads still runs.
     pub(crate) may_have_files: bool,
-    /// The number of its parent.
+    /// The number of the process's parent.
     pub(crate) parent: u32,
     pub(crate) session: u32,
-    /// When it began, in ticks of the system's clock.
+    /// When the process began, in ticks of the system's clock.
     pub(crate) began: u64,
 }
 
 impl ProcessState {
-    /// What the system tells of a process by the file of this name. None where there is no such file: then the process is gone.
+    /// What the system says about a process by the file of this name. None if there is no such file: then the process
+    /// is gone.
     ///
     /// # Errors
     ///
@@ -48,7 +49,7 @@ impl ProcessState {
     }
 }
 
-/// The state that the system's text tells.
+/// The state that the system's text says.
 fn state_in(text: &[u8]) -> Option<ProcessState> {
     let end = text.iter().rposition(|&byte| byte == AFTER_NAME)?;
     let mut fields = from_utf8(text.get(end + 1..)?)
@@ -68,7 +69,7 @@ fn state_in(text: &[u8]) -> Option<ProcessState> {
     })
 }
 
-/// What is there. None where it isn't, as where a process is gone.
+/// What was found. None if it isn't there, as if a process is gone.
 ///
 /// # Errors
 ///

@@ -1,4 +1,4 @@
-//! Whether anybody reads standard output, where that is a pipe without a name, as the system's list of processes tells.
+//! Whether anybody reads standard output, if it is a pipe without a name, by the system's list of processes.
 
 ghost use Rattle.std.specs.Prelude.{◌≡◌, ◌<◌, length};
 
@@ -16,7 +16,7 @@ use std::{fs, thread};
 /// Where the system lists the processes that run, each by its number.
 const PROCESSES: &str = "/proc";
 
-/// What it tells of this one.
+/// What the system says about this process.
 const OWN_STATE: &str = "/proc/self/stat";
 
 /// Which file systems are mounted, and how.
@@ -34,7 +34,7 @@ const PAUSE: u64 = 250;
 /// How many ancestors of this process are known as such.
 const MOST_ANCESTORS: u32 = 100;
 
-/// How many milliseconds pass between the two searches after which nobody is taken to read.
+/// How many milliseconds pass between the two searches that have to find no reader.
 const BETWEEN: u64 = 10;
 
 /// What is known of those who read standard output.
@@ -42,18 +42,20 @@ const BETWEEN: u64 = 10;
 pub(crate) enum Readers {
     /// That wasn't asked yet.
     Unasked,
-    /// Nothing, so they are never seen to be gone: it is no pipe without a name, or nobody was found to read it at first.
+    /// Nothing, so readers are never seen to be gone: standard output is no pipe without a name, or no reader was found
+    /// at first.
     Unknown,
-    /// Somebody was found.
+    /// A reader was found.
     Known(Pipe),
 }
 
 impl Readers {
-    /// Whether they are gone. At first it looks who they are. They are gone where each that was found is, and two searches through all
-    /// processes, the second through their threads, find none. They are never seen to be gone where a process can't be looked into that
-    /// was found to read, or one that began after this one, or that is in its session and didn't begin it or its parents; nor where the
-    /// list leaves out processes, or something can't be known, as for want of memory. The system is asked every 250 ms at the
-    /// most.
+    /// Whether the readers are gone. The first call finds who they are. They are gone if each reader that was found is
+    /// gone, and two searches through all processes, the second also through their threads, find none. They are never
+    /// seen to be gone in these cases: a process that was found to read can't be looked into; a process can't be looked
+    /// into that began after this process, or that is in its session and began neither it nor its parents; the list
+    /// leaves out processes; or something can't be known, as for want of memory. The system is asked at most every 250
+    /// ms.
     pub(crate) fn are_gone<R: Files + Clock>(&mut self, runtime: &R, alloc: Global) -> bool {
         let system = (runtime, alloc);
         match self {
@@ -73,11 +75,11 @@ impl Readers {
 /// What is seen of a process.
 #[derive(Drop)]
 enum Sight {
-    /// It has the pipe open for reading, by this link.
+    /// The process has the pipe open for reading, by this link.
     Reads(String),
-    /// It may have, and can't be looked into.
+    /// The process may have the pipe open, and can't be looked into.
     Hidden,
-    /// It hasn't.
+    /// The process doesn't have the pipe open.
     Not,
 }
 
@@ -106,7 +108,7 @@ pub(crate) struct Pipe {
 }
 
 impl Pipe {
-    /// Standard output, where it is such a pipe and somebody is found to read it.
+    /// Standard output, if it is a pipe without a name and somebody is found to read it.
     fn find<S: Files + Clock + AllocGlobal + Clone + Drop>(system: &S) -> Option<Self> {
         let name = fs::read_link(system, STANDARD_OUTPUT).ok()?;
         if !name.as_str().starts_with(PIPE) {
@@ -127,7 +129,7 @@ impl Pipe {
         is_read.then_some(pipe)
     }
 
-    /// Whether nobody reads it any more.
+    /// Whether nobody reads the pipe any more.
     fn is_unread<S: Files + Clock + AllocGlobal + Clone + Drop>(&mut self, system: &S) -> bool {
         let now = time_of(system);
         if now.saturating_sub(self.asked) < PAUSE {
@@ -137,12 +139,12 @@ impl Pipe {
         if self.is_held(system) || self.may_be_read(system, Depth::Processes) {
             return false;
         }
-        // One may hand the pipe on to another that was looked at before.
+        // A process may hand the pipe on to a process that was looked at before.
         thread::sleep(system, Duration::from_millis(BETWEEN));
         !self.may_be_read(system, Depth::Threads) && !hides_processes(system)
     }
 
-    /// Whether one of those that are known may read it still. That one is asked first the next time.
+    /// Whether a process that is known may still read the pipe. The next time this process is asked first.
     fn is_held<S: Files + AllocGlobal + Clone + Drop>(&mut self, system: &S) -> bool {
         for place in 0..self.holders.len() {
             if self.still_reads(system, place) {
@@ -170,7 +172,7 @@ impl Pipe {
         may_read
     }
 
-    /// Whether it has it open for reading by the same link still.
+    /// Whether the process still has the pipe open for reading, by the same link.
     fn has_open<S: Files + AllocGlobal>(&self, system: &S, holder: &Holder) -> bool {
         match &holder.sight {
             Sight::Reads(link) => matches!(
@@ -181,7 +183,7 @@ impl Pipe {
         }
     }
 
-    /// Whether a search finds one that may read it, or can't be made.
+    /// Whether a search finds a process that may read the pipe, or can't be made.
     fn may_be_read<S: Files + AllocGlobal + Clone + Drop>(
         &mut self,
         system: &S,
@@ -193,7 +195,7 @@ impl Pipe {
         }
     }
 
-    /// Searches through all processes, and keeps those that may read it, and of those that did the ones that still run.
+    /// Searches through all processes. Keeps those that may read the pipe, and those that did read it and still run.
     fn search<S: Files + AllocGlobal + Clone + Drop>(
         &mut self,
         system: &S,
@@ -232,7 +234,7 @@ impl Pipe {
         }
     }
 
-    /// Whether a process that couldn't be looked into for this error may read it.
+    /// Whether a process that couldn't be looked into for this error may read the pipe.
     fn may_read_unseen<S: Files + AllocGlobal>(
         &self,
         system: &S,
@@ -250,8 +252,8 @@ impl Pipe {
         }
     }
 
-    /// Whether another process may have got the pipe from the one that made it: it began after this one, or is in its session and
-    /// none of those that began it.
+    /// Whether another process may have got the pipe from the process that made it: it began after this process, or is
+    /// in its session and isn't one of those that began it.
     fn may_have_got<S: Files + AllocGlobal>(
         &self,
         system: &S,
@@ -262,7 +264,7 @@ impl Pipe {
             || (other.session == self.own.session && !self.descends_from(system, process))
     }
 
-    /// Whether this process's parent, or the parent of that and so on, is one.
+    /// Whether that process is this process's parent, or a parent of a parent, and so on.
     fn descends_from<S: Files + AllocGlobal>(&self, system: &S, process: u32) -> bool {
         let mut ancestor = self.own.parent;
         for _ in 0..MOST_ANCESTORS {
@@ -284,7 +286,7 @@ fn state_of<S: Files + AllocGlobal>(system: &S, process: u32) -> io::Result<Opti
     ProcessState::of(system, path.as_str())
 }
 
-/// Whether a list may leave out processes, as that of all those of other users.
+/// Whether the list may leave out processes, as all those of other users.
 fn hides_processes<S: Files + AllocGlobal>(system: &S) -> bool {
     match fs::read_to_string(system, MOUNTS) {
         Ok(mounts) => mounts.as_str().contains(HIDES),

@@ -6,15 +6,15 @@ use std::io::{Error, ErrorKind};
 /// Why an output, an input or a watched name broke, as far as the system says.
 #[derive(Clone, Copy, Debug, PartialEq, Eq)]
 pub enum Reason {
-    /// Nobody reads any more what is written to it.
+    /// Nobody reads the output any more.
     Gone,
     /// There is no such file or folder.
     Missing,
-    /// It isn't permitted.
+    /// The call isn't permitted.
     Denied,
-    /// It is a folder.
+    /// The file is a folder.
     Folder,
-    /// What should be a folder on the way to it is none.
+    /// Something on the way to the file should be a folder, and isn't.
     NoFolder,
     /// The device has no space left.
     Full,
@@ -34,24 +34,25 @@ pub enum Reason {
     LongName,
     /// Links on the way to it lead in a circle.
     Circle,
-    /// It isn't open: a standard stream that was closed, or that is open for the other way alone.
+    /// The stream isn't open: it is a standard stream that was closed, or that is open only for the other way.
     NotOpen,
-    /// There is no such device, or nobody who listens there.
+    /// There is no such device, or nobody listens there.
     NoDevice,
-    /// It is an input, which no output may be.
+    /// The file is an input, which no output may be.
     Input,
-    /// The system doesn't say whether it is an input.
+    /// The system doesn't say whether the file is an input.
     MayBeInput,
-    /// It is a device that goes on without an end, as `/dev/zero`, where its length was needed.
+    /// The input is a device that goes on without an end, as `/dev/zero`, and its length was needed.
     Endless,
-    /// Its name isn't UTF-8: it was read as a text with a byte 0, which no file's name has.
+    /// The name isn't UTF-8: it was read as a text with a byte 0, which no file's name has.
     NotUtf8,
-    /// Any other, or none that is known.
+    /// Any other reason, or none that is known.
     Other,
 }
 
 impl Reason {
-    /// What a message says of it, after the name: nothing of `Gone`, `Endless` and `Other`. It is the system's own text in English.
+    /// What a message says of the reason, after the name: nothing for `Gone`, `Endless` and `Other`. For other reasons
+    /// of the system it is the system's text in English.
     pub fn text(self) -> &'static [u8]
         ensures { result.now ≡ reason_text self }
     {
@@ -78,7 +79,8 @@ impl Reason {
         }
     }
 
-    /// Why a call failed, by the number that Linux has for its error. A name with a byte 0 the library refuses itself, without a number.
+    /// Why a call failed, by the number that Linux has for its error. The library itself refuses a name with a byte 0,
+    /// without a number.
     pub fn of(error: &Error) -> Reason
         ensures { result ≡ reason_of error.now }
     {
@@ -89,7 +91,7 @@ impl Reason {
     }
 }
 
-/// The numbers that Linux has for them.
+/// The numbers that Linux has for reasons.
 const REASONS: &[(u32, Reason)] = &[
     (2, Reason::Missing),
     (5, Reason::Device),
@@ -109,8 +111,8 @@ const REASONS: &[(u32, Reason)] = &[
     (122, Reason::Quota),
 ];
 
-/// The reason that Linux has this number for. It isn't inlined, so that `Reason::of` is: a read or write that doesn't fail then
-/// clears no room for an error.
+/// The reason for this number of Linux. It isn't inlined, so that `Reason::of` is: then a read or write that doesn't
+/// fail clears no room for an error.
 #[inline(never)]
 fn by_code(code: i32) -> Reason
     ensures { result ≡ reason_at code }

@@ -1,4 +1,4 @@
-//! What a tool says in words, by its own name, of a rule that a word breaks.
+//! What a tool that is called by its own name says, in words, of a rule that a word breaks.
 ghost use Rattle.std.specs.Prelude.{◌≡◌};
 ghost use Rattle.ports_core.specs.Rule.{operand_rule, pattern_rule, value_rule};
 
@@ -38,7 +38,7 @@ pub(crate) fn pattern_rule(rule: u8) -> &'static [u8]
     }
 }
 
-/// What a pattern is as a whole, or what the value of an option may be.
+/// What is wrong with a whole pattern or with the value of an option, or what values the option can have.
 pub(crate) fn value_rule(kind: &UsageKind) -> &'static [u8]
     ensures { result.now ≡ value_rule kind.now }
 {

@@ -6,21 +6,21 @@ ghost use Rattle.ports_core.specs.Slot.{with_lost};
 
 use std::alloc::{AllocError, Global};
 
-/// What is kept of an output. Of one whose file couldn't be opened something is kept, too.
+/// What is kept of an output. Something is kept even of an output whose file couldn't be opened.
 pub trait Unopened {
     /// What is kept of an output of this name whose file couldn't be opened.
     ghost unopened: { List ℕ → Self };
 
-    /// Makes that. It takes no memory.
+    /// Makes what is kept of an output whose file couldn't be opened. It takes no memory.
     fn unopened(alloc: Global, name: String) -> Self
         ensures { result ≡ unopened (string_bytes name) };
 }
 
 /// What is kept of outputs, in the order in which they were opened. An output for which there is no memory can't be
-/// opened: it is counted, and gets its own place, without a name, once there is memory.
+/// opened: it is counted, and gets a place of its own, without its name, once there is memory.
 #[derive(Drop)]
 pub struct Slots<S: Drop> {
-    /// What is kept.
+    /// What is kept of each output.
     pub kept: Vec<S>,
     /// How many outputs after these couldn't be opened, and found no memory to be kept.
     pub lost: usize,
@@ -38,7 +38,7 @@ impl<S: Unopened + Drop> Slots<S> {
         }
     }
 
-    /// The number of the next output, where `before` others stand before these. None where no number is left.
+    /// The number of the next output, if `before` other outputs stand before these. None if no number is left.
     pub fn next(&self, before: usize) -> Option<usize>
         ensures next { IfSome result
             (λ number. (number ≡ before + (length self.now.kept.items + self.now.lost)) × (number < 2 ^ 64 - 1)) }
@@ -52,7 +52,7 @@ impl<S: Unopened + Drop> Slots<S> {
     }
 
     /// What an output needs before its file is touched: room in the list, and a copy of its name, which is returned.
-    /// None where there is no memory: then the output can't be opened, and is among the others, without its name.
+    /// None if there is no memory: then the output can't be opened, and is counted among the others, without its name.
     pub fn room_for(&mut self, alloc: Global, name: &str) -> Option<String>
         requires { self.old.lost < 2 ^ 64 - 1 }
         ensures name { IfSome result (λ copy. string_bytes copy ≡ name.now) }
@@ -76,8 +76,8 @@ impl<S: Unopened + Drop> Slots<S> {
         Some(copy)
     }
 
-    /// Adds an output after the others, and returns whether there was memory for it, as there is after `room_for`. If there was
-    /// none, one that can't be opened is added in its place.
+    /// Adds an output after the others, and returns whether there was memory for it, as there is after `room_for`. If
+    /// there was none, an output that can't be opened is added in its place.
     pub fn keep(&mut self, slot: S) -> bool
         requires { self.old.lost ≡ 0 }
         ensures kept { IsTrue result

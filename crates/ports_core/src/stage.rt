@@ -9,24 +9,25 @@ ghost use Rattle.ports_core.specs.{
 
 use crate::{Fault, Inputs, Outs};
 
-/// A tool's work on one input, as long as no fault and no end came: `Guarded` makes an engine of it, and says there what
-/// each call does.
+/// A tool's work on one input, as long as no fault and no end came. `Guarded` makes an engine of it, and says what each
+/// call does.
 pub trait Stage {
-    /// What it says of its states, in whose words the calls below say what they owe.
+    /// What the stage says of its states. The contracts of the calls below are written with these terms.
     ghost terms: { Terms Self };
 
     /// Takes the next piece, and writes what is settled with it.
     ///
     /// # Errors
     ///
-    /// As `Guarded::feed`, but for `TooLong` and `Failed`.
+    /// Those of `Guarded::feed`, except `TooLong` and `Failed`.
     fn pass<O: Outs>(&mut self, piece: &[u8], outs: &mut O) -> Result<(), Fault>
         requires fits { terms.size self.old + length piece.now < 2 ^ 63 }
         requires ready { terms.Ready self.old (O.slots outs.old) }
         ensures { Passes terms O.told piece.now self.old self.new (O.slots outs.old) (O.slots outs.new)
             (IsMetWith terms piece.now self.old) result };
 
-    /// Takes in bytes that an input has left, before any piece, as `Guarded::load`. By itself it takes in none.
+    /// Takes in bytes that an input has left, before any piece, as `Guarded::load` does. Unless a stage has its own, it
+    /// takes in none.
     fn load<I: Inputs>(&mut self, slot: usize, most: usize, inputs: &mut I) -> u64
         requires fresh { terms.Holds self.old [] }
         requires none { terms.size self.old ≡ 0 }
@@ -44,14 +45,14 @@ pub trait Stage {
     ///
     /// # Errors
     ///
-    /// As `Guarded::close`, but for `Failed`.
+    /// Those of `Guarded::close`, except `Failed`.
     fn finish<O: Outs>(&mut self, outs: &mut O) -> Result<(), Fault>
         requires ready { terms.Ready self.old (O.slots outs.old) }
         ensures { Finishes terms O.told self.old self.new (O.slots outs.old) (O.slots outs.new)
             (IsMetThere terms self.old) result };
 
-    /// Removes the files that it made and that are still there, in order, if its work clears them. One that can't be
-    /// removed is broken and closed, and the next is tried.
+    /// Removes the files that the stage made and that are still there, in order, if its work says so. A file that can't
+    /// be removed is broken and closed, and the next is tried.
     fn clear<O: Outs>(&mut self, outs: &mut O)
         requires { AreThere (terms.files self.old) (O.slots outs.old) }
         ensures { Sweeps terms self.old self.new (O.slots outs.old) (O.slots outs.new) };
@@ -66,13 +67,13 @@ pub trait Stage {
         ensures { (x : List ℕ) → length x < 2 ^ 63 → terms.Holds self.now x
             → result ≡ length ((terms.work self.now).waiting x) };
 
-    /// How many bytes the next piece may have, so that at most its work's `ahead` of them are not used.
+    /// How many bytes the next piece may have, so that at most `ahead` of them, by the stage's work, are not used.
     fn wanted(&self) -> u64
         ensures some { (x : List ℕ) → terms.Holds self.now x → (terms.work self.now).is_complete x ≡ false
             → 0 < result }
         ensures few { MayGet terms self.now result };
 
-    /// How many of the bytes that came in are not used: those after the byte with which the output was complete.
+    /// How many of the bytes that came in are not used: the bytes after the one with which the output was complete.
     fn unused(&self) -> u64
         ensures { (x : List ℕ) → terms.Holds self.now x → IsSpare (terms.work self.now) x result };
 

@@ -15,9 +15,9 @@ const AHEAD: usize = 4_096;
 /// What standard input is.
 #[derive(Clone, Copy)]
 enum Kind {
-    /// That wasn't asked yet.
+    /// It wasn't asked yet what standard input is.
     Unasked,
-    /// A regular file, or what may be one, so that it can be set back.
+    /// A regular file, or something that may be a regular file, so that it can be set back.
     File,
     /// Anything else.
     Other,
@@ -25,14 +25,14 @@ enum Kind {
 
 /// The real standard input.
 ///
-/// Where it is a file, the bytes of a read of at most 4,096 stay in the library's lock until the next read, or until this
-/// is dropped, and are consumed then; so the last of them can be given back. When the lock is dropped it sets the file's
-/// place back before those that weren't consumed. Larger reads, and those of a pipe or a terminal, go straight to the
-/// caller's buffer, and nothing of them can be given back.
+/// If standard input is a file, the bytes of a read of at most 4,096 stay in the library's lock until the next read, or
+/// until this is dropped. They are consumed then, so until then the last of them can be given back. When the lock is
+/// dropped, it sets the file's place back before those that weren't consumed. Larger reads, and those of a pipe or a
+/// terminal, go straight to the caller's buffer: nothing of them can be given back.
 pub(crate) struct StandardInput {
     lock: StdinLock<'static>,
     kind: Kind,
-    /// How many of the bytes that the last read gave are in the lock still, and were not given back.
+    /// How many of the bytes that the last read gave are still in the lock, and were not given back.
     given: usize,
 }
 
@@ -45,9 +45,9 @@ impl StandardInput {
         }
     }
 
-    /// Asks what standard input is, before the first read. Where it is a file to which standard output writes, this returns how
-    /// many bytes it has left, or all that it has where its place isn't known. None where it is anything else, where the system
-    /// doesn't say what it is, or where that was asked before.
+    /// Asks what standard input is, before the first read. If it is a file to which standard output writes, this
+    /// returns how many bytes it has left, or all that it has if its place isn't known. None if it is anything else, if
+    /// the system doesn't say what it is, or if that was asked before.
     pub(crate) fn ask(&mut self, files: &impl Files, noted: &InputFiles) -> Option<u64> {
         let Kind::Unasked = self.kind else {
             return None;
@@ -68,7 +68,7 @@ impl StandardInput {
         Some(about.len().saturating_sub(place))
     }
 
-    /// Goes on with the lock that tells whether this may be a file.
+    /// Goes on with the lock that showed whether this may be a file.
     fn read_ahead(&mut self, noted: &InputFiles) {
         if let Some(lock) = noted.ahead.take() {
             self.lock = lock;
@@ -78,8 +78,8 @@ impl StandardInput {
         }
     }
 
-    /// Gives back the last `count` bytes of those that the last read gave, as far as they are there, and returns how many
-    /// that were.
+    /// Gives back the last `count` bytes of those that the last read gave, as far as they are in the lock, and returns
+    /// how many bytes that were.
     pub(crate) fn give_back(&mut self, count: u64) -> u64
         ensures { result ≤ count }
     {
@@ -121,19 +121,20 @@ impl Drop for StandardInput {
     }
 }
 
-/// The file that standard input is. Each look opens it anew, so that the place at which it is read isn't moved, and no file is kept open.
+/// The file that standard input is. Each look opens it anew. So the place at which it is read isn't moved, and no file
+/// is kept open.
 #[derive(Drop)]
 pub(crate) struct StandardFile {
     /// The place at which standard input stood.
     from: u64,
-    /// How many bytes came from there on.
+    /// How many bytes the file has from that place on.
     pub(crate) len: u64,
     ghost some: { 0 < len },
 }
 
 impl StandardFile {
-    /// Asks about it, before anything is read. None where standard input is no file, or has no byte left, or the system doesn't let
-    /// its place be known or its last byte be looked at.
+    /// Asks about standard input, before anything is read. None if it is no file, if it has no byte left, or if the
+    /// system doesn't let its place be known or its last byte be looked at.
     pub(crate) fn find<R: Files>(files: &R) -> Option<Self>
     where
         R::File: FileExt,
@@ -149,7 +150,7 @@ impl StandardFile {
         shown.read_at(files, last, &mut [0u8]).then_some(shown)
     }
 
-    /// Fills the buffer from a place after that on, and returns whether it could.
+    /// Fills the buffer from a place on, counted from where standard input stood, and returns whether it could.
     pub(crate) fn read_at<R: Files>(&self, files: &R, place: u64, buffer: &mut [u8]) -> bool
     where
         R::File: FileExt,

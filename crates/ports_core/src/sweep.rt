@@ -3,8 +3,8 @@ ghost use Rattle.ports_core.specs.Swept.{AreThere, Removes};
 
 use crate::Outs;
 
-/// Removes the files of these outputs, in order. One that can't be removed is broken and closed, and the next is tried.
-/// The outputs of those that couldn't be removed are moved to the front; it returns how many they are.
+/// Removes the files of these outputs, in order. A file that can't be removed is broken and closed, and the next is
+/// tried. The outputs of the files that couldn't be removed are moved to the front. Returns how many they are.
 pub fn sweep_files<O: Outs>(files: &mut [usize], outs: &mut O) -> usize
     requires { AreThere files.old (O.slots outs.old) }
     ensures within { result ≤ length files.old }

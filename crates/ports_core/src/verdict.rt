@@ -1,6 +1,6 @@
 use thiserror::Error;
 
-/// What the work on an input itself ends with, where it doesn't end well. Operands and repetitions are counted from 0.
+/// What the work on an input itself ends with if it doesn't end well. Operands and repetitions are counted from 0.
 #[derive(Clone, Copy, Debug, PartialEq, Eq, Error)]
 pub enum Verdict {
     /// Another file is needed and no name is left.
@@ -12,7 +12,7 @@ pub enum Verdict {
     /// The line that the operand asks for, at this repetition, isn't one of those that are left.
     #[error("operand {0}: line number out of range on repetition {1}")]
     Range(usize, u64),
-    /// The input has another length in the end than it said.
+    /// The input has another length at the end than it showed.
     #[error("file changed while it was read")]
     Changed,
 }

@@ -52,8 +52,8 @@ past_next style (Some operand) = past_last style operand.target
 abbrev pub past_by : Style → List Operand → ℕ
 past_by style operands = past_next style (next_of operands)
 
--- There are `total` lines; of the next operand it is known whether it matches the last one, if its search reaches that
--- line, and that it matches none between the beginning of its search and the last line.
+-- There are `total` lines. `found` says whether the next operand matches the last line, if its search reaches that
+-- line. The operand matches no line from the beginning of its search up to before the last line.
 pub record AreSeen (suppress : Bool) (lines : List Line) (total : ℕ) (state : State) (found : Bool) : Type 0 where
   pub count : length lines ≡ total
   pub last : (operand : Operand) (operands : List Operand) → state.operands ≡ operand ∷ operands
@@ -61,7 +61,7 @@ pub record AreSeen (suppress : Bool) (lines : List Line) (total : ℕ) (state : 
   pub others : (operand : Operand) (operands : List Operand) → state.operands ≡ operand ∷ operands → (other : ℕ)
       → search_line suppress state ≤ other → other < total → is_match operand lines other ≡ false
 
--- the next operand cuts at this line, which is no further than it may cut
+-- the next operand cuts at this line, which is no further than the operand may cut
 pub record GoesPast (style : Style) (lines : List Line) (state : State) (matched cut : ℕ) : Type 0 where
   pub operand : Operand
   pub operands : List Operand
@@ -70,12 +70,12 @@ pub record GoesPast (style : Style) (lines : List Line) (state : State) (matched
   pub from : state.current ≤ cut
   pub within : cut ≤ length lines + past_last style operand.target
 
--- an attempt agrees with the plan: it ends here, or has one more step
+-- an attempt agrees with the plan: the plan ends here, or has one more step
 abbrev pub AgreesWithPlan : Style → List Line → State → Attempt → Type 0
 AgreesWithPlan style lines state (Cuts matched line) = GoesPast style lines state matched line
 AgreesWithPlan style lines state attempt = EndsHere style lines state attempt
 
--- where a cut falls, which may stand at the line `most` at most
+-- where a cut falls, if it may stand at the line `most` at most
 abbrev pub FallsAt : (most current matched cut : ℕ) → Attempt → Type 0
 FallsAt most current matched cut UsedUp = ⊥
 FallsAt most current matched cut Missed = ⊥
@@ -83,7 +83,8 @@ FallsAt most current matched cut (Above last line) = (last ≡ matched) × (line
 FallsAt most current matched cut Below = cut < current
 FallsAt most current matched cut (Cuts last line) = (last ≡ matched) × (line ≡ cut) × (current ≤ cut) × (cut ≤ most)
 
--- a cut moves on: so a run makes no more steps than `needed` says
+-- A cut moves on, so that a run makes no more steps than `needed` says. A cut that is further than it may be will move
+-- on.
 abbrev pub MovesOn : Style → List Operand → (total : ℕ) → Progress → Attempt → Type 0
 MovesOn style operands total progress UsedUp = Unit {0}
 MovesOn style operands total progress Missed = Unit {0}
@@ -98,7 +99,7 @@ MovesOn style operands total progress (Cuts matched line) = (operand : Operand) 
 abbrev pub IsWhole : List ℕ → Type 0
 IsWhole x = (x ≡ []) ⊎ (ends_with newline x ≡ true)
 
--- a text may follow: this one is of complete lines, or nothing follows
+-- a text may follow this one: this text has complete lines, or nothing follows
 abbrev pub Joins : List ℕ → List ℕ → Type 0
 Joins x t = IsWhole x ⊎ (t ≡ [])
 
@@ -109,11 +110,11 @@ IsLine line = lines_of newline line ≡ line ∷ []
 abbrev pub settled_part : CutterState → List ℕ → Part
 settled_part cutter x = settled_of cutter.style cutter.operands (all_lines x)
 
--- a cutter by what the sections say of it: its aim and the lines that wait are left out
+-- a cutter without its aim and the lines that wait: what sections depend on is left
 abbrev pub bare : CutterState → CutterState
 bare cutter = record cutter { aim = UsedUp; window = record { most = 0; delim = newline; held = [] } }
 
--- the sections that are written, and their part
+-- the files of the sections that are written; `part_at` is their part
 abbrev pub draft_at : {cutter : CutterState} {x left : List ℕ} → IsAt cutter x left → Draft
 draft_at {cutter} {x} at = draft_by cutter.style (all_lines x) at.steps (kept_by (state_in cutter).operands) at.written
 
@@ -123,20 +124,20 @@ part_at {cutter} at = draft_part (manner_of cutter.style) (draft_at at)
 abbrev pub plan_in : CutterState → List ℕ → Plan
 plan_in cutter x = plan cutter.style cutter.operands (all_lines x)
 
--- the next operand cuts there, where the lines x came in
+-- the next operand cuts at this point, if the lines x came in
 abbrev pub CutsIn : CutterState → List ℕ → CutPoint → Type 0
 CutsIn cutter x cut = GoesPast cutter.style (all_lines x) (state_in cutter) cut.matched cut.line
 
--- where the plan over x ends, as far as its fault is known from it
+-- the cutter's state and aim are those with which the plan over x ends
 pub record IsJudged (cutter : CutterState) (x : List ℕ) : Type 0 where
   pub last : state_in cutter ≡ (plan_in cutter x).last
   pub aims : AimsAt cutter.aim (plan_in cutter x).ending
 
--- what was found of the next operand stays so
+-- the cutter's last attempt was no cut, and a cut that was further than it may be will move on
 abbrev pub IsAimed : CutterState → Type 0
 IsAimed cutter = AimHolds cutter.style cutter.operands cutter.lines cutter.progress cutter.aim
 
--- What any call leaves of a cutter that had these, and of its outputs.
+-- What any call leaves of a cutter with these operands, style and writer, and of its outputs.
 pub record KeepsBy (given : List Operand) (made : Style) (before : WriterState) (next : CutterState)
     (old new : List Slot) (fault : Option Fault) : Type 0 where
   pub operands : next.operands ≡ given
@@ -146,7 +147,7 @@ pub record KeepsBy (given : List Operand) (made : Style) (before : WriterState) 
 abbrev pub Keeps : CutterState → CutterState → List Slot → List Slot → Option Fault → Type 0
 Keeps cutter = KeepsBy cutter.operands cutter.style cutter.writer
 
--- outputs had one part, and get another
+-- outputs that had one part get another, or a fault stopped that
 abbrev pub Puts : Bool → CutterState → CutterState → Part → Part → List Slot → List Slot → Option Fault → Type 0
 Puts told cutter next = Reaches (sizes_wanted cutter.style) told cutter.writer next.writer
 
@@ -164,20 +165,20 @@ pub record Takes (told : Bool) (cutter : CutterState) (text : List ℕ) (old new
       → Puts told cutter next (settled_part cutter x) (settled_part cutter (x ++ text)) old new fault
   pub went : IfNone fault (Took cutter text next)
 
--- The plan over x ends where the cutter stands, and what is written of the open section is settled.
+-- The plan over x ends at the cutter's state. What is written of the open section is settled.
 pub record Arrives (cutter : CutterState) {x left : List ℕ} (at : IsAt (bare cutter) x left) : Type 0 where
   pub ends : EndsNow cutter x
   pub low : is_final ends.ending ≡ true → at.taken ≡ 0
   pub enough : (at.taken ≡ 0) ⊎ (cutter.window.most ≤ line_count newline left)
 
--- these lines were left, and what is to wait of them does
+-- the lines of `left` that are to wait are held
 pub record Held (cutter : CutterState) (left : List ℕ) (next : CutterState) : Type 0 where
   pub same : next ≡ record cutter { writer = next.writer; window = next.window }
   pub window : next.window ≡ record cutter.window { held = next.window.held }
   pub stands : (x : List ℕ) (at : IsAt (bare cutter) x left) → Arrives cutter at → Stands next x
   pub size : size_of next.writer.current + length next.window.held ≤ size_of cutter.writer.current + length left
 
--- What `hold` does: the lines up to x came in, and these were left.
+-- What `hold` does. The lines up to x came in, and the lines `left` were left.
 pub record HoldsLines (told : Bool) (cutter : CutterState) (left : List ℕ) (old new : List Slot) (next : CutterState)
     (fault : Option Fault) : Type 0 where
   pub keeps : Keeps cutter next old new fault
@@ -185,20 +186,20 @@ pub record HoldsLines (told : Bool) (cutter : CutterState) (left : List ℕ) (ol
       → Puts told cutter next (part_at at) (settled_part cutter x) old new fault
   pub went : IfNone fault (Held cutter left next)
 
--- a line stands last in x, which ends with its newline where it has one
+-- this line is the last in x; if the line ends with its newline, x is complete lines
 abbrev pub IsLastLine : List ℕ → List ℕ → Type 0
 IsLastLine x line = (front : List Line) × (all_lines x ≡ front ++ marked line ∷ [])
     × (ends_with newline line ≡ true → IsWhole x)
 
--- whether a line of this number has the pattern that is searched for, if the search reaches it
+-- whether a line of this number has the pattern that is searched for, if the search reaches the line
 pub record IsFound (cutter : CutterState) (text : List ℕ) (number : ℕ) (found : Bool) : Type 0 where
   pub none : cutter.sought ≡ None → found ≡ false
   pub before : number < search_line (suppress_in cutter) (state_in cutter) → found ≡ false
   pub some : (pattern : Pattern) → cutter.sought ≡ Some pattern
       → search_line (suppress_in cutter) (state_in cutter) ≤ number → found ≡ contains pattern text
 
--- x has as many lines as came in, this one last, and none before it has the pattern that is searched for, from the
--- beginning of the search on
+-- x has as many lines as came in, and `line` is the last of them. No line before it has the pattern that is searched
+-- for, from the beginning of the search on.
 pub record Looked (cutter : CutterState) (x line : List ℕ) : Type 0 where
   pub counted : cutter.lines ≡ line_count newline x
   pub last : IsLastLine x line
@@ -206,7 +207,7 @@ pub record Looked (cutter : CutterState) (x line : List ℕ) : Type 0 where
       → (other : ℕ) → search_line (suppress_in cutter) (state_in cutter) ≤ other → other < cutter.lines
       → is_match operand (all_lines x) other ≡ false
 
--- The next operand cuts at this line, which is no further than it may cut.
+-- The next operand cuts at this line, which is no further than the operand may cut.
 pub record WillCut (cutter : CutterState) (cut : CutPoint) : Type 0 where
   pub operand : Operand
   pub operands : List Operand
@@ -217,13 +218,13 @@ pub record WillCut (cutter : CutterState) (cut : CutPoint) : Type 0 where
   pub from : cutter.progress.current ≤ cut.line
   pub within : cut.line ≤ cutter.lines + past_last cutter.style operand.target
 
--- where a search after this cut begins
+-- the line at which a search after this cut begins
 abbrev pub search_after : Bool → CutPoint → ℕ
 search_after suppress cut = search_line suppress
     (record { operands = []; repetition = 0; current = line_after suppress cut.line; matched = cut.matched })
 
--- After the cut no line before the last one is looked at: so it is where that was so before it, and where a pattern
--- cuts.
+-- After the cut no line before the last one is looked at. This is said only if it was so before the cut, or if a
+-- pattern cuts.
 abbrev pub StaysNear : CutterState → CutPoint → Type 0
 StaysNear cutter cut = (cutter.lines ≤ search_line (suppress_in cutter) (state_in cutter)) ⊎ (cutter.sought ≡ None → ⊥)
     → cutter.lines ≤ search_after (suppress_in cutter) cut
@@ -234,14 +235,14 @@ Tries cutter line next None = (x : List ℕ) → Looked cutter x line → EndsNo
 Tries cutter line next (Some cut) = (x : List ℕ) → Looked cutter x line
     → CutsIn cutter x cut × StaysNear cutter cut
 
--- The same of a line that is counted first, where the lines x came in before it.
+-- What `Tries` says, for a line that is counted first; the lines x came in before it.
 abbrev pub TriesNext : CutterState → List ℕ → CutterState → Option CutPoint → Type 0
 TriesNext cutter line next None = (x : List ℕ) → IsWhole x → IsLive cutter x → EndsNow next (x ++ line)
 TriesNext cutter line next (Some cut) = (x : List ℕ) → IsWhole x → IsLive cutter x
     → CutsIn cutter (x ++ line) cut × (next.lines ≤ search_after (suppress_in cutter) cut)
 
--- The plan over x cuts there, and no line of it before the last one is to be looked at again. The lines that are left
--- begin with number `place`.
+-- The plan over x cuts at this point, and no line of x before the last is to be looked at again. The lines that are
+-- left begin with the line of number `place`.
 pub record CutsNow {cutter : CutterState} {x left : List ℕ} (line : List ℕ) (cut : CutPoint) (place : ℕ)
     (at : IsAt cutter x left) : Type 0 where
   pub last : IsLastLine x line
@@ -258,7 +259,7 @@ IsNoCut (Above matched line) = Unit {0}
 IsNoCut Below = Unit {0}
 IsNoCut (Cuts matched line) = ⊥
 
--- where the run stands after a cut
+-- where the run stands after this cut
 abbrev pub PassesOn : CutterState → CutPoint → CutterState → Type 0
 PassesOn cutter cut next = (operand : Operand) (operands : List Operand)
     → (state_in cutter).operands ≡ operand ∷ operands
@@ -272,7 +273,7 @@ pub record WentOn (cutter : CutterState) (cut : CutPoint) (next : CutterState) :
   pub fewer : needed next.lines (state_in next) < needed cutter.lines (state_in cutter)
   pub state : PassesOn cutter cut next
 
--- for want of memory little was done
+-- memory was lacking, and the writer, operands and style are as before
 abbrev pub Lacks : CutterState → CutterState → Fault → Type 0
 Lacks cutter next fault = (fault ≡ Memory) × (next.writer ≡ cutter.writer) × (next.operands ≡ cutter.operands)
     × (next.style ≡ cutter.style)
@@ -288,11 +289,11 @@ equipped cutter = record cutter {
   sought = pattern_by (state_in cutter).operands;
 }
 
--- one text ends with another
+-- `end` is the end of this text
 abbrev pub IsEnd : List ℕ → List ℕ → Type 0
 IsEnd end text = (front : List ℕ) × (text ≡ front ++ end)
 
--- What is so after a cut: the open section has no line yet, and none before the last line is to be looked at again.
+-- What is true after a cut: the open section has no line yet, and no line before the last one is to be looked at again.
 pub record IsAfter (told : Bool) (cutter : CutterState) (x line : List ℕ) (next : CutterState) (rest : List ℕ)
     (low : Part) (old new : List Slot) : Type 0 where
   pub now : IsAt (bare next) x rest
@@ -302,7 +303,7 @@ pub record IsAfter (told : Bool) (cutter : CutterState) (x line : List ℕ) (nex
   pub grows : Begins low (part_at now)
   pub reaches : Puts told cutter next low (part_at now) old new None
 
--- Some cuts were made, and these lines are left.
+-- Some cuts were made, and the lines `left` are left.
 pub record Spreading (told : Bool) (cutter : CutterState) (cut : CutPoint) (place : ℕ) (waiting line : List ℕ)
     (old new : List Slot) (now : CutterState) (left : List ℕ) : Type 0 where
   pub keeps : Keeps cutter now old new None
@@ -320,7 +321,7 @@ pub record CutAt (told : Bool) (cutter : CutterState) (cut : CutPoint) (place : 
   pub fewer : needed next.lines (state_in next) < needed cutter.lines (state_in cutter)
   pub spreading : (line : List ℕ) → Spreading told cutter cut place left line old new next rest
 
--- No operand cuts any more what is left, and nothing of it is written or waits yet.
+-- No operand cuts what is left any more, and nothing of it is written or waits yet.
 pub record Spread (told : Bool) (cutter : CutterState) (cut : CutPoint) (place : ℕ) (waiting line : List ℕ)
     (old new : List Slot) (next : CutterState) (left : List ℕ) : Type 0 where
   pub now : CutterState
@@ -329,7 +330,7 @@ pub record Spread (told : Bool) (cutter : CutterState) (cut : CutPoint) (place :
   pub tries : Tries now line next None
   pub aim : IsAimed next
 
--- the lines that were left were cut as often as operands cut, and more came in that aren't cut
+-- the lines that were left were cut as often as operands cut them, and more lines came in that aren't cut
 pub record CutAll (cutter : CutterState) (cut : CutPoint) (place : ℕ) (left line more : List ℕ)
     (next : CutterState) : Type 0 where
   pub lines : next.lines ≤ cutter.lines + length more
@@ -338,7 +339,8 @@ pub record CutAll (cutter : CutterState) (cut : CutPoint) (place : ℕ) (left li
   pub size : size_of next.writer.current + length next.window.held
       ≤ size_of cutter.writer.current + length left + length more
 
--- What cutting as often as operands cut does, from the first cut on, and then taking in more lines that aren't cut.
+-- What cutting does from the first cut on: it cuts as often as operands cut, and then takes in more lines that aren't
+-- cut.
 pub record CutsAll (told : Bool) (cutter : CutterState) (cut : CutPoint) (place : ℕ) (left line more : List ℕ)
     (old new : List Slot)
     (next : CutterState) (fault : Option Fault) : Type 0 where
@@ -351,11 +353,11 @@ pub record CutsAll (told : Bool) (cutter : CutterState) (cut : CutPoint) (place 
 abbrev pub past_in : CutterState → ℕ
 past_in cutter = past_by cutter.style (state_in cutter).operands
 
--- The next line is left out: the last cut stands there, and it came before that line.
+-- the next line is left out: the last cut stands at it
 abbrev pub WillSkip : CutterState → Type 0
 WillSkip cutter = cutter.lines + 1 < cutter.progress.current
 
--- What passing over lines says: the next operand stands as it did.
+-- What passing over lines does: the next operand stands as it did.
 pub record PassesOver (cutter : CutterState) (text : List ℕ) (next : CutterState) (n : ℕ) : Type 0 where
   pub same : next ≡ record cutter { lines = next.lines }
   pub within : n ≤ length text
@@ -375,7 +377,7 @@ pub record IsNextFound (cutter : CutterState) (rest : List ℕ) (size : ℕ) : T
   pub aim : cutter.aim ≡ Missed
   pub found : IsFound cutter (without_newline (take size rest)) (cutter.lines + 1) true
 
--- What passing over lines says where it may find the line that follows.
+-- What passing over lines does if the pattern may be found in the line that follows.
 pub record StopsAt (cutter : CutterState) (text : List ℕ) (next : CutterState) (passed : Passed) : Type 0 where
   pub over : PassesOver cutter text next passed.size
   pub found : IfSome passed.found (IsNextFound next (drop passed.size text))
@@ -393,15 +395,15 @@ pub record PassesClear (cutter : CutterState) (text : List ℕ) (next : CutterSt
   pub count : next.lines ≡ cutter.lines + line_count newline (take n text)
   pub clear : (pattern : Pattern) → cutter.sought ≡ Some pattern → AreClear pattern (take n text)
 
--- a text begins with one line of this many bytes, which may lack its newline if it is the only one, and others follow
+-- a text begins with one line of this many bytes; the line may lack its newline if it is the only line
 pub record Starts (text : List ℕ) (size : ℕ) : Type 0 where
   pub within : size ≤ length text
   pub line : IsLine (take size text)
   pub rest : IsWhole (drop size text)
   pub complete : (drop size text ≡ []) ⊎ (ends_with newline (take size text) ≡ true)
 
--- After the first bytes of a text these many were taken in too, complete lines. Returned are both, and how many bytes
--- the next line is, where the pattern that is searched for was found in it.
+-- After the first `size` bytes of a text, n bytes of complete lines were taken in. The result has the size of both
+-- together, and how many bytes the next line has if the pattern that is searched for was found in it.
 pub record Extends (text : List ℕ) (size : ℕ) (next : CutterState) (result : Result Passed Fault) : Type 0 where
   pub n : ℕ
   pub within : n ≤ length (drop size text)
@@ -409,13 +411,13 @@ pub record Extends (text : List ℕ) (size : ℕ) (next : CutterState) (result :
   pub size_is : IfOk result (λ passed. passed.size ≡ size + n)
   pub found : IfOk result (λ passed. IfSome passed.found (IsNextFound next (drop n (drop size text))))
 
--- A stretch of the text was taken in, with its first line at least; or a fault came among them.
+-- A stretch of the text was taken in, with its first line at least; or a fault came among its bytes.
 pub record Stretches (told : Bool) (cutter : CutterState) (text : List ℕ) (size : ℕ) (old new : List Slot)
     (next : CutterState) (result : Result Passed Fault) : Type 0 where
   pub on : Extends text size next result
   pub took : Takes told cutter (take size text ++ take on.n (drop size text)) old new next (fault_in result)
 
--- The lines of a text after its first bytes were passed over, and then held together with what is left of those bytes.
+-- The lines of a text after its first bytes were passed over, and then held with what is left of those bytes.
 pub record PassesThenHolds (told : Bool) (cutter : CutterState) (left text : List ℕ) (size : ℕ) (old new : List Slot)
     (next : CutterState) (result : Result Passed Fault) : Type 0 where
   pub on : Extends text size next result
@@ -424,18 +426,18 @@ pub record PassesThenHolds (told : Bool) (cutter : CutterState) (left text : Lis
   pub held : HoldsLines told mid (mid.window.held ++ (left ++ take on.n (drop size text))) old new next
       (fault_in result)
 
--- The first line of a text was cut, and the lines after it that aren't cut were taken in too.
+-- The first line of a text was cut, and the lines after it that aren't cut were taken in.
 pub record CutsOn (told : Bool) (cutter : CutterState) (cut : CutPoint) (text : List ℕ) (size : ℕ) (old new : List Slot)
     (next : CutterState) (result : Result Passed Fault) : Type 0 where
   pub on : Extends text size next result
   pub all : CutsAll told cutter cut cutter.lines (take size text) (take size text) (take on.n (drop size text)) old new
       next (fault_in result)
 
--- what is written where the input ends after these lines
+-- what is written if the input ends after these lines
 abbrev pub whole_part : CutterState → List ℕ → Part
 whole_part cutter x = whole_of cutter.style cutter.operands (all_lines x)
 
--- what standard output is told of files
+-- what standard output gets about files
 abbrev pub tells_by : Style → Tells
 tells_by style = if style.quiet then Nothing else Sizes
 
@@ -443,11 +445,11 @@ tells_by style = if style.quiet then Nothing else Sizes
 abbrev pub new_for : Style → WriterState
 new_for style = new_writer (naming_of style) (tells_by style) All
 
--- and where nothing is begun
+-- a writer that has made no file, while nothing is begun
 abbrev pub writer_for : Style → WriterState
 writer_for style = paused (new_for style)
 
--- The first section could not begin, of which this part is due: a file could not be made, or there was no memory.
+-- The first section could not begin, which would have made this part: a file could not be made, or memory was lacking.
 pub record BegunNot (told : Bool) (style : Style) (part : Part) (old new : List Slot) (fault : Fault) : Type 0 where
   pub reaches : Reaches (sizes_wanted style) told (writer_for style) (writer_for style) nothing part old new
       (Some fault)
@@ -475,7 +477,7 @@ abbrev pub Opens : Bool → Style → List Operand → List Slot → List Slot �
 Opens told style operands old new (Ok cutter) = Opened told style operands old new (seen cutter)
 Opens told style operands old new (Err fault) = BegunNot told style (settled_of style operands []) old new fault
 
--- The last section ended, or a fault came before that. How the plan ends stays.
+-- The last section ended, or a fault came before that. Where the plan ends stays known.
 pub record EndsAll (told : Bool) (cutter : CutterState) (old new : List Slot) (next : CutterState)
     (fault : Option Fault) : Type 0 where
   pub keeps : Keeps cutter next old new fault
@@ -483,12 +485,12 @@ pub record EndsAll (told : Bool) (cutter : CutterState) (old new : List Slot) (n
       → Puts told cutter next (settled_part cutter x) (whole_part cutter x) old new fault
   pub judged : IfNone fault ((x : List ℕ) → Stands cutter x → IsJudged next x)
 
--- The files that were there are removed, and those are left whose removal failed.
+-- The files that were there are removed, and the files are left whose removal failed.
 pub record Clears (cutter : CutterState) (old new : List Slot) (next : CutterState) : Type 0 where
   pub same : next ≡ record cutter { writer = record cutter.writer { files = next.writer.files } }
   pub removes : Removes cutter.writer.files old next.writer.files new
 
--- a piece came after the open line, and of both what follows their complete lines waits
+-- a piece came after the open line; what follows the complete lines of both waits
 pub record Came (cutter : CutterState) (rest piece : List ℕ) (next : CutterState) (after : List ℕ) : Type 0 where
   pub live : next.aim ≢ Below → after ≡ open_line (rest ++ piece)
   pub past : next.aim ≡ Below → (cutter.aim ≡ Below → rest ≡ []) → after ≡ []
@@ -496,7 +498,7 @@ pub record Came (cutter : CutterState) (rest piece : List ℕ) (next : CutterSta
   pub unbroken : delimiters newline after ≡ 0
   pub size : load next + length after ≤ load cutter + length rest + length piece
 
--- Their complete lines went to the cutter, or a fault came among them.
+-- The complete lines of the open line and a piece went to the cutter, or a fault came among them.
 pub record PassesFrom (told : Bool) (cutter : CutterState) (rest piece : List ℕ) (old new : List Slot)
     (next : CutterState) (after : List ℕ)
     (result : Result (Unit {0}) Fault) : Type 0 where
@@ -516,12 +518,12 @@ pub record Closed (told : Bool) (stage : CsplitState) (old new : List Slot) (nex
       old new fault
   pub judged : IfNone fault ((x : List ℕ) → IsWhole x → Stands stage.cutter x → IsJudged next.cutter (x ++ stage.rest))
 
--- the cutter's verdict, once the last section ended, is that with which the plan over all lines ends
+-- the cutter's verdict after the last section is the verdict with which the plan over all lines ends
 abbrev pub Judges : CutterState → Option Verdict → Type 0
 Judges cutter verdict = (x : List ℕ) → IsJudged cutter x
     → verdict ≡ verdict_of (plan_in cutter x).ending
 
--- How the end went: well; or a fault came before it; or it came, and the work ends with a verdict.
+-- How the end went: well; or a fault came before the end; or the end came, and the work ends with a verdict.
 pub data Closes (told : Bool) (stage : CsplitState) (old new : List Slot) (next : CsplitState) : Result (Unit {0}) Fault
     → Type 0 where
   ended_well : Closed told stage old new next None → Judges next.cutter None → Closes told stage old new next (Ok tt)

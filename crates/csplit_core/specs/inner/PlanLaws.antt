@@ -1,4 +1,4 @@
--- What private calls say: the plan that is computed is the one plan there is, and what sections are as more lines come.
+-- What private calls say: the plan that is computed is the only plan, and what sections are as more lines come.
 use Rattle.std.specs.{
   Prelude.{◌≡◌, ℕ, suc, ◌+◌, ◌<◌, true, false, List, length, Option, Some, None, ◌-◌, ◌*◌, Bool, [], ◌∷◌, ◌≤◌},
   Prelude.◌++◌,
@@ -15,14 +15,14 @@ abbrev pub MatchesAs : Operand → List Line → ℕ → Option ℕ → Type 0
 MatchesAs operand lines from None = MatchesNone operand lines from
 MatchesAs operand lines from (Some line) = IsFirst operand lines from line
 
--- the steps after an attempt
+-- the plan from a state on, by the attempt that was made there
 abbrev pub after : ℕ → Style → List Line → State → PlannedAttempt → Plan
 after bound style lines state attempt = elim attempt [
   | ends ending ↦ ended state ending
   | goes step next ↦ with_step step (plan_within bound style lines next)
 ]
 
--- how many more steps there can be
+-- how many steps the operand can still make, besides one last step
 abbrev pub left_of : ℕ → State → Target → ℕ
 left_of total state (Number n) = total - state.repetition
 left_of total state (Search pattern kept offset) = total - state.matched
@@ -41,7 +41,7 @@ so steps last ending = record { steps = steps; last = last; ending = ending }
 abbrev pub RunsAs : Style → List Line → State → Plan → Type 0
 RunsAs style lines state plan = Runs style lines state plan.steps plan.last plan.ending
 
--- What stands at the end of a plan
+-- What is true at the end of a plan
 
 abbrev pub EndsAs : Style → List Line → State → Ending → Type 0
 EndsAs style lines state used_up = state.operands ≡ []
@@ -55,14 +55,15 @@ EndsAs style lines state (below operand repetition) = (operands : List Operand) 
     × (state.operands ≡ operand ∷ operands) × CutsAt style lines state operand operand.target matched cut
     × (cut < state.current) × (repetition ≡ state.repetition)
 
--- what is settled stands before each cut of the next operand, and more so where it misses
+-- what is settled ends no later than any cut of the next operand; if that operand misses, the lines that may wait come
+-- after it
 abbrev pub CutsFrom : Style → List Line → State → ℕ → Bool → List Operand → Type 0
 CutsFrom style lines state past kept [] = kept ≡ true
 CutsFrom style lines state past kept (operand ∷ operands) = (kept ≡ is_kept operand.target)
     × ((matched cut : ℕ) → CutsAt style lines state operand operand.target matched cut → past ≤ cut)
     × (Misses style lines state operand operand.target → past ≤ suc (length lines) - most_held operand.target)
 
--- the steps lie within the lines, but for a cut one past the last of them
+-- the steps stand within the lines; only a cut may stand one past the last line
 abbrev pub AreWithin : ℕ → List Step → Type 0
 AreWithin total [] = Unit {0}
 AreWithin total (step ∷ steps) = (1 ≤ step.current) × (step.current ≤ step.cut) × (step.cut ≤ total + 1)
@@ -78,11 +79,11 @@ pub record Next (begun : Section) (sections : List Section) : Type 0 where
   pub rest : List Line
   pub lines : other.lines ≡ begun.lines ++ rest
 
--- one past what is settled never passes what comes of it
+-- by `past` the last section ends no earlier than its settled lines
 abbrev pub Covers : (ℕ → Ending → ℕ) → Type 0
 Covers past = (total : ℕ) (ending : Ending) → settled_end total ending ≤ past total ending
 
--- Sections grow: all but the last stay, and the last, which is open, goes on
+-- Sections grow: all sections but the last stay, and the last, which is open, goes on
 
 pub record Grow (low high : List Section) : Type 0 where
   pub front : List Section
@@ -93,7 +94,7 @@ pub record Grow (low high : List Section) : Type 0 where
   pub high_is : high ≡ front ++ after
   pub next : Next begun after
 
--- a plan over more lines goes on from where the plan stands
+-- a plan over more lines goes on from the state at which the plan over the first lines ends
 pub record GoesOn (style : Style) (operands : List Operand) (a b : List Line) : Type 0 where
   pub more : List Step
   pub end : State

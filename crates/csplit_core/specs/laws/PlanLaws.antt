@@ -63,7 +63,7 @@ from_less a b is = grind (arith, nat_tests, is)
 pub from_not_less : (a b : ℕ) → nat_lt a b ≡ false → b ≤ a
 from_not_less a b is = grind (arith, nat_tests, is)
 
--- What a plan says, the computation does
+-- The computation does what a plan says
 
 attempt_at_cut : (style : Style) (lines : List Line) (state : State) (operand : Operand) (operands : List Operand)
     (target : Target) (matched cut : ℕ)
@@ -86,7 +86,7 @@ fewer_operands : (total : ℕ) (state : State) (operands : List Operand)
 fewer_operands total state [] = omega arith
 fewer_operands total state (operand ∷ operands) = search rules
 
--- a cut stands one past the last line at most
+-- a cut stands at most one past the last line
 pub past_near : (style : Style) (target : Target) → past_last style target ≤ 1
 past_near style (Number n) = search rules
 past_near style (Search pattern kept offset) = search rules
@@ -138,7 +138,7 @@ ends_within : (bound : ℕ) (style : Style) (lines : List Line) (state : State) 
     → needed (length lines) state ≤ bound → plan_within bound style lines state ≡ so [] state ending
 ends_within bound style lines state is e enough = grind (arith, common_steps)
 
--- A plan is the one that is computed
+-- any plan is the plan that is computed
 pub computed : {style : Style} {lines : List Line} {first : State} (all : List Step) (end : State) {how : Ending}
     → Runs style lines first all end how
     → (bound : ℕ) → needed (length lines) first ≤ bound → 1 ≤ first.current
@@ -249,7 +249,7 @@ pub plan_once : {style : Style} {operands : List Operand} {lines : List Line} {s
     → plan style operands lines ≡ so steps last ending
 plan_once is = search (rules, computed, enough_at_start)
 
--- What was cut off stays so
+-- The cuts over some lines are cuts over more lines, too
 
 pub cuts_still : (style : Style) (a b : List Line) (state : State) (operand : Operand) (target : Target)
     (matched cut : ℕ) → CutsAt style a state operand target matched cut

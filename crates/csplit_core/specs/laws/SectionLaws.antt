@@ -39,7 +39,7 @@ pub between_still : (first past : ℕ) (a b : List Line) → 1 ≤ first → pas
     → lines_between first past (a ++ b) ≡ lines_between first past a
 between_still first past a b some within = grind (arith, common_steps)
 
--- and what is taken further begins with it
+-- a stretch that ends later, over more lines, begins with the stretch over fewer lines
 pub between_grows : (first past more : ℕ) (a b : List Line) → 1 ≤ first → past ≤ length a + 1 → (past ≤ more)
     ⊎ (past ≤ first) → (rest : List Line) × (lines_between first more (a ++ b) ≡ lines_between first past a ++ rest)
 between_grows first past more a b some within (inl less) =
@@ -87,7 +87,7 @@ next_by a b current past more {kept} closed {other_kept} {rest} some within less
       lines = grown.1;
     }
 
--- what is settled stands before what the next operand does where more lines follow
+-- what is settled stands before the cut of the next operand over more lines
 pub cuts_from : (style : Style) (a b : List Line) (state : State) (ending : Ending) {operands : List Operand}
     → EndsAs style a state ending → state.operands ≡ operands
     → CutsFrom style (a ++ b) state (settled_end (length a) ending) (is_last_kept ending) operands
@@ -142,7 +142,7 @@ plan_grows style closed end_of covers operands a b =
     let goes = plan_goes_on {style = style} operands a b in
     rw goes.is (sections_grow closed end_of covers b _ _ (omega arith) (plan_runs style operands a) goes.rest)
 
--- What is put out grows with them
+-- What is written grows with the sections
 
 pub bytes-append : (a b : List Line) → bytes_of (a ++ b) ≡ bytes_of a ++ bytes_of b
 bytes-append [] b = refl
@@ -152,7 +152,7 @@ pub shares-append : (style : Style) (a b : List Section)
     → shares_in style (a ++ b) ≡ shares_in style a ++ shares_in style b
 shares-append style a b = search (rules, flat_map-append)
 
--- what is written of sections whose last one goes on, and may end
+-- what is written of sections grows if the last section goes on, and perhaps ends
 pub section_grows : (style : Style) (front : List Section) (begun other : Section) (more : List Section)
     → begun.is_closed ≡ false → begun.is_kept ≡ other.is_kept → (rest : List ℕ)
     → bytes_of other.lines ≡ bytes_of begun.lines ++ rest
@@ -182,7 +182,7 @@ settled_covers total ending = omega arith
 pub whole_covers : Covers whole_end
 whole_covers total ending = search rules
 
--- The two laws of what is settled: it only grows, and what is put out in the end begins with it.
+-- The two laws of what is settled: it only grows, and what is written at the end begins with it.
 pub grows : (style : Style) (operands : List Operand) (a b : List Line)
     → Begins (settled_of style operands a) (settled_of style operands (a ++ b))
 grows style operands a b = search (rules, parts_grow, plan_grows, settled_covers)

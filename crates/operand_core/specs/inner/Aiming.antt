@@ -8,7 +8,7 @@ use Rattle.operand_core.specs.{
 }
 use Rattle.operand_core.specs.declared.operand_fault.OperandFaultKind.TheVariants as kind
 
--- a text is read as this pattern, or refused with this fault, or there is no memory
+-- a text is read as this pattern, or is refused with this fault, or there is no memory
 abbrev pub IsReadAs : List ℕ → Result Pattern BreFault → Type 0
 IsReadAs text (Ok pattern) = IsPattern text pattern
 IsReadAs text (Err Memory) = Unit {0}

@@ -6,7 +6,7 @@ abbrev pub least_by : ℕ → Target → ℕ
 least_by least (Number n) = n
 least_by least (Search pattern kept offset) = least
 
--- the words after an operand say how often it is performed again: the first one does, or none
+-- the words after an operand say how often it is performed again: the first word says it, or no word does
 pub data SayTimes : List (List ℕ) → Times → (said : ℕ) → Type 0 where
   no_word : SayTimes [] (Count 0) 0
   again : (word : List ℕ) (words : List (List ℕ)) (times : Times) → times_by (spelling word) ≡ Some times

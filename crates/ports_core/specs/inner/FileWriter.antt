@@ -19,13 +19,13 @@ use Rattle.ports_core.specs.{
 
 -- What the steps of the writer do.
 
--- where sizes are told, these bytes are counted as well, and else at most these
+-- how many bytes are counted after these bytes: if sizes are written, exactly these more; otherwise at most these more
 abbrev pub CountsOn : Tells → ℕ → List ℕ → ℕ → Type 0
 CountsOn Nothing size bytes more = more ≤ size + length bytes
 CountsOn Sizes size bytes more = more ≡ size + length bytes
 CountsOn Openings size bytes more = more ≤ size + length bytes
 
--- the open file, of which `size` bytes are counted, got these as well, or broke among them
+-- the open file, of which `size` bytes are counted, got these bytes as well, or broke among them
 pub record Appends (told : Bool) (writer : WriterState) (slot size : ℕ) (bytes : List ℕ) (old new : List Slot)
     (next : WriterState) (fault : Option Fault) : Type 0 where
   pub same : next ≡ record writer { current = next.current }
@@ -33,18 +33,18 @@ pub record Appends (told : Bool) (writer : WriterState) (slot size : ℕ) (bytes
   pub still : IfSome fault (λ why. next.current ≡ writer.current)
   pub wrote : Wrote told slot bytes old new fault
 
--- the size of a file was told, or standard output broke; nothing was where sizes aren't told
+-- the size of a file was written to standard output, or standard output broke; nothing happened if sizes aren't written
 abbrev pub TellsSize : Bool → Tells → ℕ → List Slot → List Slot → Option Fault → Type 0
 TellsSize told Nothing size old new fault = (fault ≡ None) × (new ≡ old)
 TellsSize told Sizes size old new fault = Wrote told 0 (decimal size ++ 10 ∷ []) old new fault
 TellsSize told Openings size old new fault = (fault ≡ None) × (new ≡ old)
 
--- the outputs that are kept, with one more file
+-- the outputs that are kept once one more file was made
 abbrev pub files_with : Keeps → List ℕ → ℕ → List ℕ
 files_with Open files slot = files
 files_with All files slot = files ++ slot ∷ []
 
--- the next file was made, after standard output was told of it
+-- the next file was made, after standard output got the line about it
 pub record Made (writer : WriterState) (old new : List Slot) (next : WriterState) (slot : ℕ) : Type 0 where
   pub few : writer.names.drawn < 2 ^ 64
   pub named : IsTrue (has_next writer.names)
@@ -56,7 +56,7 @@ pub record Made (writer : WriterState) (old new : List Slot) (next : WriterState
     current = File slot 0;
   }
 
--- or it couldn't be
+-- the next file couldn't be made
 pub record MakesNone (told : Bool) (writer : WriterState) (old new : List Slot) (next : WriterState) (fault : Fault)
     : Type 0 where
   pub same : next ≡ record writer { names = next.names; current = Unopened }

@@ -1,4 +1,4 @@
--- What private calls say: what standard output was told of a file before that is opened.
+-- What private calls say: what standard output gets about a file before the file is opened.
 use Rattle.std.specs.Prelude.{◌≡◌, ℕ, Bool, List, ◌⊎◌, Option, Some, None}
 use Rattle.ports_core.specs.{
   Slot.{Slot, told_of, with_written},
@@ -6,7 +6,7 @@ use Rattle.ports_core.specs.{
   declared.fault.Fault.{Fault, TheVariants.Memory},
 }
 
--- it got this line; or there was no memory for it, or standard output broke in it
+-- standard output got this line; or there was no memory for the line, or standard output broke in it
 abbrev pub TellsOpening : Bool → List ℕ → List Slot → List Slot → Option Fault → Type 0
 TellsOpening told line old new None = new ≡ with_written 0 (told_of told line) old
 TellsOpening told line old new (Some fault) = ((fault ≡ Memory) × (new ≡ old)) ⊎ WritesShort told 0 line old new fault

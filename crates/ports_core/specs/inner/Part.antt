@@ -4,7 +4,7 @@ use Rattle.ports_core.specs.{
   Part.{File, Output, gets_none, gets_bytes, gets_lines, gets_openings, lines_for, openings_for},
 }
 
--- standard output has just the lines for these files, where files have lines
+-- standard output has exactly the lines for these files, if files have lines
 abbrev pub HasLines : Output → List ℕ → List File → Type 0
 HasLines gets_none bytes files = Unit {0}
 HasLines gets_bytes bytes files = Unit {0}

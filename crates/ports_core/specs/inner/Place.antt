@@ -1,7 +1,7 @@
 -- What a private call says: the place at which standard input stands, as the system writes it.
 use Rattle.std.specs.{Prelude.{◌≡◌, ℕ, List, ◌∷◌, ◌++◌, codes}, Str.Parse.{IsNumeral, digits_value, without_leading_plus}}
 
--- the first line is this name, a tab and the place's digits; a plus may stand before these, as before any number that is read
+-- the first line is `pos:`, a tab and the place in decimal; a plus may stand before the digits
 pub record SaysPlace (text : List ℕ) (place : ℕ) : Type 0 where
   pub digits : List ℕ
   pub rest : List ℕ

@@ -7,15 +7,15 @@ use Rattle.ports_core.specs.{
 
 pub record RealInput : Type 0 where
   pub source : Source
-  -- how many of its bytes were given and not given back, or passed over; it stays at the greatest number of 64 bits
+  -- how many bytes were given and not given back, or passed over; the count stays at 2^64-1
   pub place : ℕ
-  -- it is standard input that was closed: what stands in its place says nothing of why it can't be read
+  -- whether the input is standard input that was closed: what stands in its place doesn't say why it can't be read
   pub is_closed : Bool
 
 abbrev pub sources_of : List RealInput → List Source
 sources_of inputs = map (λ input. input.source) inputs
 
--- one of which nothing was read
+-- an input of which nothing was read
 abbrev pub input_of : Source → RealInput
 input_of source = record { source = source; place = 0; is_closed = false }
 
@@ -26,7 +26,7 @@ input_gives size n input = record input {
   place = min (input.place + n) (2 ^ 64 - 1);
 }
 
--- why it can't be read, if the system says this: standard input that was closed isn't open
+-- why an input can't be read, if the system gives this reason: standard input that was closed isn't open
 abbrev pub why_of : RealInput → Reason → Reason
 why_of input why = if input.is_closed then NotOpen else why
 

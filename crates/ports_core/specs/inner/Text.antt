@@ -7,6 +7,6 @@ abbrev pub rule_at : ℕ → Option ℕ → List ℕ
 rule_at rule None = decimal rule
 rule_at rule (Some place) = decimal rule ++ codes " at " ++ decimal place
 
--- what is wrong, and if it is about a word, that word
+-- what is wrong, and the word that this is about, if it is about a word
 abbrev pub said : List ℕ → Bool → List ℕ → List ℕ
 said words is_about word = if is_about then words ++ in_quotes word else words

@@ -6,7 +6,7 @@ use Rattle.ports_core.specs.{
   Write.BrokeAfter,
 }
 
--- the slot broke among these bytes, and the fault says so
+-- the slot broke among these bytes, and the fault names the slot
 pub data WritesShort (told : Bool) (slot : ℕ) (bytes : List ℕ) (old new : List Slot) : Fault → Type 0 where
   broke : (n : ℕ) → BrokeAfter told old new slot bytes n → WritesShort told slot bytes old new (Write slot)
 
