@@ -56,8 +56,7 @@ pub record IsWatched (ways : Ways) (looks : List Look) (place : ℕ) (name : Lis
   pub closed : is_some watched.failed ≡ true → watched.opened ≡ None
 
 -- The watched names end with these names, from the number `first` on. Once a look was made, all of them are watched.
--- Before that some may be missing at the end, since the first look found no memory to add them. Each is watched by its
--- own name.
+-- Before that some or all of them may be missing at the end. Each is watched by its own name.
 abbrev pub AreWatched : Ways → List Look → List (List ℕ) → List Watched → Type 0
 AreWatched ways looks names watched = (length watched ≤ ways.first + length names)
     × (0 < length looks → length watched ≡ ways.first + length names)

@@ -91,7 +91,7 @@ naming_of asked = record {
 abbrev pub filing_of : SplitAsked → Filing
 filing_of asked = record { names = naming_of asked; verbose = asked.verbose }
 
--- The task of `split`: the input cut into files, or what one file would have. The work depends on the length of what
+-- The task of `split`: the input cut into files, or what one file would have. The work may depend on the length of what
 -- the input shows.
 abbrev pub split_task : Calling → SplitAsked → Task
 split_task calling asked = record {

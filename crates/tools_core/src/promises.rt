@@ -56,10 +56,10 @@ pub fn program_makes_these_runs()
         × (run.inputs ≡ source_of run.world.standard ∷ []) }
 {}
 
-/// The first N lines of an input, and all lines from the next line on, written one after another, are the input: `head
-/// -n N` and then `tail -n +M`, where M is N + 1. All lines but the last N, and the last N lines, are the input, too:
-/// `head -n -N` and then `tail -n N`. The same is true of bytes (`-c`), and of lines that end with byte 0 (`-z`), if
-/// both runs have that option. Neither run may write a header. If an input shows a text before it is read, and gives
+/// The first N lines of an input, and all lines from the next line on, written one after another, are the input:
+/// `head -n N` and then `tail -n +M`, where M is N + 1. All lines but the last N, and the last N lines, are the input,
+/// too: `head -n -N` and then `tail -n N`. The same is true of bytes (`-c`), and of lines that end with byte 0 (`-z`),
+/// if both runs have that option. Neither run may write a header. If an input shows a text before it is read, and gives
 /// this text first, the last two runs speak of this text: a file may grow while they run.
 pub fn head_and_tail_meet()
     ensures first { (head tail : Run) (first rest : EndsAsked) (n : ℕ) (input : List ℕ) → CountAlike first rest

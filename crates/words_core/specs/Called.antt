@@ -68,7 +68,7 @@ abbrev pub words_of : List (List ℕ) → List (List ℕ)
 words_of [] = []
 words_of (name ∷ arguments) = words_called (tool_called name) ++ map (word_of (tool_called name)) arguments
 
--- the arguments from a place on may be these: each may be given at its place, and none may be given after the last
+-- the arguments from a place on may be these: each may be given at its place, and there may be none after the last
 abbrev pub AreGiven : (ℕ → Option (List ℕ) → Type 0) → ℕ → List (List ℕ) → Type 0
 AreGiven gives place [] = gives place None
 AreGiven gives place (argument ∷ arguments) = gives place (Some argument) × AreGiven gives (place + 1) arguments

@@ -36,7 +36,7 @@ const SHORT: usize = 256;
 
 /// What a program was started with: its own name, and what follows that.
 pub trait Arguments {
-    /// Whether this argument may be given at a place, counted from 0, or none may be given there.
+    /// Whether there may be this argument at a place, counted from 0, or no argument.
     ghost gives: { Self → ℕ → Option (List ℕ) → Type 0 };
 
     /// Puts the argument at this place at the front of the buffer, and returns its length.

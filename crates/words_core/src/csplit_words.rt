@@ -90,7 +90,8 @@ impl<'a> CsplitOptions<'a> {
     }
 }
 
-/// What words ask of `csplit`. It takes memory for what names have before and after their numbers, and for the operands.
+/// What words ask of `csplit`. This takes memory for the operands, and for what names have
+/// before and after their numbers.
 ///
 /// # Errors
 ///

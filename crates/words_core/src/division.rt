@@ -1,4 +1,5 @@
-//! The value of `-n` of `split`: among how many files an input is divided, and how (GNU coreutils manual, split, CHUNKS).
+//! The value of `-n` of `split`: among how many files an input is divided, and how (GNU coreutils manual, split,
+//! CHUNKS).
 ghost use Rattle.std.specs.Prelude.{◌≡◌};
 ghost use Rattle.words_core.specs.Division.{all_in, divided_in, division_in, one_in};
 

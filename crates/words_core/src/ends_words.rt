@@ -77,7 +77,7 @@ impl EndsSettings<'_> {
     }
 }
 
-/// What words ask of `head` or `tail`: the last of the options for counts, the last of those for headers, and whether lines end
+/// What words ask of `head` or `tail`: the last option for a count, the last option for headers, and whether lines end
 /// with byte 0.
 ///
 /// # Errors

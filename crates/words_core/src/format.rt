@@ -29,8 +29,8 @@ pub struct Format<'a> {
     pub after: &'a str,
 }
 
-/// Reads a format. None if the text isn't a format: it has no conversion or two; or a conversion other than `d i u o x
-/// X`, with flags that don't go with it, or with a width or a precision above 255.
+/// Reads a format. None if the text isn't a format: it has no conversion or two; or a conversion other than
+/// `d i u o x X`, with flags that don't go with it, or with a width or a precision above 255.
 pub fn read_format(text: &str) -> Option<Format<'_>>
     ensures { option_map format_seen result ≡ format_in text.now }
 {

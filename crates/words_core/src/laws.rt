@@ -575,8 +575,8 @@ pub fn tee_options_ask()
     ensures exit_nopipe { OnBrokenAsks (codes "--output-error=exit-nopipe" ∷ []) OnBroken.ExitNoPipe }
 {}
 
-/// A hyphen and digits as the only word mean what `-n` means with these digits for `head` and `tail`, and what `-l` means for
-/// `split` (GNU coreutils manual).
+/// A hyphen and digits as the only word mean what `-n` means with these digits for `head` and `tail`, and what `-l`
+/// means for `split` (GNU coreutils manual).
 pub fn numbers_ask()
     ensures head { (calling : Calling) (digits : List ℕ) (count : Count) → is_number digits ≡ true
         → count_of digits ≡ Ok count → settings_of calling (codes "head" ∷ (codes "-" ++ digits) ∷ [])
