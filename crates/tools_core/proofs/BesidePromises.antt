@@ -75,7 +75,7 @@ front_from work x (byte ∷ rest) needed = elim (cases_Bool (work.is_complete x)
 came_from : {content : Content} (source : Source) → source.is_open ≡ true → CameFrom true content source
 came_from source is = record { was_open = is; breaks = λ untold. absurd (cc) }
 
--- the source that is left of an input that was read so far, or of an input that is missing
+-- the source of an input after a tool read such a front of it, or of an input that is missing
 record LeftFor (work : Work) (there : Option Content) : Type 0 where
   pub source : Source
   pub is : (slot : ℕ) → IsLeft true work largest_piece slot there source

@@ -42,7 +42,7 @@ unit_in (letter ∷ letters) = unwrap_or (unit_of letter) (unit_in letters)
 
 -- The letters that may follow the digits.
 
--- whether there is an option that takes no value and ends nothing
+-- whether there is an option that takes no value, and after which words are still read
 abbrev pub is_switch : Option Takes → Bool
 is_switch (Some (takes.Nothing choice)) = true
 is_switch other = false
