@@ -1,5 +1,4 @@
--- Lemmas on a look at all names: at one name after another, one look more, a look that was stopped, and one look after
--- another.
+-- Lemmas on a look at all names: at one name after another, one look more, a look that was stopped, and looks in turn.
 use Rattle.std.proofs.{
   lemmas.Grind.common_steps,
   Common.{◌≡◌, ℕ, zero, suc, ◌<◌, ◌≤◌, ◌+◌, Bool, true, false, ◌||◌, List, [], ◌∷◌, ◌++◌, length, take, set},

@@ -58,8 +58,7 @@ use Rattle.ports_core.{
 }
 use Rattle.watch_core.specs.declared.watch.Broken.TheVariants as broken
 
--- The outputs have what the look gives for the name, by its fate. If what looks see isn't visible, they have some
--- share.
+-- The outputs have what the look gives for the name, by its fate. If what looks see isn't visible, they have a share.
 pub record Looked (told_in told : Bool) (ways : Ways) (before : List Look) (snapshot : Snapshot) (name : List ℕ)
     (printer : PrinterState)
     (old : List Slot) (after : PrinterState) (new : List Slot) (has_failed : Bool) (fate : Fate) : Type 0 where

@@ -33,8 +33,7 @@ all_last Tells Is [] more all = all
 all_last Tells Is (notes notice ∷ events) more all = all_last Tells Is events more all.1
 all_last Tells Is (gives bytes ∷ events) more all = all_last Tells Is events more all.1
 
--- A call on a name fails at a look at which the name leads nowhere, if the look is the first or a file was open before
--- it.
+-- A call on a name fails at a look at which the name leads nowhere, if it is the first look or a file was open.
 
 first_told : (ways : Ways) (look : Look) (place : ℕ) {name : List ℕ} {share : Share}
     → IsFound [] look.snapshot name (fate_at place look) share → share ≡ share_of ways [] look place name

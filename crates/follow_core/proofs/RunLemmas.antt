@@ -1,5 +1,4 @@
--- Lemmas on the text of a name, which goes on by what each entry adds, and on what is written in all, which goes on by
--- each look.
+-- Lemmas on the text of a name, to which each entry adds, and on all that is written, to which each look adds.
 use Rattle.std.{
   proofs.lemmas.Grind.common_steps,
   proofs.Math.{Seq.drop-append_seam as drop_front, Bool.or_assoc},

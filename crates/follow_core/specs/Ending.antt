@@ -26,8 +26,7 @@ use Rattle.follow_core.specs.{
   Telling.tail_by,
 }
 
--- whether names are followed to where looks say that they lead; a name that stays with its first file leads to that
--- file
+-- whether names are followed to where looks say that they lead; under `FirstFile` that is the name's first file
 abbrev pub is_by_name : Method → Bool
 is_by_name Descriptor = false
 is_by_name Name = true
@@ -50,8 +49,7 @@ abbrev pub seen_first : (ℕ → Snapshot) → ℕ → List Snapshot
 seen_first shows zero = []
 seen_first shows (suc n) = seen_first shows n ++ shows n ∷ []
 
--- these looks were made in turn; if what they see is visible, a further look could give something after each but the
--- last
+-- these looks were made in turn; if what they see is visible, more could come after each but the last
 pub record Made (told_in : Bool) (ways : Ways) (names : List (List ℕ)) (shows : ℕ → Snapshot)
     (looks : List Look) : Type 0 where
   pub saw : snapshots looks ≡ seen_first shows (length looks)

@@ -56,8 +56,7 @@ abbrev pub AllReady : List NameState → (first : ℕ) → List Watched → Type
 AllReady names first watched =
     (place : ℕ) → place < length names → CanVisit (state_at names place) (watched_at watched (first + place))
 
--- the next look can be made; the first look can be made whatever others watch, and if following is over nothing is
--- needed
+-- the next look can be made; the first look needs no watched names, and if following is over nothing is needed
 abbrev pub CanLook : FollowState → List Watched → List Slot → Type 0
 CanLook follow watched slots = elim follow.phase [
   | Fresh ↦ CanPrint slots

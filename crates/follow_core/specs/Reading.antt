@@ -34,8 +34,7 @@ pub record IsWhole (Starts : Option ℕ → ℕ → Type 0) (snapshot : Snapshot
   pub ends : ((len : ℕ) × Found snapshot name (holds_many is.file len) × (len ≤ is.end))
       ⊎ Found snapshot name (reads_as is.file is.end []) ⊎ (fate ≡ unread is.file is.end)
 
--- a look left this file of a name open, and found that it holds `held` bytes; or left none open, since the name leads
--- nowhere
+-- a look left this file open, and found `held` bytes in it; or it left none open, since the name leads nowhere
 abbrev pub LeftOpen : Snapshot → List ℕ → Option ℕ → (held : ℕ) → Type 0
 LeftOpen snapshot name None held = Found snapshot name (leads_to None) ⊎ Found snapshot name (opens_as None)
 LeftOpen snapshot name (Some file) held = Found snapshot name (holds_many (Some file) held)
@@ -49,8 +48,7 @@ IsSeen snapshot name opened held Replaced = (is_some opened ≡ true)
 IsSeen snapshot name opened held Inaccessible = (is_some opened ≡ true) × Found snapshot name (leads_to None)
 IsSeen snapshot name opened held Appeared = (opened ≡ None) × (file : ℕ) × Found snapshot name (leads_to (Some file))
 
--- A look after these reports this by what it found, and by what the look before it found. The first look reports
--- nothing.
+-- A look after these reports this by what it and the look before it found. The first look reports nothing.
 abbrev pub IsTold : List Look → Snapshot → List ℕ → Notice → Type 0
 IsTold before snapshot name notice = (is_first before ≡ false) × (opened : Option ℕ) × (held : ℕ)
     × LeftOpen (latest (snapshots before)) name opened held × IsSeen snapshot name opened held notice

@@ -50,8 +50,7 @@ name_text start [] = []
 name_text start (gap ∷ entries) = whole_text (runs_of entries)
 name_text start (version v ∷ entries) = begun_text start (runs_of (version v ∷ entries))
 
--- if the next version goes on from this version, it begins with the same bytes: a file that is appended to keeps its
--- bytes
+-- if the next version goes on from this version, it begins with the bytes of this version, as after appending
 abbrev pub KeptFrom : Version → List Entry → Type 0
 KeptFrom v [] = Unit {0}
 KeptFrom v (gap ∷ entries) = Unit {0}

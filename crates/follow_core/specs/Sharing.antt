@@ -34,8 +34,7 @@ pub record AllShared (told : Bool) (printer : PrinterState) (shares : List Share
   pub printer_is : after ≡ record printer { last = last_header_from printer.headers printer.last shares }
   pub slots : Wrote told printer.calling (text_from printer.headers printer.last shares) (messages_of shares) old new
 
--- the outputs got the lines of all shares, and a beginning of their text, before standard output broke or there was no
--- memory
+-- the outputs got the lines of all shares, and a beginning of their text before this fault
 pub record AllShort (told : Bool) (printer : PrinterState) (shares : List Share) (old new : List Slot)
     (fault : Fault) : Type 0 where
   pub slots : WroteBy told printer.calling (text_from printer.headers printer.last shares) (messages_of shares) old

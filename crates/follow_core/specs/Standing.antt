@@ -43,8 +43,7 @@ pub record StandsAt (last : Entry) (opened : Option ℕ) (position : ℕ) : Type
   pub file : opened ≡ file_of last
   pub seen : position ≡ seen_length last
 
--- The name of this number broke exactly if these looks say so: by the first call on it that failed. Each look can meet
--- its fate of this name.
+-- The name of this number broke exactly if these looks say so. Each look can meet the fate that it has for the name.
 pub record BrokeIn (ways : Ways) (looks : List Look) (place : ℕ) (failed : Option Broken) : Type 0 where
   pub call : failed ≡ failed_in place looks
   pub met : are_met true ways.by_name ways.seeks place looks ≡ true

@@ -200,8 +200,7 @@ length_matters (way.Chunks chunks) to_files to_output one other elide filing = a
 length_matters (way.Chunk place chunks) to_files to_output one other elide filing = absurd (to_output place chunks refl)
 length_matters asked to_files to_output one other elide filing = refl
 
--- the length that an input showed is the length of some text, and if bytes aren't visible any text of this length will
--- do
+-- the length that an input showed is the length of some text; if bytes aren't visible, any text of this length will do
 pub said_shown : (told : Bool) (slot : ℕ) (sources : List Source) {size : Option ℕ}
     → (told ≡ true → size ≡ count_shown (source_at sources slot).left)
     → (shown : Option (List ℕ)) × IsShown told (Some slot) sources shown × (size ≡ option_map length shown)

@@ -1,5 +1,5 @@
--- Lemmas on what `split` leaves of its input, also if the input gives fewer or more bytes than it showed; and on the
--- order of names.
+-- Lemmas on what `split` leaves of its input, whether or not it has the length that it showed; and on the order of
+-- names.
 use Rattle.std.proofs.{
   lemmas.Grind.common_steps,
   lemmas.Bool.{cases_lt, cond_both},

@@ -66,8 +66,7 @@ each_number P each (suc number) = each (suc (suc number)) (λ is. omega (arith, 
 abbrev pub broke_at : List (Option Break) → ℕ → Option Break
 broke_at broke number = get_or broke number None
 
--- `Line` is true of each line, if it is true of the lines about outputs that broke, each in its call, and about the
--- input.
+-- `Line` is true of each line, if it is true of the lines about outputs, each in its call, and about the input.
 
 module _ (Line : Message → Type 0) (on_broken : OnBroken) where
   abbrev TellEach : List (List ℕ) → List (Option Break) → Type 0

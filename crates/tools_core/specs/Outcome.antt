@@ -92,8 +92,7 @@ abbrev pub RefusesOperands : Calling → Bool → List (List ℕ) → Settings �
 RefusesOperands calling told words settings new status = (fault : Fault) × HasBadOperands settings fault
     × RefusesFor calling told words fault new status
 
--- A run did what was asked for. Or it refused the operands or the words: then no input was opened or read, and all
--- inputs are as they were.
+-- A run did what was asked for. Or it refused operands or words; then all inputs are as they were.
 abbrev pub RunEndsAt : Calling → Bool → Bool → List (List ℕ) → List Input
     → (old sources : List Source) → List Slot → ℕ → Result Settings Fault → Type 0
 RunEndsAt calling told_in told words inputs old sources new status (Ok settings) =

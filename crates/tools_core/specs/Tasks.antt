@@ -118,8 +118,7 @@ csplit_task calling asked operands = record {
   with_header = false;
 }
 
--- The names of the inputs. `tee` reads only standard input, whatever its files are called. Help and the version read no
--- input.
+-- The names of the inputs. `tee` reads only standard input. Help and the version read no input.
 abbrev pub names_of : Settings → List (List ℕ)
 names_of (Head asked) = asked.names
 names_of (Tail asked) = asked.ends.names

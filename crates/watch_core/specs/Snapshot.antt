@@ -58,8 +58,7 @@ no_files = record {
 abbrev pub has_zero : List ℕ → Bool
 has_zero name = list_any (λ byte. byte == 0) name
 
--- this look if it forgives: a name that can't be read counts as missing, and a call can fail only on a name with a byte
--- 0
+-- this look if it forgives: a name that can't be read counts as missing, and a call fails only on a name with a byte 0
 abbrev pub forgiving : Snapshot → Snapshot
 forgiving snapshot = record snapshot {
   leads = λ name. if snapshot.barred name then None else snapshot.leads name;

@@ -30,8 +30,7 @@ use Rattle.ports_core.specs.declared.tool.Tool.TheVariants as tool
 use Rattle.ports_core.specs.declared.slot.Mode.TheVariants as mode
 use Rattle.words_core.specs.declared.choice.Choice.TheVariants as choice
 
--- A part of what is asked for: options that pass the test set it, whatever was asked before them, and the others leave
--- it.
+-- A part of what is asked for: options that pass the test set it, whatever was asked before, and the others leave it.
 
 abbrev pub Sets : {A C : Type 0} → (A → Choice → A) → (A → C) → (Choice → Bool) → Type 0
 Sets {A} by part test = (asked other : A) (choice : Choice) → part (by asked choice) ≡ (if test choice then part (by other choice) else part asked)

@@ -1,5 +1,4 @@
--- Whatever words spell, sizes, counts of files and widths are within their limits, and files have the names that they
--- need.
+-- Lemmas: sizes, counts of files and widths are within their limits, and files have the names that they need.
 use Rattle.std.{
   proofs.lemmas.{Grind.common_steps, Bool.{cond_both, Decides.nat_tests}},
   proofs.Common.{◌≡◌, ℕ, ◌+◌, ◌-◌, ◌^◌, ◌≤◌, false, arith, List, [], ◌∷◌, Option, Some, None, Result, Ok, Err, IfOk},

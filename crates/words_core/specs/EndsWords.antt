@@ -20,8 +20,7 @@ pub record EndsAsked : Type 0 where
   -- the names of the inputs
   pub names : List (List ℕ)
 
--- what is asked for without options: ten lines of these inputs, lines that end with the newline, and headers if there
--- are several inputs
+-- what is asked for without options: ten lines that end with the newline, and headers if there are several inputs
 abbrev pub ten_lines : List (List ℕ) → EndsAsked
 ten_lines names = record {
   unit = Lines;

@@ -65,14 +65,13 @@ base_of letter = if letter == 100 || letter == 105 || letter == 117 then Some De
 abbrev pub has_flag : ℕ → List ℕ → Bool
 has_flag flag flags = list_any (λ byte. byte == flag) flags
 
--- whether flags go with a base: `#` goes with octal and hexadecimal numbers, `'` with decimal numbers, which it doesn't
+-- whether flags go with a base: `#` with octal and hexadecimal numbers, `'` with decimal numbers, which it doesn't
 -- change
 abbrev pub go_with : Base → List ℕ → Bool
 go_with Decimal flags = not (has_flag 35 flags)
 go_with base flags = not (has_flag 39 flags)
 
--- what fills a number to its width: with `-` blanks after it; otherwise zeros with `0` and no precision, or blanks
--- before it
+-- what fills a number to its width: with `-` blanks after it; otherwise, before it, zeros (`0`, no precision) or blanks
 abbrev pub filling_by : List ℕ → Option ℕ → Filling
 filling_by flags (Some digits) = if has_flag 45 flags then BlanksAfter else BlanksBefore
 filling_by flags None = if has_flag 45 flags then BlanksAfter

@@ -84,8 +84,7 @@ abbrev pub names_process : Choice → Bool
 names_process (choice.Process process) = true
 names_process other = false
 
--- What a choice of `split` does: whether it says which characters suffixes have, or how wide numbers are. `csplit` has
--- the second of these, too.
+-- What a choice of `split` does: whether it gives the characters of suffixes; or, also for `csplit`, their width.
 
 abbrev pub spells : Choice → Bool
 spells (choice.Suffixes alphabet from) = true
@@ -114,8 +113,7 @@ abbrev pub tells_of_files : Choice → Bool
 tells_of_files choice.Verbose = true
 tells_of_files other = false
 
--- What a choice of `csplit` does: whether it gives the prefix or the format, keeps files, drops sizes, or leaves lines
--- out.
+-- What a choice of `csplit` does: whether it gives the prefix or the format, keeps files, or drops sizes or lines.
 
 abbrev pub names_prefix : Choice → Bool
 names_prefix (choice.Prefix prefix) = true

@@ -160,8 +160,7 @@ abbrev pub Reads : {A : Type 0} → Result A Fault → Result A Fault → Type 0
 Reads meant (Ok value) = meant ≡ Ok value
 Reads meant (Err fault) = (fault ≡ Memory) ⊎ (meant ≡ Err fault)
 
--- a call may return this fault: memory was refused, or the words have this fault, or what they mean has it by
--- `HasFault`
+-- a call may return this fault: memory was refused, or the words have it, or what they mean has it by `HasFault`
 abbrev pub IsRefused : {A : Type 0} → (HasFault : A → Fault → Type 0) → Result A Fault → Fault → Type 0
 IsRefused {A = A} HasFault meant fault = (fault ≡ Memory)
     ⊎ ((meant ≡ Err fault) ⊎ ((value : A) × (meant ≡ Ok value) × HasFault value fault))

@@ -49,8 +49,7 @@ pub record SplitAsked : Type 0 where
 abbrev pub thousand_lines : ℕ → Way
 thousand_lines delim = Cut (Parts (Lines 1000 delim))
 
--- what is asked for without words: files of 1,000 lines, which end with the newline, and suffixes of letters without a
--- width
+-- what is asked for without words: files of 1,000 lines that end with the newline, and suffixes of letters, no width
 abbrev pub no_options : SplitAsked
 no_options = record {
   way = thousand_lines 10;
@@ -131,15 +130,13 @@ first_number from = unwrap_or from 0
 abbrev pub names_all : Alphabet → ℕ → ℕ → Bool
 names_all alphabet count width = nat_le count (name_count alphabet width)
 
--- the least width that writes this many numbers, from `width` on and after at most as many steps as the third argument
--- says
+-- the least width that writes this many numbers, from the last argument on, and after at most `more` steps
 abbrev pub least_from : Alphabet → ℕ → ℕ → ℕ → ℕ
 least_from alphabet count zero width = width
 least_from alphabet count (suc more) width =
     if names_all alphabet count width then width else least_from alphabet count more (width + 1)
 
--- the least width from 2 on that writes this many numbers; 23 characters of any alphabet write more than 2^63 + 65,535
--- of them
+-- the least width from 2 on that writes this many numbers, of which there are at most 2^63 + 65,535: 23 is enough
 unfoldable pub least_width : Alphabet → ℕ → ℕ
 least_width alphabet count = least_from alphabet count 21 2
 

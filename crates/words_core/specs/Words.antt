@@ -40,8 +40,7 @@ work_for calling tool.Csplit given = then_check (csplit_asked calling given) (λ
 work_for calling tool.Tee given = Ok (Tee (tee_asked calling given))
 work_for calling tool.Cutters given = Err (Usage UnknownTool 0)
 
--- Help and the version. An option that asks for help or the version is the last word that is read, and the words aren't
--- checked together.
+-- Help and the version. An option that asks for them is the last word that is read, and words aren't checked together.
 
 abbrev pub topic_of : Choice → Option Topic
 topic_of (choice.About topic) = Some topic

@@ -168,7 +168,7 @@ pub fn numbers_keep_their_width()
         → asked.auto ≡ false }
 {}
 
-/// If options may stand after it, `--` makes all words that follow it operands, whatever they begin with (POSIX.1-2017,
+/// If options may stand in the place of `--`, all words after it are operands, whatever they begin with (POSIX.1-2017,
 /// XBD 12.2, guideline 10).
 pub fn operands_follow_the_end()
     ensures { (rows : List OptionRow) (words : List (List ℕ)) (place : ℕ)

@@ -66,8 +66,7 @@ pub record KeepsOthers (place : ℕ) (old new : List Watched) : Type 0 where
   pub count : length new ≡ length old
   pub others : (other : ℕ) → (other ≡ place → ⊥) → watched_at new other ≡ watched_at old other
 
--- The outputs have what the look gives for the name at this place, and the name stands as after that look, by its fate
--- in it.
+-- The outputs have what the look gives for the name at this place by its fate, and the name stands as after that look.
 pub record Visited (told_in told : Bool) (ways : Ways) (looks : List Look) (snapshot : Snapshot) (place : ℕ)
     (name : List ℕ) (printer : PrinterState) (old : List Slot) (after : PrinterState) (new : List Slot)
     (watched : Watched) (standing : Standing) (failed : Bool) : Type 0 where
