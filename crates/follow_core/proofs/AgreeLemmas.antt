@@ -1,4 +1,4 @@
--- That looks don't matter.
+-- Lemmas on looks that don't matter.
 use Rattle.std.proofs.{
   lemmas.{
     Grind.common_steps,
@@ -30,15 +30,15 @@ use Rattle.follow_core.{
   proofs.{RunLemmas.text_is_gains, LookLemmas.look_leaves},
 }
 
--- a look more with_file no text
+-- One look more changes no text.
 
--- what an appended file adds
+-- a file that was appended to adds what was appended
 pub grown : (file : ℕ) (front : List ℕ) {rest whole : List ℕ} → whole ≡ front ++ rest
     → gain_between (version (record { file = file; contents = front }))
     (version (record { file = file; contents = whole })) ≡ rest
 grown file front {rest} is = grind (arith, common_steps, eq-eqb, le-leb, drop_front)
 
--- A version that stands inside a run adds nothing of its own.
+-- a version that stands inside a run adds nothing of its own
 pub inside : (file : ℕ) (first : List ℕ) {middle last : List ℕ} → IsBeginning first middle → IsBeginning middle last
     → gain_between (version (record { file = file; contents = first }))
     (version (record { file = file; contents = middle }))
@@ -48,7 +48,7 @@ pub inside : (file : ℕ) (first : List ℕ) {middle last : List ℕ} → IsBegi
     (version (record { file = file; contents = last }))
 inside file first {middle} {last} (some, is) (more, is_more) = grind (arith, common_steps, grown)
 
--- a look after no edit gives nothing
+-- a look at a file that didn't change gives nothing
 still : {v : Version} (snapshot : Snapshot) (entries : List Entry) → snapshot.holds v.file ≡ v.contents
     → gains_later (version v) (version_in snapshot v.file ∷ entries) ≡ gains_later (version v) entries
 still {v} snapshot entries same = grind (arith, common_steps, grown, append-nil)
@@ -60,8 +60,8 @@ through : {v : Version} (extra next : Snapshot) (entries : List Entry)
     ≡ gains_later (version v) (version_in next v.file ∷ entries)
 through {v} extra next entries given = grind (arith, common_steps, still, inside)
 
--- A look more gives the same text: where the open file is as it was at the look before, or was only appended to since and is only
--- appended to until the next, and a name that is followed leads where it led.
+-- One look more gives the same text, if the open file is as it was at the look before, or was only appended to since
+-- then and is only appended to until the next look, and a name that is followed leads where it led.
 pub one_look_more : (by_name : Bool) {name : List ℕ} (last : Entry) (extra next : Snapshot) (later : List Snapshot)
     → (by_name ≡ true → extra.leads name ≡ file_of last)
     → ((v : Version) → last ≡ version v
@@ -71,7 +71,7 @@ pub one_look_more : (by_name : Bool) {name : List ℕ} (last : Entry) (extra nex
     ≡ gains_later last (entries_later by_name name (file_of last) (next ∷ later))
 one_look_more by_name last extra next later leads grows = grind (arith, common_steps, through, entries_later)
 
--- the same of looks at these files
+-- one look more at a world gives the same text, under the same conditions
 one_world_more : (forgives by_name : Bool) (name : List ℕ) (last : Entry) (now next : World) (later : List Snapshot)
     → (by_name ≡ true → (shown forgives now).leads name ≡ file_of last)
     → ((v : Version) → last ≡ version v
@@ -83,9 +83,9 @@ one_world_more : (forgives by_name : Bool) (name : List ℕ) (last : Entry) (now
 one_world_more false by_name name last now next later leads grows = one_look_more by_name last _ _ later leads grows
 one_world_more true by_name name last now next later leads grows = one_look_more by_name last _ _ later leads grows
 
--- two placings of looks agree
+-- Two placings of looks agree.
 
--- files that names lead to are there, and no two names lead to one
+-- files that names lead to are there, and no two names lead to the same file
 record Sound (world : World) : Type 0 where
   known : (name : List ℕ) (file : ℕ) → led_to world.links name ≡ Some file → file < length world.files
   one : (name other : List ℕ) (file : ℕ) → led_to world.links name ≡ Some file → led_to world.links other ≡ Some file
@@ -105,7 +105,7 @@ one_append world other bytes file = elim (append_grows world other bytes file) [
   | inr both ↦ (bytes, both.1)
 ]
 
--- a file that a name leads to keeps its bytes, where the name is not cut
+-- a file that a name leads to keeps its bytes, if it isn't truncated
 uncut : (forgives : Bool) (world : World) (name : List ℕ) (file : ℕ) (edits : List Edit) → Sound world
     → led_to world.links name ≡ Some file → IsUncut name edits → AreSeen forgives edits
     → IsBeginning ((seen_in world).holds file) ((seen_in (edited_by edits world)).holds file)
@@ -127,7 +127,7 @@ uncut forgives world name file (truncate other n ∷ (next ∷ edits)) sound lea
 uncut forgives world name file (replace other bytes ∷ (next ∷ edits)) sound leads no_cut seen = elim seen [ ]
 uncut forgives world name file (remove other ∷ (next ∷ edits)) sound leads no_cut seen = elim seen [ ]
 
--- what was last seen of a name is as it is now
+-- what was last seen of a name is what its file has now
 abbrev Matches : Snapshot → Entry → Type 0
 Matches snapshot gap = Unit {0}
 Matches snapshot (version v) = snapshot.holds v.file ≡ v.contents
@@ -160,7 +160,7 @@ idle_look : (forgives by_name : Bool) {name : List ℕ} (last : Entry) {world : 
 idle_look false by_name last looks stays = grind (arith, common_steps, entries_later)
 idle_look true by_name last looks stays = grind (arith, common_steps, entries_later)
 
--- a look after each edit
+-- the edits, with a look after each of them
 abbrev singles : List Edit → List (List Edit)
 singles [] = []
 singles (edit ∷ edits) = (edit ∷ []) ∷ singles edits
@@ -226,7 +226,7 @@ refines forgives [] seen world last stays = refl
 refines forgives (group ∷ groups) seen world last stays =
     one_group forgives group groups seen.0 (refines forgives groups seen.1) world last stays
 
--- after the first look
+-- after the first look, looks give the same as one look after each edit
 from_first : (forgives : Bool) (start : List ℕ → List ℕ) (by_name : Bool) (name : List ℕ) {world : World}
     (groups : List (List Edit)) → Sound world → AllSeen forgives groups → (led : Option ℕ)
     → (shown forgives world).leads name ≡ led

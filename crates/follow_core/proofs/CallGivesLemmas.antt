@@ -1,4 +1,4 @@
--- What calls in a look give, one after another
+-- Lemmas on what calls in a look give, one after another.
 use Rattle.std.proofs.{
   lemmas.{
     Grind.common_steps,
@@ -39,7 +39,7 @@ use Rattle.watch_core.{
 }
 use Rattle.ports_core.specs.declared.fault.Fault.TheVariants as fault
 
--- events that are given
+-- Events that are given.
 
 pub if_broke : {A B : Type 0} (stop : Option Stop) → (A → B) → IfBroke stop A → IfBroke stop B
 if_broke stop so broke = grind (arith, common_steps)
@@ -51,7 +51,7 @@ if_so (Some (Over why)) so = tt
 
 module _ {told_in told opened : Bool} {Is : List Event → Type 0} {printer after : PrinterState} {name : List ℕ}
     {due before : List Event} {old new : List Slot} where
-  -- what is due may be said in another way
+  -- what is due may be replaced by an equal list
   pub due_by : {other more : List Event} {stop : Option Stop}
       → (told_in ≡ true → (due ≡ other) × IfBroke stop (before ≡ more))
       → GivesDue told_in Is told opened printer name due before old after new stop
@@ -63,7 +63,7 @@ module _ {told_in told opened : Bool} {Is : List Event → Type 0} {printer afte
     came = ends.came;
   }
 
-  -- what stops the first of two steps stops both
+  -- a stop of the first of two steps stops both
   pub stops_early : (more : List Event) {stop : Stop}
       → GivesDue told_in Is told opened printer name due before old after new (Some stop)
       → GivesDue told_in Is told opened printer name (due ++ more) before old after new (Some stop)
@@ -85,7 +85,7 @@ pub broke_first : {told_in told : Bool} {Is : List Event → Type 0} {printer : 
     → GivesDue told_in Is told false printer name due [] slots printer slots (Some (Broke why))
 broke_first found = record { events = []; are = λ t. refl; found = found; came = came_none }
 
--- what reads gave
+-- What reads gave.
 
 pub all_give : {Tells Told : Notice → Type 0} {Is Other : List ℕ → Type 0} (events : List Event)
     → ((notice : Notice) → Tells notice → Told notice)
@@ -100,7 +100,7 @@ give_both Tells Is [] more first second = second
 give_both Tells Is (notes notice ∷ events) more first second = (first.0, give_both Tells Is events more first.1 second)
 give_both Tells Is (gives bytes ∷ events) more first second = (first.0, give_both Tells Is events more first.1 second)
 
--- from places among others
+-- what is true of all starts of reads may be replaced by what follows from it
 read_from : {One Other : Option ℕ → ℕ → Type 0} {snapshot : Snapshot} {name bytes : List ℕ}
     → ((file : Option ℕ) (from : ℕ) → One file from → Other file from) → IsRead One snapshot name bytes
     → IsRead Other snapshot name bytes
@@ -112,7 +112,7 @@ whole_from : {One Other : Option ℕ → ℕ → Type 0} {snapshot : Snapshot} {
 unfolding read_from
 whole_from so whole = record { is = read_from so whole.is; ends = whole.ends }
 
--- of a name that came through it is so whatever becomes of it later
+-- if the bytes of a name are whole without a call that failed, they are whole with any fate
 sound_whole : {Begin : Option ℕ → ℕ → Type 0} {snapshot : Snapshot} {name bytes : List ℕ} (fate : Fate)
     → IsWhole Begin snapshot name sound bytes → IsWhole Begin snapshot name fate bytes
 sound_whole fate whole = record {
@@ -131,7 +131,7 @@ found_from {events} told so (found_before can found) =
 found_from told so (found_begun all begins found) =
     found_begun all begins (all_give all told (λ bytes. read_from so) found)
 
--- two steps, of which the first was done
+-- of two steps the first was done, and the second may have been stopped
 found_both : {Tells : Notice → Type 0} {Begin : Option ℕ → ℕ → Type 0} {snapshot : Snapshot} {name : List ℕ}
     {one fate : Fate} {stop : Option Stop} {events more : List Event}
     → WereFound Tells Begin snapshot name one None events → WereFound Tells Begin snapshot name fate stop more
@@ -145,7 +145,7 @@ found_both {events} (found_all first) (found_begun all begins second) =
 
 module _ {told_in told opened : Bool} {Tells : Notice → Type 0} {Begin : Option ℕ → ℕ → Type 0}
     {snapshot : Snapshot} {known name : List ℕ} {printer after : PrinterState} {old new : List Slot} where
-  -- what was found may be said in another way
+  -- what is true of what was found may be replaced by what follows from it
   pub found_as : {Told : Notice → Type 0} {Other : Option ℕ → ℕ → Type 0} {fate : Fate} {due before : List Event}
       {stop : Option Stop} → ((notice : Notice) → Tells notice → Told notice)
       → ((file : Option ℕ) (from : ℕ) → Begin file from → Other file from)
@@ -160,7 +160,7 @@ module _ {told_in told opened : Bool} {Tells : Notice → Type 0} {Begin : Optio
     came = ends.came;
   }
 
-  -- lines alone
+  -- lines alone were found, if they report what is so
   pub noted_found : {Note : Notice → Type 0} {due before : List Event} (over : Option Fault)
       → ((notice : Notice) → Note notice → Tells notice)
       → GivesDue told_in (Noted Note) told opened printer name due before old after new (option_map Over over)
@@ -178,7 +178,7 @@ module _ {told_in told opened : Bool} {Tells : Notice → Type 0} {Begin : Optio
     by (Some why) noted =
         found_begun _ (begins_all ends.events) (all_give ends.events so (λ bytes none. absurd none) noted)
 
-  -- once the first is done, both end as the second
+  -- if the first of two steps was done, both end as the second does
   pub goes_after : {one fate : Fate} {mid : PrinterState} {first none second before : List Event} {now : List Slot}
       {stop : Option Stop}
       → GivesDue told_in (WereFound Tells Begin snapshot known one None) told opened printer name first none
@@ -195,14 +195,14 @@ module _ {told_in told opened : Bool} {Tells : Notice → Type 0} {Begin : Optio
         (came_after one.came two.came);
   }
 
--- bytes that were put are one event
+-- Bytes that were written are one event.
 
 one_event : {told opened : Bool} {printer after : PrinterState} {name bytes : List ℕ} {old new : List Slot}
     {over : Option Fault} → Came told printer opened name bytes [] old after new over
     → Came told printer opened name (bytes_in (gives bytes ∷ [])) [] old after new over
 one_event {bytes} came = rw (append-nil bytes) came
 
--- a header alone is no event
+-- A header alone is no event.
 
 none_put : (over : Option Fault) {bytes : List ℕ} → ArePut over bytes [] → bytes ≡ []
 none_put None is = is
@@ -217,7 +217,7 @@ header_only None found put = grind (arith, common_steps, none_put)
 header_only (Some why) found put =
     record { events = []; are = λ t. begins_none; found = found; came = rw (none_put (Some why) put.are) at put.came }
 
--- copying, read by read
+-- Copying, read by read.
 
 next_bytes : (contents : List ℕ) {read_old read_new : List ℕ} (tail : List ℕ) {from at n : ℕ} → from ≤ at
     → n ≤ length read_old → length read_new ≡ length read_old → GaveFrom contents at read_old read_new n
@@ -227,7 +227,7 @@ next_bytes contents {read_new} tail {from} {at} {n} past few long gave =
     let place : from + (at - from) ≡ at = omega arith in
     rw (count, take-append-le n read_new tail (omega arith), gave.front, take-add, drop_drop, place) refl
 
--- What was copied so far, or a beginning of it where following ends.
+-- what was copied so far, or a beginning of it if following ends
 pub record Copied (told_in told : Bool) (snapshot : Snapshot) (known : Watched) (from : ℕ) (name : List ℕ)
     (printer : PrinterState) (old : List Slot) (after : PrinterState) (new : List Slot) (at : ℕ) (over : Option Fault)
     : Type 0 where
@@ -246,7 +246,7 @@ copied_none {snapshot} {known} {from} = record {
   read = none_read;
 }
 
--- a piece more, or a beginning of it
+-- one piece more was copied, or a beginning of it
 pub copied_more : {told_in told : Bool} {snapshot : Snapshot} {known : Watched} {from at n : ℕ}
     {name read_old read_new : List ℕ} {printer mid after : PrinterState} {old now new : List Slot} (tail : List ℕ)
     {over : Option Fault} → from ≤ at → n ≤ length read_old → length read_new ≡ length read_old
@@ -263,7 +263,7 @@ copied_more {n} {read_new} tail past few long gave found so_far put = record {
       (rw (length-take-le n read_new (omega arith)) at (one_more (take n read_new) so_far.read found));
 }
 
--- how the outputs can be used after a call
+-- How the outputs can be used after a call.
 
 use_after : (told : Bool) (text : List ℕ) (output error : Slot) (others new : List Slot) (stop : Option Stop)
     → CameTo told text (output ∷ error ∷ others) new (over_by stop) → CanPrint (output ∷ error ∷ others)
@@ -288,7 +288,7 @@ opens_same [] place = refl
 opens_same (name ∷ names) zero = refl
 opens_same (name ∷ names) (suc place) = ap (λ rest. name ∷ rest) (opens_same names place)
 
--- the file that was opened
+-- the file that was opened is the open file of the name
 pub opened_there : (names : List Watched) (place : ℕ) {file : Option ℕ} → IsTrue (is_watchable names place)
     → watched_at (changed_at place (opens file) names) place ≡ record (watched_at names place) { opened = file }
 opened_there names place {file} can = changed_there no_name place (opens file) names (watchable_within names place can)
@@ -298,7 +298,7 @@ pub opened_now : (place : ℕ) {file : Option ℕ} (old : List Watched) {new : L
     → IsTrue (is_watchable old place) → watched_at new place ≡ record (watched_at old place) { opened = file }
 opened_now place old is can = ap (λ those. watched_at those place) is ∙ opened_there old place can
 
--- and the names that stay
+-- a change of one name keeps the other names
 pub keeps_others : {place : ℕ} (change : Watched → Watched) {old new : List Watched} → new ≡ changed_at place change old
     → KeepsOthers place old new
 keeps_others {place} change {old} is = grind (arith, common_steps, length-changed_at, changed_elsewhere)
@@ -311,9 +311,9 @@ pub none_of : {X : Type 0} (x : Option X) → is_some x ≡ false → x ≡ None
 none_of None is = refl
 none_of (Some x) is = cc
 
--- a name that broke
+-- A name that broke.
 
--- a call failed on the names as they were
+-- a call failed on the names as they were, and broke one
 pub broke_at : {place : ℕ} {old now new : List Watched} {fate : Fate} {why : Fault} (how : Option ℕ → Broken)
     → failed_by fate None ≡ Some (how (watched_at old place).opened)
     → now ≡ old → why ≡ fault_by place fate → NameBreaks how place now new → BrokeAt place old new fate why
@@ -324,14 +324,14 @@ broke_at {place} {old} {fate} how is same fault (reason, broken) = record {
   names = rw (broken, same, is) (sym (broke_so reason old place how refl));
 }
 
--- calls that follow one another on the watch: a file was opened, and then a call on it kept the names, or broke this one
+-- a file was opened, and then a call on it kept the names or broke this name: that is one call that follows the name
 pub follows_from : {told : Bool} {led file : Option ℕ} (place : ℕ) (old : List Watched) {mid : List Watched}
     (new : List Watched) (fate : Fate)
     (stop : Option Stop) → mid ≡ changed_at place (opens file) old → (stop ≡ None → told ≡ true → file ≡ led)
     → Keeps place mid new fate stop → Follows told led place old new fate stop
 follows_from {file} place old new fate stop opened leads given = grind (arith, common_steps, changed_at-again)
 
--- of an open file it says how much it was found to hold
+-- what was found about the length of an open file is known of the name
 pub is_held : (snapshot : Snapshot) (watched : Watched) (len : ℕ)
     → Found snapshot watched.name (holds_many watched.opened len) → HoldsMany snapshot watched len
 is_held snapshot watched len found = grind (arith, common_steps, holds_many)
@@ -340,14 +340,14 @@ pub held_many : (by_name : Bool) (snapshot : Snapshot) (name : List ℕ) (len : 
     → is_some opened ≡ true → IsLong by_name snapshot name opened len → Found snapshot name (holds_many opened len)
 held_many by_name snapshot name len opened some long = grind (arith, common_steps)
 
--- ways out of copying
+-- How copying ends.
 
--- a read before the end gives some
+-- a read before the end, into a buffer with room, gives a byte
 pub some_read : (contents : List ℕ) {at len n : ℕ} {old new : List ℕ} → len ≡ length contents → at < len → n ≡ 0
     → 0 < length old → GaveFrom contents at old new n → ⊥
 some_read contents {at} size below none room gave = grind (arith, common_steps, length-drop)
 
--- what was copied is what a read gave of the open file, from there on
+-- the bytes that were copied are what reads of the open file gave, from that place on
 abbrev read_there : {snapshot : Snapshot} (known : Watched) {from : ℕ} (at : ℕ) {bytes : List ℕ}
     → AreRead snapshot known.name known.opened from bytes at
     → IsRead (FromThere known.opened from) snapshot known.name bytes

@@ -1,4 +1,4 @@
--- What a call on a name gives, by what the calls in it give: bytes under headers, and lines; the open file, and where the name leads.
+-- Lemmas on what a call on a name gives, by what the calls in it give: bytes under headers, and lines.
 use Rattle.std.proofs.{
   lemmas.{Grind.common_steps, List.{append-nil, take-append-le}},
   Common.{◌≡◌, ℕ, Bool, List, [], ◌∷◌, ◌++◌, inl, inr, ◌⊎◌, ◌∙◌, ◌+◌, length, take, true, false, not, codes},
@@ -24,11 +24,11 @@ use Rattle.follow_core.specs.{
 }
 use Rattle.ports_core.specs.declared.fault.Fault.TheVariants as fault
 
--- lines that following says, one after another
+-- Lines that following writes to standard error, one after another.
 
--- the message of a failure that was said
+-- The message of a failure that was written.
 
--- that memory is exhausted is said without a reason, and alike for each
+-- the message that there is no memory has no reason, and is the same by both ways to call the program
 alike : {A : Type 0} (b : Bool) (x : A) → (if b then x else x) ≡ x
 alike true x = refl
 alike false x = refl
@@ -38,7 +38,7 @@ unreasoned : (calling : Calling) (why : Reason) {said : List ℕ}
 unreasoned OwnName why is = rw (alike (is_endless why) (codes "memory exhausted")) at is
 unreasoned Cutters why is = rw (alike (is_endless why) (codes "memory exhausted")) at is
 
--- of a name that can't be read, or opened
+-- the message that a name can't be read, or opened
 pub failure_said : {told : Bool} {calling : Calling} {why : Reason} (read : Bool) (place : ℕ) (name : List ℕ)
     {old new : List Slot}
     → SaysOn told (tail_by calling) why (message_of (if read then fault.Read place else fault.Open place) name) old new
@@ -56,7 +56,7 @@ failure_said {calling} {why} read place name says = λ output error others are.
       by false (inl is) = inl (refl, inl (why, is))
       by false (inr is) = inl (refl, inr (unreasoned calling why is))
 
--- no notice is such a message
+-- no notice is the message of a failure
 pub no_failure : (notice : Notice) (name : List ℕ) → IsFailure (notice_of notice name) → ⊥
 no_failure notice name failure = grind (arith, common_steps)
 
@@ -73,7 +73,7 @@ tells_after told calling [] more old mid new so_far tells = grind (arith, common
 tells_after told calling (first ∷ lines) more old mid new so_far
     tells = (so_far.0, so_far.1, tells_after told calling lines more so_far.0 mid new so_far.2 tells)
 
--- what is printed under headers
+-- What is written under headers.
 
 pub no_memory : {told : Bool} {text : List ℕ} {slots : List Slot} → Short told text slots slots fault.Memory
 no_memory {told} {slots} = no_room 0 (omega arith) (none_written told 0)
@@ -93,7 +93,7 @@ short_more {told} {text} more {old} (no_room n within is) = no_room n
 pub itself : (name : List ℕ) → bytes_eq name name ≡ true
 itself name = search rules
 
--- bytes in two pieces are bytes in one, whether the first was given as the file was opened
+-- bytes in two pieces are bytes in one, also if the first piece stands at the front of a file that was opened
 in_two : (printer : PrinterState) (opened : Bool) (name first second : List ℕ)
     → (text_under printer opened name first ++ text_under (printer_under printer opened name first) false name second
     ≡ text_under printer opened name (first ++ second))
@@ -121,14 +121,14 @@ short_after {told} first {second} {old} {mid} {new} one (no_room n within is) = 
     (let a : length (first ++ second) ≡ length first + length second = length-append first second in omega arith)
     (rw (take-append-add first second n) (written_both told 0 first (take n second) old one is))
 
--- a text after another that came whole, or a beginning of it
+-- a text after another that was written whole, or a beginning of it
 text_after : (told : Bool) (first second : List ℕ) (old : List Slot) {mid : List Slot} (new : List Slot)
     (over : Option Fault)
     → mid ≡ with_written 0 (told_of told first) old → CameTo told second mid new over
     → CameTo told (first ++ second) old new over
 text_after told first second old new over one given = grind (arith, common_steps, written_both, short_after)
 
--- what standard output and standard error get
+-- What standard output and standard error get.
 
 pub wrote_text : (told : Bool) (calling : Calling) (text : List ℕ) {old : List Slot} (new : List Slot)
     (over : Option Fault) → CameTo told text old new over → WroteBy told calling text [] old new over
@@ -138,7 +138,7 @@ pub wrote_line : {told : Bool} {calling : Calling} {line : List ℕ} {old new : 
     → OnError (Tells told calling line) old new → WroteBy told calling [] (line ∷ []) old new None
 wrote_line {told} {calling} tells = search rules
 
--- a text and lines after others, or a beginning of them, as one text and its lines
+-- a text and lines after others, or a beginning of them, are one text and its lines
 pub wrote_after : (told : Bool) (calling : Calling) (text more : List ℕ) {both : List ℕ} (lines further : List (List ℕ))
     {all : List (List ℕ)} {old mid : List Slot} (new : List Slot)
     (over : Option Fault) → text ++ more ≡ both → lines ++ further ≡ all → WroteBy told calling text lines old mid None
@@ -146,7 +146,7 @@ pub wrote_after : (told : Bool) (calling : Calling) (text more : List ℕ) {both
     → WroteBy told calling both all old new over
 wrote_after told calling text more lines further {old} new over same also first second = grind (arith, common_steps, tells_after, text_after)
 
--- what is given in two steps
+-- What is given in two steps.
 
 pub came_none : {told : Bool} {printer : PrinterState} {name : List ℕ} {slots : List Slot}
     → Came told printer false name [] [] slots printer slots None
@@ -163,7 +163,7 @@ came_after {opened} {printer} {name} {first} {second} {over} one two =
       slots = wrote_after _ _ _ _ _ _ _ over text refl one.slots (rw (one.printer_is refl) at two.slots);
     }
 
--- bytes that are put
+-- Bytes that are written.
 
 pub puts_after : {told opened : Bool} {printer mid after : PrinterState} {name first second : List ℕ}
     {old now new : List Slot} {over : Option Fault}
@@ -182,7 +182,7 @@ puts_nothing = record { bytes = []; are = refl; came = came_none }
 pub front_same : {X : Type 0} {given due : List X} → given ≡ due → IsFront given due
 front_same {X} {given} is = search rules
 
--- bytes were put under the header that was due, or a beginning of both
+-- bytes were written under the header that was due, or a beginning of both
 pub puts : {told opened : Bool} {printer : PrinterState} {after : PrinterState} {name bytes : List ℕ}
     {old mid new : List Slot} {due : Bool} (over : Option Fault)
     → due ≡ has_header printer.headers printer.last opened name bytes

@@ -1,4 +1,4 @@
--- What a call on a name gives: what came to the open file, and where the name leads.
+-- Lemmas on what a call on a name gives: what came to the open file, and where the name leads.
 use Rattle.std.proofs.{
   lemmas.Grind.common_steps,
   Common.{◌≡◌, ℕ, Bool, List, [], ◌∷◌, ◌++◌, ◌⊎◌, inl, inr, ◌∙◌, ap, subst, length, true, false, if◌then◌else◌},
@@ -36,9 +36,9 @@ use Rattle.watch_core.specs.{
   declared.watch.Seen.Seen,
 }
 
--- what came to the open file
+-- What came to the open file.
 
--- what the open file has past what was seen of it, or all where it is shorter, is what its entry gives
+-- the entry of the open file gives what the file has past what was seen of it, or all bytes if it is shorter than that
 caught : (snapshot : Snapshot) (last : Entry) {file position len : ℕ} → StandsAt last (Some file) position
     → len ≡ length (snapshot.holds file)
     → notes_past position len ++ gives (drop (if nat_lt len position then 0 else position) (snapshot.holds file)) ∷ []
@@ -61,16 +61,16 @@ pub begins_so : (test : Bool) {from start position : ℕ} → from ≡ (if test 
 begins_so true is at = inl (at ∙ is)
 begins_so false is at = inr (at ∙ is)
 
--- where the name leads
+-- Where the name leads.
 
--- nothing is due where nothing changed
+-- nothing is due if nothing changed
 pub nothing_led : (snapshot : Snapshot) (last : Entry) (led : Option ℕ) {opened : Option ℕ} → opened ≡ file_of last
     → change_between opened led ≡ None
     → (events_later last (entries_led snapshot opened led) ≡ [])
     × (last_from last (entries_led snapshot opened led) ≡ last) × (led ≡ opened)
 nothing_led snapshot last led here is = grind (arith, common_steps, nat_tests, eqb-true)
 
--- a name as its file was just opened
+-- the entry of a name whose file was just opened
 abbrev pub fresh : Option ℕ → Entry
 fresh None = gap
 fresh (Some file) = version (record { file = file; contents = [] })
@@ -79,17 +79,17 @@ pub fresh_stands : (file : Option ℕ) → StandsAt (fresh file) file 0
 fresh_stands None = search rules
 fresh_stands (Some file) = search rules
 
--- all that it holds
+-- all that a file holds, as one event
 abbrev pub all_held : Snapshot → Option ℕ → List Event
 all_held snapshot None = []
 all_held snapshot (Some file) = gives (snapshot.holds file) ∷ []
 
--- is due
+-- after its file was just opened, all that the file holds is due of a name
 fresh_dues : (snapshot : Snapshot) (file : Option ℕ)
     → events_later (fresh file) (entries_open snapshot file) ≡ all_held snapshot file
 fresh_dues snapshot file = grind (arith, common_steps, eq-eqb, le-leb)
 
--- where something changed, that is told, and then the name is as its file was just opened
+-- if something changed, that is due first, and then what is due of a name whose file was just opened
 pub change_led : (snapshot : Snapshot) (last : Entry) (led : Option ℕ) {opened : Option ℕ} {change : Notice}
     → opened ≡ file_of last → change_between opened led ≡ Some change
     → (events_later last (entries_led snapshot opened led) ≡ notes change ∷ all_held snapshot led)
@@ -97,7 +97,7 @@ pub change_led : (snapshot : Snapshot) (last : Entry) (led : Option ℕ) {opened
     × (is_same led opened ≡ false)
 change_led snapshot last led here is = grind (arith, common_steps, nat_tests)
 
--- what is told of the change, and what of it comes before a call on the new file that fails
+-- the line about the change is what comes before a call on the new file that fails
 pub held_notes : (snapshot : Snapshot) (file : Option ℕ) (change : Notice)
     → notes_in (notes change ∷ all_held snapshot file) ≡ notes change ∷ []
 held_notes snapshot None change = refl
@@ -116,7 +116,7 @@ pub reads_meet : (by_name : Bool) {file : Option ℕ} {fate : Fate} → ReadsOf 
     → can_meet false by_name seeks fate ≡ true
 reads_meet by_name given seeks = grind (arith, common_steps)
 
--- what was found to have changed is told
+-- the line about a change reports what was found
 told_led : (snapshot : Snapshot) (name : List ℕ) (opened led : Option ℕ) {change : Notice}
     → Found snapshot name (leads_to led) → change_between opened led ≡ Some change → (held : ℕ)
     → IsSeen snapshot name opened held change
@@ -125,7 +125,8 @@ told_led snapshot name (Some file) None {change} found is held = let those : Ina
 told_led snapshot name None (Some file) {change} found is held = let those : Appeared ≡ change = cc in rw (← those) (refl, file, found)
 told_led snapshot name (Some other) (Some file) {change} found is held = grind (arith, common_steps)
 
--- what was found to have changed is what changed, and is told; a name without a file, of which nothing changed, leads nowhere
+-- the change that the code finds is what changed, and was found; a name without a file, of which nothing changed, leads
+-- nowhere
 pub change_seen : {told : Bool} (snapshot : Snapshot) {old now : List Watched} (place : ℕ) {name : List ℕ}
     {found : Option Seen} {id : Option ℕ} {result : Option Notice}
     → result ≡ change_between id (option_map (λ (file : Seen). file.id) found) → id ≡ (watched_at now place).opened
@@ -144,7 +145,7 @@ change_seen snapshot {old} place {found} is opened same named finds seen = (
   nowhere None found unchanged = found
   nowhere (Some file) found unchanged = absurd (cc)
 
--- what is known of a name: where names are followed, of one without a file that it leads nowhere
+-- what is known of a name whether or not names are followed; that it leads nowhere is known only if they are
 pub long_by : (snapshot : Snapshot) (name : List ℕ) (held : ℕ) (by_name : Bool) (opened : Option ℕ)
     → (opened ≡ None → by_name ≡ true → LeftOpen snapshot name None 0)
     → IsLong false snapshot name opened held → IsLong by_name snapshot name opened held
@@ -152,7 +153,7 @@ long_by snapshot name held by_name opened lost long = grind (arith, common_steps
 
 module _ {told_in told by_name : Bool} {snapshot : Snapshot} {led : Option ℕ} {place : ℕ} {name : List ℕ} {position : ℕ}
     {watched : List Watched} {printer : PrinterState} {slots : List Slot} where
-  -- ways out of following a name
+  -- How following a name ends.
 
   pub leads_same : {watched_new : List Watched} → (told_in ≡ true → change_between
       (watched_at watched place).opened led ≡ None) → ((watched_at watched place).opened ≡ None → by_name ≡ true
@@ -175,7 +176,7 @@ module _ {told_in told by_name : Bool} {snapshot : Snapshot} {led : Option ℕ} 
     met = tt;
   }
 
--- it was told, and all that the file holds was given, or a beginning
+-- the change was reported, and all that the file holds was given, or a beginning
 pub leads_opened : {told_in told is_there : Bool} {snapshot : Snapshot} {place : ℕ} {name : List ℕ} {position : ℕ}
     {watched watched_mid watched_new : List Watched} {printer after : PrinterState} {slots mid slots_new : List Slot}
     {before : List Event} {change : Notice} {result : Result ℕ Stop}
@@ -221,9 +222,9 @@ leads_opened {told_in} {snapshot} {place} {name} {watched} {watched_mid} {watche
       here : watched_at watched_mid place ≡ record (watched_at watched place) { opened = file }
       here = opened_now place watched reopens.names can
 
--- a look again at a name
+-- A later look at a name.
 
--- what a look adds: where names aren't followed, as if the name led to the open file
+-- what a look adds; if names aren't followed, it is as if the name led to the open file
 pub at_look : (by_name : Bool) (name : List ℕ) (opened : Option ℕ) (snapshot : Snapshot)
     → entries_open snapshot opened ++ entries_led snapshot opened (open_after_look by_name name opened snapshot)
     ≡ entries_at_look by_name name opened snapshot
@@ -233,17 +234,17 @@ unchanged : (file : Option ℕ) → change_between file file ≡ None
 unchanged None = refl
 unchanged (Some file) = search rules
 
--- where a call on the open file failed, what comes before it is given
+-- if a call on the open file failed, what comes before it is given
 kept_given : (snapshot : Snapshot) (due : Due) {opened : Option ℕ} {fate : Fate} → ReadsOf opened fate
     → came_before snapshot fate due.came ≡ given_by due snapshot opened fate
 kept_given snapshot due {opened} (measures some) = grind (arith, common_steps, eq-eqb)
 kept_given snapshot due {opened} (reads_on some) = grind (arith, common_steps, eq-eqb)
 
--- from the front, or of the open file from the position on
+-- reads begin at the front, or in the open file at the position
 abbrev pub FromFrontOr : Option ℕ → ℕ → Option ℕ → ℕ → Type 0
 FromFrontOr opened position file from = (from ≡ 0) ⊎ ((file ≡ opened) × (is_some opened ≡ true) × (from ≡ position))
 
--- what is told then; of a name without a file only where names are followed
+-- the lines of a later look; of a name without a file there is one only if names are followed
 abbrev pub ToldAgain : (by_name : Bool) → Snapshot → Watched → ℕ → Notice → Type 0
 ToldAgain by_name snapshot known position notice = (known.opened ≡ None → by_name ≡ true)
     × IsSeen snapshot known.name known.opened position notice
@@ -252,7 +253,7 @@ seen_short : {by_name : Bool} (snapshot : Snapshot) (known : Watched) {position 
     → ToldShort snapshot known position notice → ToldAgain by_name snapshot known position notice
 seen_short snapshot known notice (is, seen) = (λ none. absurd (false≢true (sym (ap is_some none) ∙ seen.0)), rw is seen)
 
--- before it is told what failed
+-- What a later look at a name gives, without the message about a call that failed.
 pub record LooksAgain (told_in told by_name : Bool) (snapshot : Snapshot) (place : ℕ) (name : List ℕ) (position : ℕ)
     (watched : List Watched)
     (printer : PrinterState) (slots : List Slot) (watched_new : List Watched) (after : PrinterState)
@@ -298,7 +299,7 @@ module _ {told_in told : Bool} {snapshot : Snapshot} {place : ℕ} {name : List 
     met = if_broke (Some stop) (reads_meet by_name) adds.reads;
   }
 
-  -- one call after another
+  -- One call after another.
   looks_both : {by_name : Bool} {watched_new : List Watched} {mid after : PrinterState}
       {slots_mid slots_new : List Slot} {len : ℕ} {result : Result ℕ Stop}
       → Adds told_in told snapshot place name position watched printer slots watched mid slots_mid (Ok len)

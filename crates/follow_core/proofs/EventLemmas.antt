@@ -1,4 +1,4 @@
--- Lists of events: what is in two of them, what entries give, and beginnings.
+-- Lemmas on lists of events: two lists joined, what entries give, and beginnings.
 use Rattle.std.proofs.{
   lemmas.Grind.common_steps,
   Common.{arith, ◌≡◌, ℕ, List, [], ◌∷◌, ◌++◌, refl, sym, ◌∙◌, append_assoc, map},
@@ -30,7 +30,7 @@ pub events-append : (last : Entry) (entries more : List Entry)
 events-append last [] more = refl
 events-append last (entry ∷ entries) more = grind (arith, common_steps, append_assoc, events-append entry entries more)
 
--- the bytes that entries give are what they add
+-- The bytes that entries give are what the entries add.
 
 noted_bytes : (notices : List Notice) (events : List Event)
     → bytes_in (map (λ notice. notes notice) notices ++ events) ≡ bytes_in events
@@ -46,7 +46,7 @@ bytes_later last [] = refl
 bytes_later last (entry ∷ entries) = bytes-append (events_between last entry) (events_later entry entries)
     ∙ (λ i. bytes_between last entry i ++ bytes_later entry entries i)
 
--- beginnings
+-- Beginnings.
 
 pub begins_all : (events : List Event) → Begins events events
 begins_all [] = begins_none

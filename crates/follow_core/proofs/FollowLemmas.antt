@@ -1,4 +1,4 @@
--- A look at all names: at one after another, one look more, and one that was stopped; and one look after another.
+-- Lemmas on a look at all names: at one name after another, one look more, a look that was stopped, and looks in turn.
 use Rattle.std.proofs.{
   lemmas.Grind.common_steps,
   Common.{◌≡◌, ℕ, zero, suc, ◌<◌, ◌≤◌, ◌+◌, Bool, true, false, ◌||◌, List, [], ◌∷◌, ◌++◌, length, take, set},
@@ -35,7 +35,7 @@ pub nothing_shared : {told : Bool} {printer : PrinterState} {slots : List Slot}
     → AllShared told printer [] slots printer slots
 nothing_shared {told} {printer} {slots} = record { printer_is = refl; slots = search rules }
 
--- further shares
+-- Further shares.
 
 pub all_both : {told : Bool} {printer mid after : PrinterState} {shares more : List Share} {old now new : List Slot}
     → AllShared told printer shares old mid now
@@ -46,7 +46,7 @@ all_both {printer} {shares} {more} all rest = record {
       (sym (messages-append shares more)) all.slots (rw all.printer_is at rest.slots);
 }
 
--- one name more
+-- One name more.
 
 shares_one : (ways : Ways) (looks : List Look) (look : Look) (from : ℕ) (names : List (List ℕ)) (name : List ℕ)
     → shares_at_look_from ways looks look from (names ++ name ∷ [])
@@ -79,7 +79,7 @@ length_texts names now same = ap length (sym same) ∙ length-map now (λ (n : N
 pub same_length : (names now : List NameState) → texts now ≡ texts names → length names ≡ length now
 same_length names now same = sym (length-map names (λ (n : NameState). n.text)) ∙ length_texts names now same
 
--- the names before a place, and the one at it
+-- before a place there are as many names as it says
 count_taken : (names now : List NameState) {place : ℕ} → texts now ≡ texts names → place < length now
     → length (take place (texts names)) ≡ place
 count_taken names now {place} same within =
@@ -147,7 +147,7 @@ visited_more {told_in} {told} {ways} {looks} {snapshot} {names} {now} {one} {pla
           (watched_at watched_new (ways.first + place)) one.standing failed
       visited = visits.visited looks (sofar.rest place (omega arith) within)
 
-      -- another name
+      -- each other name stands as before
       stays : (looks : List Look) (other : ℕ) → (other ≡ place → ⊥) → StandsAmong told_in ways looks now watched other
           → StandsAmong told_in ways looks (set now place one) watched_new other
       stays looks other elsewhere stands = rw (
@@ -164,13 +164,13 @@ visited_more {told_in} {told} {ways} {looks} {snapshot} {names} {now} {one} {pla
       there all front other below (inl at) = rw (at, get_or-set_same now place one no_state within, same)
           (visited.stands all (fate_there sofar.fates visited.fate front sofar.count))
 
--- a name that isn't broken
+-- a name that isn't broken is watched as the looks say
 pub unbroken_watched : {ways : Ways} {looks : List Look} {place : ℕ} {name : List ℕ} {watched : Watched}
     → watched.name ≡ name
     → watched.failed ≡ None → is_dropped place looks ≡ false → IsWatched ways looks place name watched
 unbroken_watched named unbroken kept = grind (arith, common_steps, none_of, met_none)
 
--- how a name is watched, as it stands
+-- each name is watched as the looks say, however it stands
 pub watched_there : (told : Bool) {ways : Ways} {looks : List Look} {place : ℕ} (name : List ℕ) (watched : Watched)
     (standing : Standing) → Stands told ways looks place name watched standing → IsWatched ways looks place name watched
 watched_there told {place} name watched New stands = grind (arith, common_steps, unbroken_watched)
@@ -180,7 +180,7 @@ watched_there told name watched Left stands = elim stands.why [
   | inr missed ↦ unbroken_watched stands.named missed.unbroken missed.kept
 ]
 
--- what is so of each name stays so where a file of one was opened, if it does of that one
+-- what is true of each name stays true after a file of one of them was opened, if it is true of that name then
 opens_keeps : (Is : Watched → Type 0) (names : List Watched) (place other : ℕ) (file : Option ℕ)
     → Is (watched_at names other)
     → (other ≡ place → Is (opens file (watched_at names other)))
@@ -254,7 +254,7 @@ visited_short {told_in} {told} {ways} {looks} {snapshot} {names} {now} {place} {
             closed = is.closed;
           }
 
-      -- the one at which it was stopped
+      -- the name at which the look was stopped isn't broken
       unbroken : (other : ℕ) → other ≡ place → (watched_at watched (ways.first + other)).failed ≡ None
       unbroken other at = rw at ((watched_there told_in _ _ (state_at now place).standing (sofar.rest place (omega arith) within)).broke.call
           ∙ none_of (failed_in number looks) stopped.0)

@@ -1,4 +1,4 @@
--- What the outputs have of a look at a name
+-- Lemmas on what the outputs have after a look at a name.
 use Rattle.follow_core.specs.{
   Standing.{StandsAt, CanVisit, IsFollowed, IsLong, IsLeft, Stands},
   declared.{
@@ -58,8 +58,7 @@ use Rattle.ports_core.{
 }
 use Rattle.watch_core.specs.declared.watch.Broken.TheVariants as broken
 
--- The outputs have what the look gives for the name, by how the name came through it, and by which call it broke. Where the files
--- don't tell their bytes, they have something.
+-- The outputs have what the look gives for the name, by its fate. If what looks see isn't visible, they have a share.
 pub record Looked (told_in told : Bool) (ways : Ways) (before : List Look) (snapshot : Snapshot) (name : List ℕ)
     (printer : PrinterState)
     (old : List Slot) (after : PrinterState) (new : List Slot) (has_failed : Bool) (fate : Fate) : Type 0 where
@@ -69,7 +68,7 @@ pub record Looked (told_in told : Bool) (ways : Ways) (before : List Look) (snap
   pub failed : is_some share.failure ≡ has_failed
   pub shared : Shared told printer share old after new None
 
--- the message of a failure is told after what was given
+-- the message of a failure is written after what was given
 said_after : {told : Bool} {printer : PrinterState} {after : PrinterState} {opened : Bool} {name bytes line : List ℕ}
     {lines : List (List ℕ)} {old mid new : List Slot}
     → Came told printer opened name bytes lines old after mid None → OnError (Tells told printer.calling line) mid new
@@ -111,7 +110,7 @@ module _ {told_in told : Bool} {ways : Ways} {before : List Look} {snapshot : Sn
     shared = rw (append-nil (lines_in name ends.events)) ends.came;
   }
 
-  -- a call failed: what comes before was given, and the message follows
+  -- a call failed: what comes before it was given, and the message follows
   pub looked_broke : (place : ℕ) {new : List Slot} {why : Fault} (fate : Fate) → is_some (failed_by fate None) ≡ true
       → why ≡ fault_by place fate
       → (not (is_unopened fate) && is_first before) ≡ is_first before
@@ -147,20 +146,20 @@ module _ {told_in told : Bool} {ways : Ways} {before : List Look} {snapshot : Sn
             let is = dues.is t fates in
             rw (fails, openly, are, is.1, is.2) refl
 
--- the first look
+-- The first look.
 
--- the entries of a name after it
+-- the entries of a name after the first look
 entries_first : (ways : Ways) {name : List ℕ} (look : Look) {led : Option ℕ} → look.snapshot.leads name ≡ led
     → entries_in ways name (look ∷ []) ≡ entries_led look.snapshot None led
 entries_first ways look is = append-nil _ ∙ ap (entries_led look.snapshot None) is
 
--- a later look
+-- A later look.
 
 abbrev pub last_in : Ways → List ℕ → Look → List Look → Entry
 last_in ways name before looks = last_of (entries_in ways name (before ∷ looks))
 
--- Whatever looks were made before at a name that stood so: what is due at this one was given, call by call, before it is told what
--- failed. Then this much of the file was seen to which the name led.
+-- What is due of a name at the look after these was given, without the message about a call that failed. If no call
+-- failed, the file to which the name leads was seen up to its length.
 pub record Gave (told_in told : Bool) (ways : Ways) (looks : List Look) (snapshot : Snapshot) (place : ℕ)
     (name : List ℕ) (led : Option ℕ)
     (printer : PrinterState) (slots : List Slot) (after : PrinterState) (slots_new : List Slot) (fate : Fate)
@@ -179,7 +178,7 @@ pub record Gave (told_in told : Bool) (ways : Ways) (looks : List Look) (snapsho
   pub met : IfBroke (stop_in result) (can_meet (is_first looks) ways.by_name ways.seeks fate ≡ true)
   pub openly : IfBroke (stop_in result) ((not (is_unopened fate) && is_first looks) ≡ is_first looks)
 
--- a look more
+-- One look more.
 begun_more : (looks : List Look) (look : Look) → is_first (looks ++ look ∷ []) ≡ false
 begun_more [] look = refl
 begun_more (before ∷ looks) look = refl
@@ -188,7 +187,7 @@ kept_more : (place : ℕ) (looks : List Look) (look : Look) {fate : Fate} → is
     → fate_at place look ≡ fate → is_dropped place (looks ++ look ∷ []) ≡ is_some (failed_by fate None)
 kept_more place looks look kept at = ap is_some (failed_more place looks look (none_of (failed_in place looks) kept) at)
 
--- a name that came through it stands at its last entry
+-- a name on which no call failed at the last look stands at its last entry
 through_stands : {told : Bool} {ways : Ways} (looks : List Look) (look : Look) {place : ℕ} {name : List ℕ}
     {file led : Option ℕ} {len : ℕ}
     (watched : Watched) → watched.name ≡ name → is_none watched.failed ≡ true → is_dropped place looks ≡ false
@@ -199,7 +198,7 @@ through_stands : {told : Bool} {ways : Ways} (looks : List Look) (look : Look) {
 through_stands looks look watched named can kept at leads last long = grind
     (arith, common_steps, none_of, not-true, kept_more, begun_more, map-append, latest-last)
 
--- what a look gave, and how the name stands then
+-- what a look gave, and how the name stands after it
 looked_visited : {told_in told : Bool} {ways : Ways} {looks : List Look} {snapshot : Snapshot} {place : ℕ}
     {name : List ℕ} {printer after : PrinterState} {slots slots_new : List Slot} {watched : Watched}
     {has_failed : Bool} {standing : Standing} (fate : Fate) → is_dropped place looks ≡ false
@@ -236,7 +235,7 @@ module _ {told_in told : Bool} {ways : Ways} {snapshot : Snapshot} {place : ℕ}
     there : watched_at new place ≡ change (watched_at old place)
     there = rw is (changed_there no_name place change old (watchable_within old place can))
 
-  -- it broke
+  -- the name broke
   drops : (fate : Fate) (why : Fault) → (watched_at old place).name ≡ name → IsTrue (is_watchable old place)
       → BrokeAt place old new fate why
       → ((looks : List Look) → Stands told_in ways looks place name (watched_at old place) standing
@@ -252,7 +251,7 @@ module _ {told_in told : Bool} {ways : Ways} {snapshot : Snapshot} {place : ℕ}
         why = inl (kept_more place looks _ kept at ∙ broke.broke, broken_more looks _ refl kept at met, refl);
       }))
 
-  -- it came through; what stopped it is told, or ends following
+  -- no call on the name failed
   pub gave_through : {led : Option ℕ} {len : ℕ} (fate : Fate) → (watched_at old place).name ≡ name
       → IsTrue (is_watchable old place) → Follows told_in led place old new fate None
       → ((looks : List Look) → Stands told_in ways looks place name (watched_at old place) standing
@@ -308,7 +307,7 @@ module _ {told_in told : Bool} {ways : Ways} {snapshot : Snapshot} {place : ℕ}
     halts = follows;
   })
 
--- ways out of the first look
+-- How the first look ends.
 
 pub first_missing : {told_in told : Bool} {ways : Ways} {snapshot : Snapshot} {place : ℕ} {name : List ℕ}
     {printer : PrinterState} {slots slots_new : List Slot} {old new : List Watched} {is_there : Bool} {reason : Reason}
@@ -398,9 +397,9 @@ first_unopened {place} {name} {old} {why} named can is broke fails (tells, left,
       refl,
     )))
 
--- a call on the file that was just opened failed
+-- A call on the file that was just opened failed.
 
--- the file was opened: its start part was given under its header, or what comes before a call that failed
+-- the file was opened; its start part was given under its header, or what comes before a call that failed
 pub first_gave : {told_in told : Bool} {ways : Ways} {snapshot : Snapshot} {place : ℕ}
     {name contents : List ℕ} {printer inside after : PrinterState} {slots slots_new : List Slot}
     {old mid : List Watched} (new : List Watched) {is_there : Bool} {fate : Fate} {result : Result ℕ Stop}
@@ -475,7 +474,7 @@ first_started {told_in} {told} {ways} {snapshot} {now} {place} {name} {inside} {
       known : (watched_at mid place).name ≡ name
       known = rw (opened_now place old reopens.names can) named
 
--- a later look at a name whose file was seen so far
+-- a later look at a name whose file was seen up to some place
 pub later_gave : {told_in told : Bool} {ways : Ways} {snapshot : Snapshot} {place : ℕ} {name : List ℕ} {position : ℕ}
     {printer after : PrinterState} {slots slots_new : List Slot} {old new : List Watched} {result : Result ℕ Stop}
     → (again : LooksAgain told_in told ways.by_name snapshot place
@@ -528,7 +527,7 @@ later_gave {told_in} {ways} {snapshot} {place} {name} {position} {old} {result} 
     rw followed.named at seen,
   )
 
--- a name that is looked at no more
+-- A name that is looked at no more.
 
 still_open : (name : List ℕ) (opened : Option ℕ) (snaps : List Snapshot)
     → open_after_later false name opened snaps ≡ opened
@@ -573,7 +572,7 @@ left_visited {told_in} {ways} {snapshot} {place} {name} looks left = elim left.w
     shared = came_none;
     stands = λ fates at. still_left looks (seeing snapshot fates) at left;
   }
-  -- where no file is open, and names aren't followed, nothing is due
+  -- if no file is open and names aren't followed, nothing is due
   | inr missed ↦ let dues : IsDue told_in ways looks snapshot name (record { came = []; led = [] }) None
       = grind (arith, common_steps, last_file, left.begun) in
       looked_visited sound missed.kept (looked_whole dues {none = []} {fate = sound}
@@ -581,7 +580,7 @@ left_visited {told_in} {ways} {snapshot} {place} {name} looks left = elim left.w
       (λ fates at. still_left looks (seeing snapshot fates) at left)
 ]
 
--- where no call can fail
+-- Names on which no call can fail.
 
 sound_among : {before : List Look} {look : Look} (from : ℕ) (names : List (List ℕ)) {shares : List Share}
     → AreAtLook before look from names shares → (place : ℕ) → place < length names

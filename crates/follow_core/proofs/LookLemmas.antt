@@ -1,4 +1,4 @@
--- A look at a name: what it gives, from where the looks before left it, what is told of it, and how it stands then.
+-- Lemmas on a look at a name: what it gives after the looks before it, what it reports, and how the name stands then.
 use Rattle.follow_core.specs.{
   Standing.{BrokeIn, StandsAt},
   Version.{Entry, entries_at_look, entries_later, held_at, open_after, open_after_later, open_after_look},
@@ -24,7 +24,7 @@ use Rattle.std.proofs.{
 }
 use Rattle.watch_core.specs.{Snapshot.Snapshot, declared.watch.Broken.Broken}
 
--- what a look gives for a name, from where the looks before left it
+-- What a look gives for a name, after the looks before it.
 
 pub entries_more : (ways : Ways) (name : List ℕ) (before : Look) (looks : List Look) (look : Look)
     → entries_in ways name ((before ∷ looks) ++ look ∷ [])
@@ -32,22 +32,22 @@ pub entries_more : (ways : Ways) (name : List ℕ) (before : Look) (looks : List
     ++ entries_at_look ways.by_name name (open_after ways.by_name name (snapshots (before ∷ looks))) look.snapshot
 entries_more ways name before looks look = grind (arith, common_steps, map-append, looks-append)
 
--- what a look adds to the entries
+-- the entries that a look adds
 abbrev added : Ways → List ℕ → List Look → Look → List Entry
 added ways name [] look = entries_in ways name (look ∷ [])
 added ways name (before ∷ looks) look = entries_at_look ways.by_name name (opened_in ways name (before ∷ looks)) look.snapshot
 
--- a look only adds entries
+-- one look more only adds entries
 entries_go_on : (ways : Ways) (name : List ℕ) (looks : List Look) (look : Look)
     → entries_in ways name (looks ++ look ∷ []) ≡ entries_in ways name looks ++ added ways name looks look
 entries_go_on ways name looks look = grind (arith, common_steps, entries_more)
 
--- and it gives what they add
+-- a look gives what its entries add
 gain_adds : (ways : Ways) (name : List ℕ) (looks : List Look) (look : Look)
     → gain ways name looks look ≡ gains_after ways.start (entries_in ways name looks) (added ways name looks look)
 gain_adds ways name looks look = grind (arith, common_steps, append-nil, events-append, at_look, bytes_later)
 
--- so the text goes on by what a look gives, where a file that is appended to keeps its bytes
+-- the text goes on by what a look gives, if files that are appended to keep their bytes
 pub look_goes_on : (ways : Ways) (name : List ℕ) (looks : List Look) (look : Look)
     → AreKept (entries_in ways name (looks ++ look ∷ []))
     → name_text ways.start (entries_in ways name (looks ++ look ∷ []))
@@ -68,14 +68,14 @@ gains_are ways name before (look ∷ looks) = grind (
   gains_are ways name (before ++ look ∷ []) looks,
 )
 
--- and what all looks give is the text
+-- what all looks give is the text, if files that are appended to keep their bytes
 pub looks_give_text : (ways : Ways) (name : List ℕ) (looks : List Look) → AreKept (entries_in ways name looks)
     → gains_from ways name [] looks ≡ name_text ways.start (entries_in ways name looks)
 looks_give_text ways name looks kept = gains_are ways name [] looks ∙ sym (text_is_gains ways.start (entries_in ways name looks) kept)
 
--- the last entry of a name: the file that is open, and how much of it was seen
+-- The last entry of a name: the file that is open, and how much of it was seen.
 
--- what a look leaves open is the file of its last entry, which was seen whole
+-- the file that a look leaves open is that of its last entry, and all of it was seen
 pub look_leaves : (by_name : Bool) (name : List ℕ) (opened : Option ℕ) (snapshot : Snapshot) (last : Entry)
     → StandsAt (last_from last (entries_at_look by_name name opened snapshot))
     (open_after_look by_name name opened snapshot)
@@ -90,17 +90,17 @@ later_file by_name name {opened} last (snapshot ∷ snaps) is =
     later_file by_name name (last_from last (entries_at_look by_name name opened snapshot)) snaps (look_leaves by_name name opened snapshot last).file
     ∙ ap file_of (sym (last_from-append last (entries_at_look by_name name opened snapshot) _))
 
--- the open file is that of the last entry
+-- the open file is the file of the last entry
 pub last_file : (ways : Ways) (name : List ℕ) (before : Look) (looks : List Look)
     → open_after ways.by_name name (snapshots (before ∷ looks))
     ≡ file_of (last_of (entries_in ways name (before ∷ looks)))
 last_file ways name before looks = search (rules, later_file)
 
--- a name that no look broke came through each
+-- if no call on a name failed, its fate at each look is sound
 pub came_through : (fate : Fate) (later : Option Broken) → failed_by fate later ≡ None → fate ≡ sound
 came_through fate later none = grind (arith, common_steps)
 
--- the call by which a name broke, which didn't break at the looks before
+-- the call by which a name broke at the last look, if none failed at the looks before
 pub failed_more : (place : ℕ) (looks : List Look) (look : Look) {fate : Fate} → failed_in place looks ≡ None
     → fate_at place look ≡ fate → failed_in place (looks ++ look ∷ []) ≡ failed_by fate None
 failed_more place [] look kept at = ap (λ those. failed_by those None) at
@@ -109,13 +109,13 @@ failed_more place (first ∷ looks) look kept at =
     ap (λ those. failed_by those (failed_in place (looks ++ look ∷ []))) through
     ∙ failed_more place looks look (sym (ap (λ those. failed_by those (failed_in place looks)) through) ∙ kept) at
 
--- a look that it comes through changes nothing
+-- a look at which no call failed breaks no name
 pub failed_sound : (place : ℕ) (looks : List Look) (look : Look) → fate_at place look ≡ sound
     → failed_in place (looks ++ look ∷ []) ≡ failed_in place looks
 failed_sound place [] look fine = ap (λ those. failed_by those None) fine
 failed_sound place (first ∷ looks) look fine = ap (failed_by (fate_at place first)) (failed_sound place looks look fine)
 
--- the fates that looks can meet
+-- The fates that looks can meet.
 
 pub met_none : (is_first by_name seeks : Bool) (place : ℕ) (looks : List Look) → failed_in place looks ≡ None
     → are_met is_first by_name seeks place looks ≡ true
@@ -133,23 +133,23 @@ met_more first by_name seeks place (one ∷ looks) look so_far met =
     let both = and_parts (can_meet first by_name seeks (fate_at place one)) (are_met false by_name seeks place looks) so_far in
     rw both.0 (met_more false by_name seeks place looks look both.1 (rw (and-false (is_first looks)) met))
 
--- one look more, through which it comes
+-- no call failed at one look more
 pub broken_sound : {ways : Ways} (looks : List Look) (look : Look) {place : ℕ} {failed : Option Broken}
     → fate_at place look ≡ sound → BrokeIn ways looks place failed → BrokeIn ways (looks ++ look ∷ []) place failed
 broken_sound {ways} looks look {place} fine so_far = grind (arith, common_steps, failed_sound, met_more)
 
--- or it broke at that look
+-- the name broke at one look more
 pub broken_more : {ways : Ways} (looks : List Look) (look : Look) {place : ℕ} {failed : Option Broken} {fate : Fate}
     → failed ≡ failed_by fate None → is_dropped place looks ≡ false → fate_at place look ≡ fate
     → can_meet (is_first looks) ways.by_name ways.seeks fate ≡ true → BrokeIn ways (looks ++ look ∷ []) place failed
 broken_more {ways} looks look {place} {fate} broke kept at met = grind (arith, common_steps, none_of, failed_more, met_more, met_none, and-true)
 
--- what a look gives a name
+-- What a look gives for a name.
 
 abbrev pub seeing : Snapshot → List Fate → Look
 seeing snapshot fates = record { snapshot = snapshot; fates = fates }
 
--- what is due of a name at a look after these, at which it isn't missing; before it this file was open
+-- what is due of a name at a look after these, if the name isn't missing at it; before it this file was open
 pub record IsDue (told_in : Bool) (ways : Ways) (before : List Look) (snapshot : Snapshot) (name : List ℕ) (due : Due)
     (opened : Option ℕ) : Type 0 where
   pub is : told_in ≡ true → (fates : List Fate)

@@ -1,4 +1,4 @@
--- Looks at all names, one after another
+-- Lemmas on looks at all names, one after another.
 use Rattle.std.proofs.{
   Common.{◌≡◌, ℕ, zero, suc, ◌<◌, ◌≤◌, ◌+◌, ◌-◌, Bool, true, false, IsTrue, List, [], ◌∷◌, ◌++◌, length, take},
   Common.{slice_index_or, refl, sym, ◌∙◌, ap, subst, arith, inl, inr, ◌⊎◌, Option, Some, Err, map, Ok, Result, None},
@@ -35,16 +35,16 @@ use Rattle.follow_core.proofs.{
 use Rattle.watch_core.{specs.{Snapshot.{Snapshot}, Watched.{Watched, watched_at, added, no_name}}}
 use Rattle.ports_core.specs.declared.fault.Fault.TheVariants as fault
 
--- A look at all names more, and one that was stopped.
+-- One look more at all names, or a look that was stopped.
 
--- names that are looked at
+-- Names that are looked at.
 
--- as many names
+-- following has as many names as were given
 length_names : (follow : FollowState) {names : List (List ℕ)} → texts follow.names ≡ names
     → length follow.names ≡ length names
 length_names follow same = rw (← same) (sym (length_texts follow.names follow.names refl))
 
--- names that were added
+-- Names that were added.
 
 added_at : (before : List Watched) (names : List (List ℕ)) {place : ℕ} → place < length names
     → watched_at (before ++ map added names) (length before + place) ≡ added (slice_index_or names place [])
@@ -58,7 +58,7 @@ added_ready : (names : List NameState) {first : ℕ} (before : List Watched) →
     → AllReady names first (before ++ map added (texts names))
 added_ready names {first} before first_is place within = grind (arith, common_steps, added_at, length_texts, get_or-map)
 
--- following stands as before, but that its names are watched, after those that were
+-- following stands as before, but its names are watched now, after those that were watched before
 pub record IsAdded (old mid : FollowState) (watched watched_mid : List Watched) : Type 0 where
   pub fresh : old.phase ≡ Fresh
   pub mid_is : mid ≡ record old { phase = Looking; first = mid.first }
@@ -70,7 +70,7 @@ pub added_begins : {told_in : Bool} {old mid : FollowState} {watched watched_mid
 added_begins {told_in} {old} {mid} {watched} {watched_mid} is = record {
   phase = ap (λ (f : FollowState). f.phase) is.mid_is;
   ready = rw (is.mid_is, is.watched_is) (added_ready old.names watched is.first_is);
-  -- a name that others added is before them
+  -- the names that others added stand before these names
   others = λ number other. search (rules, get_or_append_left);
   holds = λ told calling ways headers names looks first slots holds.
       let new : (looks ≡ []) × (old.names ≡ map new_state (texts old.names)) × (length watched ≡ ways.first)
@@ -90,7 +90,7 @@ added_begins {told_in} {old} {mid} {watched} {watched_mid} is = record {
       });
 }
 
--- whether a further look can give something
+-- Whether a further look can give something.
 
 pub goes_on_there : (ways : Ways) (looks : List Look) (place : ℕ) (name : List ℕ) (watched : Watched)
     (standing : Standing) → Stands true ways looks place name watched standing
@@ -125,7 +125,7 @@ pub fresh_alive : (ways : Ways) {looks : List Look} {names : List NameState} →
     ≡ goes_on_at ways looks (ways.first + place) (state_at names place).text
 fresh_alive ways {names} none new place within = search (rules, new_there, or_none)
 
--- none of the names goes on
+-- No name goes on.
 
 none_before : (by_name : Bool) (names : List NameState) (place : ℕ) → place < length names
     → any_goes_on by_name names ≡ false → goes_on_as by_name (state_at names place).standing ≡ false
@@ -139,9 +139,9 @@ no_more_of : (told : Bool) (ways : Ways) (looks : List Look) (place : ℕ) (name
     → (is_some watched.failed ≡ true) ⊎ ((ways.by_name ≡ false) × (watched.opened ≡ None))
 no_more_of told ways looks place name watched standing stands some none = grind (arith, common_steps)
 
--- why a look was stopped
+-- Why a look was stopped.
 
--- following isn't over
+-- standard output can be written if following isn't over
 can_print : (old : FollowState) (watched : List Watched) (slots : List Slot) → (old.phase ≡ Over → ⊥)
     → CanLook old watched slots → CanPrint slots
 can_print old watched slots live can = grind (arith, common_steps)
@@ -151,9 +151,9 @@ cause_is : {old : FollowState} {slots slots_new : List Slot} {why : Fault} (watc
 cause_is {old} {slots} {slots_new} watched live can (inl memory, error) = rw memory lacks_memory
 cause_is {old} {slots} {slots_new} watched live can (inr (is, broken), error) = grind (arith, common_steps, can_print, output_broke)
 
--- by what the names broke
+-- The calls by which names broke.
 
--- before the first look none broke, of those that were added
+-- before the first look no name broke of those that were added
 none_broken : {ways : Ways} {looks : List Look} (names : List (List ℕ)) (before watched : List Watched) → looks ≡ []
     → length before ≡ ways.first → IsFront watched (before ++ map added names) → AreWatched ways looks names watched
 none_broken names before watched none first_is (rest, are) = rw none (
@@ -199,7 +199,7 @@ module _ {told_in told : Bool} {calling : Calling} {ways : Ways} {headers : Bool
         )
     phase Over stand = absurd stand
 
-  -- they stand as the looks before left them
+  -- the names stand as the looks before left them
   stand_from : follow.phase ≡ Looking
       → StandFrom told_in (ways_of ways.first follow.by_name follow.start) looks follow.first follow.names watched
   stand_from looking = let (stand, many) = rw looking at holds.stand in
@@ -209,13 +209,13 @@ module _ {told_in told : Bool} {calling : Calling} {ways : Ways} {headers : Bool
         many = many;
       })
 
--- A look from where following stands
+-- A look, by how following stood before.
 
 module _ {told_in told : Bool} {snapshot : Snapshot} {seen seen_new : List Snapshot} {old : FollowState}
     {new : FollowState} {watched watched_new : List Watched} {slots : List Slot} {why : Fault}
     (live : old.phase ≡ Over → ⊥) (can : CanLook old watched slots) (is : why ≡ fault.Memory)
     (same : seen_new ≡ seen) where
-  -- there was no memory to begin one: some names were added, or all, and no call was made on one
+  -- there was no memory to begin a look: some names were added, or all, and no call was made on any
   makes_none : ((calling ways headers names looks first : _)
       → Holds told_in told calling ways headers names looks first old watched slots
       → AreWatched ways looks names watched_new) → ((number : ℕ) → IsOther old watched number
@@ -262,7 +262,7 @@ module _ {told_in told : Bool} {snapshot : Snapshot} {seen seen_new : List Snaps
       rw added_now (watched_are (begins.holds told calling ways headers names looks first slots holds)))
       (λ number other. rw added_now (begins.others number other).1)
 
--- the names were looked at, once they were watched and the watch saw what the files hold
+-- the names were looked at, after they were watched and the watch began a look
 pub makes_look : {told_in told : Bool} {snapshot : Snapshot} {seen seen_new : List Snapshot} {old mid : FollowState}
     {names_new : List NameState} {watched watched_mid watched_new : List Watched} {printer : PrinterState}
     {slots slots_new : List Slot} {result : Result Bool Fault} → (old.phase ≡ Over → ⊥)
@@ -350,7 +350,7 @@ makes_look {told_in} {told} {snapshot} {seen} {seen_new} {old} {mid} {names_new}
         others = others visits;
       }
 
--- as many looks were made, and then a further one can give something, or not
+-- this many looks were made, and `going` says whether a further look can give something
 pub record Progress (told_in told : Bool) (calling : Calling) (ways : Ways) (headers : Bool) (names : List (List ℕ))
     (shows : ℕ → Snapshot) (first : List Slot) (made : ℕ)
     (going : Bool) (follow : FollowState) (seen : List Snapshot) (watched : List Watched) (slots : List Slot)
@@ -400,7 +400,7 @@ module _ {told_in told headers : Bool} {calling : Calling} {ways : Ways} {names 
         holds = holds;
       }
 
-  -- no further look was made: as many were asked for, or it could give nothing
+  -- no further look was made: all that were asked for were made, or a further look could give nothing
   pub ended : {made count : ℕ} {going : Bool} {follow : FollowState} {seen : List Snapshot} {watched : List Watched}
       {slots : List Slot} → made ≤ count → (made < count → (0 < made) × (going ≡ false))
       → Progress told_in told calling ways headers names shows first made going follow seen watched slots
@@ -415,7 +415,7 @@ module _ {told_in told headers : Bool} {calling : Calling} {ways : Ways} {names 
     holds = p.holds;
   }
 
--- how many looks there are until a process is gone
+-- How many looks there are until a process is gone.
 
 until_step : (process : Option ℕ) (shows : ℕ → Snapshot) (from left : ℕ) → 0 < left
     → is_over process (shows from) ≡ false
@@ -435,7 +435,7 @@ until_found : (process : Option ℕ) (shows : ℕ → Snapshot) (from left : ℕ
 until_found process shows from zero fewer = absurd (omega arith)
 until_found process shows from (suc left) fewer = grind (arith, common_steps, until_found process shows (from + 1) left)
 
--- at least those that were made
+-- the greatest number of looks isn't less than the number of looks that were made
 pub most_made : (told : Bool) (process : Option ℕ) (shows : ℕ → Snapshot) (count made : ℕ) → made ≤ count
     → (told ≡ true → made ≤ until_over process shows 0 count)
     → (most : ℕ) × AreMost told process shows count most × (made ≤ most)
@@ -454,21 +454,21 @@ most_made true process shows count made within left = (
   left refl,
 )
 
--- and one more, where not all were made
+-- if fewer looks were made than asked for, the greatest number of looks is at least one more
 pub most_more : {told : Bool} {process : Option ℕ} {shows : ℕ → Snapshot} {count made : ℕ}
     → (told ≡ true → until_over process shows 0 count ≡ made + until_over process shows made (count - made))
     → made < count → (most : ℕ) × AreMost told process shows count most × (made + 1 ≤ most)
 most_more {told} {process} {shows} {count} {made} is below = most_made told process shows count (made + 1) (omega arith)
     (λ t. let all = is t in let some = until_least process shows made (count - made) (omega arith) in omega arith)
 
--- one more, before which the process isn't gone
+-- one look more, before which the process isn't gone
 pub until_more : (process : Option ℕ) {shows now : ℕ → Snapshot} {made count seen : ℕ} {gone : Bool}
     → until_over process shows 0 count ≡ made + until_over process shows made (count - made) → made < count
     → gone ≡ is_over process (now seen) → gone ≡ false → now ≡ shows → seen ≡ made
     → until_over process shows 0 count ≡ made + 1 + until_over process shows (made + 1) (count - (made + 1))
 until_more process {shows} {now} {made} {count} {seen} is below told runs same at = grind (arith, common_steps, until_step)
 
--- the last one, before which it is gone
+-- the last look, before which the process is gone
 pub until_last : {told : Bool} {process : Option ℕ} {shows now : ℕ → Snapshot} {made count seen : ℕ} {gone : Bool}
     → (told ≡ true → until_over process shows 0 count ≡ made + until_over process shows made (count - made))
     → made < count → (IsTrue gone → IsTrue (is_over process (now seen))) → gone ≡ true → now ≡ shows → seen ≡ made
@@ -483,7 +483,7 @@ until_last {process} {shows} {now} {made} {count} {seen} is below found gone sam
       last_is zero some over = absurd (omega arith)
       last_is (suc left) some over = rw over refl
 
--- a whole run
+-- A whole run.
 
 pub ends_by : {told_in told headers : Bool} {calling : Calling} {ways : Ways} {names : List (List ℕ)} {count : ℕ}
     {shows : ℕ → Snapshot}

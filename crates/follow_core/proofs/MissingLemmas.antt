@@ -1,4 +1,4 @@
--- Names that are followed while they are there: one that leads nowhere at a look is dropped.
+-- Lemmas on names that are followed as long as they lead to a file: a name that leads nowhere at a look is dropped.
 use Rattle.std.proofs.{
   Common.{◌≡◌, ◌⊎◌, inl, inr, ℕ, ◌+◌, ◌-◌, ◌≤◌, ◌<◌, zero, suc, Bool, true, false, List, [], ◌∷◌, ◌++◌, Option, Some, None},
   Common.{refl, sym, ◌∙◌, ap, subst, arith, length, length-append, get_or, is_some, not, ◌&&◌, drop, take},
@@ -20,20 +20,20 @@ use Rattle.follow_core.specs.{
 }
 use Rattle.follow_core.proofs.{LookLemmas.failed_more, RunLemmas.shares_more}
 
--- a call doesn't find that a name leads nowhere if that fails
+-- a call doesn't find that a name leads nowhere if that makes it fail
 never_nowhere : (snapshot : Snapshot) (name : List ℕ) (finding : Finding) → snapshot.insists ≡ true
     → is_nowhere finding ≡ true → Found snapshot name finding → ⊥
 never_nowhere snapshot name finding insists nowhere found =
     false≢true (sym (and-false (snapshot.finds name finding)) ∙ rw (insists, nowhere) at found)
 
--- what is told last is so
+-- what is true of all events is true of the last events
 all_last : (Tells : Notice → Type 0) (Is : List ℕ → Type 0) (events more : List Event)
     → AllGive Tells Is (events ++ more) → AllGive Tells Is more
 all_last Tells Is [] more all = all
 all_last Tells Is (notes notice ∷ events) more all = all_last Tells Is events more all.1
 all_last Tells Is (gives bytes ∷ events) more all = all_last Tells Is events more all.1
 
--- a look that a name came through, which leads nowhere then, and had a file open before or wasn't looked at
+-- A call on a name fails at a look at which the name leads nowhere, if it is the first look or a file was open.
 
 first_told : (ways : Ways) (look : Look) (place : ℕ) {name : List ℕ} {share : Share}
     → IsFound [] look.snapshot name (fate_at place look) share → share ≡ share_of ways [] look place name
@@ -50,7 +50,7 @@ later_told ways look place {name} found is kept by insists leads opened fine =
     let told = all_last _ _ _ (notes Inaccessible ∷ []) (rw (is, kept, fine, opened, by, leads) at found.events) in
     never_nowhere look.snapshot name (leads_to None) insists refl told.0.4.1
 
--- so such a name didn't come through it
+-- A name that leads nowhere and wasn't dropped breaks at such a look.
 
 given_sound : (ways : Ways) (before : List Look) (look : Look) (place : ℕ) {name : List ℕ} {share : Share}
     → IsGiven before look place name share → share ≡ share_of ways before look place name
@@ -79,7 +79,7 @@ among_sound ways before look from (name ∷ names) (names_more given rest) is by
     let at : from + suc place ≡ from + 1 + place = omega arith in
     among_sound ways before look (from + 1) names rest (cc) by insists place (omega arith) leads (rw at at kept) there (rw at at fine)
 
--- what each look gives, where all looks are known
+-- What each look gives, if what all looks give is known.
 
 at_look_many : {before : List Look} {look : Look} {from : ℕ} {names : List (List ℕ)} {shares : List Share}
     → AreAtLook before look from names shares → length shares ≡ length names
@@ -91,7 +91,7 @@ of_look_many : (ways : Ways) (before : List Look) (look : Look) (from : ℕ) (na
 of_look_many ways before look from [] = refl
 of_look_many ways before look from (name ∷ names) = ap suc (of_look_many ways before look (from + 1) names)
 
--- two lists in two parts each, of which the second are equally long
+-- two equal lists in two parts each have the same parts, if their second parts are equally long
 parts_same : {X : Type 0} (one two more rest : List X) → one ++ more ≡ two ++ rest → length more ≡ length rest
     → (one ≡ two) × (more ≡ rest)
 parts_same [] [] more rest is long = (refl, is)
@@ -104,7 +104,7 @@ parts_same (x ∷ one) [] more rest is long =
 parts_same (x ∷ one) (y ∷ two) more rest is long =
     let same = parts_same one two more rest (cc) long in (cc, same.1)
 
--- a name that was dropped stays so
+-- A name that was dropped stays dropped.
 
 dropped_by : (fate : Fate) (later more : Option Broken) → (is_some later ≡ true → is_some more ≡ true)
     → is_some (failed_by fate later) ≡ true → is_some (failed_by fate more) ≡ true
@@ -121,7 +121,7 @@ still_dropped place [] look dropped = absurd (cc)
 still_dropped place (first ∷ looks) look dropped =
     dropped_by (fate_at place first) (failed_in place looks) (failed_in place (looks ++ look ∷ [])) (still_dropped place looks look) dropped
 
--- a name that doesn't come through a look is dropped by it
+-- a name on which a call failed at a look is dropped by this look
 now_dropped : (place : ℕ) (looks : List Look) (look : Look) → is_dropped place looks ≡ false
     → (fate_at place look ≡ sound → ⊥) → is_dropped place (looks ++ look ∷ []) ≡ true
 now_dropped place looks look kept failed = by (fate_at place look) refl where
@@ -152,7 +152,7 @@ insist_before : (looks : List Look) (look : Look) → AllInsist (looks ++ look �
 insist_before [] look all = (tt, all.0)
 insist_before (first ∷ looks) look all = let rest = insist_before looks look all.1 in ((all.0, rest.0), rest.1)
 
--- a name that led somewhere at each look has its file open
+-- A name that led to a file at each look has its file open.
 
 led_open : {name : List ℕ} (first : Look) (looks : List Look) → (LeadsNowhere name (first ∷ looks) → ⊥)
     → (file : ℕ) × (open_after_later true name (first.snapshot.leads name) (snapshots looks) ≡ Some file)
@@ -167,7 +167,7 @@ opened_there : (ways : Ways) (name : List ℕ) (looks : List Look) → ways.by_n
 opened_there ways name [] by there = inl refl
 opened_there ways name (first ∷ looks) by there = inr (rw by (led_open first looks there))
 
--- one look more drops a name that leads nowhere at one of them
+-- after one look more, a name that led nowhere at any of the looks is dropped
 one_more_go : (ways : Ways) (names : List (List ℕ)) (before : List Look) (look : Look) {more : List Share}
     → AreAtLook before look ways.first names more → more ≡ shares_at_look ways names before look → ways.by_name ≡ true
     → look.snapshot.insists ≡ true → (place : ℕ) → place < length names
@@ -197,7 +197,7 @@ names_go ways names looks shares (looks_more {looks = before} {look} {shares = g
     one_more_go ways names before look at_look parts.1 by insisted.1 place within
     (names_go ways names before given found parts.0 by insisted.0 place within) nowhere (is_dropped (ways.first + place) before) refl
 
--- where looks cling, the first file stays
+-- If looks cling, the first file stays.
 
 stays_on : (leads : ℕ → Option ℕ) (file n later : ℕ) → n ≤ later → first_led leads n ≡ Some file
     → first_led leads later ≡ Some file

@@ -1,4 +1,4 @@
--- The text of a name goes on by what each entry adds, and all that is written by what one look more gives.
+-- Lemmas on the text of a name, to which each entry adds, and on all that is written, to which each look adds.
 use Rattle.std.{
   proofs.lemmas.Grind.common_steps,
   proofs.Math.{Seq.drop-append_seam as drop_front, Bool.or_assoc},
@@ -16,7 +16,7 @@ use Rattle.follow_core.specs.{
 }
 use Rattle.watch_core.specs.Snapshot.{Snapshot}
 
--- the run that a version begins, and what comes after it
+-- the run that a version begins, and the runs after it
 record Begun (v : Version) (entries : List Entry) : Type 0 where
   run : List Version
   others : List (List Version)
@@ -74,7 +74,7 @@ mutual
   after_gap (gap ∷ entries) all = after_gap entries all
   after_gap (version w ∷ entries) all = sym (whole_of (begun entries all.0 all.1))
 
--- the text of a name is what its entries add
+-- the text of a name is what its entries add, if files that are appended to keep their bytes
 pub text_is_gains : (start : List ℕ → List ℕ) (entries : List Entry) → AreKept entries
     → name_text start entries ≡ gains_after start [] entries
 text_is_gains start [] all = refl
@@ -100,7 +100,7 @@ kept_before (version v ∷ []) more all = (tt, tt)
 kept_before (version v ∷ gap ∷ entries) more all = (tt, kept_before (gap ∷ entries) more all.1)
 kept_before (version v ∷ version w ∷ entries) more all = (all.0, kept_before (version w ∷ entries) more all.1)
 
--- The text goes on: what more entries bring stands after what was there.
+-- The text goes on: what more entries add stands after the text of the entries before.
 pub text_goes_on : (start : List ℕ → List ℕ) (entries more : List Entry) → AreKept (entries ++ more)
     → name_text start (entries ++ more) ≡ name_text start entries ++ gains_after start entries more
 text_goes_on start entries more all = grind (arith, common_steps, text_is_gains, gains-append, kept_before)

@@ -1,4 +1,4 @@
--- Where the first look begins to write: blocks that are read, and the lines in them.
+-- Lemmas on where the first look begins to write: the blocks that it reads, and the lines in them.
 use Rattle.std.proofs.{
   lemmas.{Grind.common_steps, List.{length-take, drop-drop, take-take, drop-append-le}, Slice.take-put_mid},
   Common.{◌≡◌, ℕ, ◌+◌, ◌-◌, ◌<◌, ◌≤◌, List, ◌++◌, length, take, drop, Bool, true, sym, refl, ◌∙◌, ap, arith, min},
@@ -16,16 +16,16 @@ use Rattle.seg_core.{
 }
 use Rattle.ends_core.{specs.laws.EndsLaws.after_of-append, proofs.FindLemmas.block_then}
 
--- filling a block of a watched file, read by read
+-- Filling a block of a watched file, read by read.
 
--- what an open file holds, where nothing changed
+-- an open file holds the same, if nothing changed
 pub contents_same : {seen seen_old : List Snapshot} {names names_old : List Watched} (place : ℕ) → seen ≡ seen_old
     → names ≡ names_old
     → open_contents (latest seen) (watched_at names place)
     ≡ open_contents (latest seen_old) (watched_at names_old place)
 contents_same {seen_old} {names} place saw same = cc
 
--- so much of the block is filled with what the file has from a place on
+-- the first `filled` bytes of the block are what the file has from a place on
 pub record Filling (told_in : Bool) (contents : List ℕ) (from filled : ℕ) (old now : List ℕ)
     (seen_old seen_now : List Snapshot) (watched_old watched_now : List Watched) : Type 0 where
   pub are : told_in ≡ true → take filled now ≡ take filled (drop from contents)
@@ -40,7 +40,7 @@ more_bytes : (contents : List ℕ) {read_old read_new : List ℕ} (now : List �
 more_bytes contents {read_new} now from {filled} {n} within long few gave are = grind
     (arith, common_steps, take-put_mid, length-take, take-take, take-append-add, drop-drop, take-add)
 
--- the part of the block that is still to be filled
+-- the room of the block that is still to be filled
 room_of : (filled : ℕ) (now : List ℕ) → length (take (length now - filled) (drop filled now)) ≡ length now - filled
 room_of filled now = grind (arith, common_steps)
 
@@ -58,7 +58,7 @@ pub fill_more : {told_in : Bool} {contents now_contents : List ℕ} {from filled
 fill_more {contents} {from} {filled} {n} {now} {read_new} f same less long wide few gave seen watched = grind
     (arith, common_steps, room_of, more_bytes)
 
--- a read that gives none stands at the file's end
+-- a read that gives nothing stands at the end of the file
 pub fill_ends : {told_in : Bool} {contents now_contents : List ℕ} {from filled : ℕ}
     {old now read_new : List ℕ} {seen_old seen_now : List Snapshot} {watched_old watched_now : List Watched}
     → Filling told_in contents from filled old now seen_old seen_now watched_old watched_now → now_contents ≡ contents
@@ -67,7 +67,7 @@ pub fill_ends : {told_in : Bool} {contents now_contents : List ℕ} {from filled
     → take filled (put_mid filled (length now - filled) now read_new) ≡ take (length old) (drop from contents)
 fill_ends {contents} {now_contents} {from} {filled} {now} {read_new} f same less gave is = grind (arith, common_steps)
 
--- after the first lines of a block
+-- the place after the first lines of a block
 pub passed_in : {delim left : ℕ} (at size : ℕ) {end : ℕ} (x : List ℕ) {block rest : List ℕ}
     → block ≡ take size (drop at x) → EndsAt delim left block end → rest ≡ after_lines delim left (drop at x)
     → drop (at + end) x ≡ rest
@@ -88,7 +88,7 @@ passed_by {delim} {left} at size x {block} are short is =
     is ∙ ap (after_lines delim left) all ∙ after_of-append delim Lines left block (drop (at + size) x)
     ∙ rw (after_lines-past delim left block (omega arith), counted) refl
 
--- a block that was read into the front of the buffer
+-- a block was read into the front of the buffer
 pub block_read : {contents now_contents : List ℕ} (buffer new : List ℕ) (from : ℕ) {size n : ℕ} (most : ℕ)
     → size ≡ min most (length buffer) → n ≤ length (take size buffer) → length new ≡ length (take size buffer)
     → now_contents ≡ contents

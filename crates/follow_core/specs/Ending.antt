@@ -26,17 +26,17 @@ use Rattle.follow_core.specs.{
   Telling.tail_by,
 }
 
--- names are followed to where looks say that they lead: one that stays with its first file leads to that
+-- whether names are followed to where looks say that they lead; under `FirstFile` that is the name's first file
 abbrev pub is_by_name : Method → Bool
 is_by_name Descriptor = false
 is_by_name Name = true
 is_by_name PresentName = true
 is_by_name FirstFile = true
 
--- What each look of a run shows. If `tail` was called by its own name and goes on with names (`Name`), a name that is
--- there but can't be opened or read counts as missing, and no call fails on a name that a file can have. A name that is
--- followed while it is there fails once it leads nowhere. If the first file of a name is followed, the name leads to it
--- from then on, and a call on it can fail.
+-- What each look of a run shows. If `tail` was called by its own name and goes on with names (`Name`), a name that
+-- can't be opened or read counts as missing, and a call can fail only on a name that no file can have. If names are
+-- followed as long as they lead to a file (`PresentName`), a call on a name that leads nowhere fails. If the first file
+-- of a name is followed (`FirstFile`), the name leads to this file from then on, and a call on it can fail.
 abbrev pub shows_by : Calling → Method → (ℕ → Snapshot) → ℕ → Snapshot
 shows_by calling Descriptor shows = shows
 shows_by Cutters Name shows = shows
@@ -49,13 +49,13 @@ abbrev pub seen_first : (ℕ → Snapshot) → ℕ → List Snapshot
 seen_first shows zero = []
 seen_first shows (suc n) = seen_first shows n ++ shows n ∷ []
 
--- these looks were made, one after another, and after each but the last a further look could give something
+-- these looks were made in turn; if what they see is visible, more could come after each but the last
 pub record Made (told_in : Bool) (ways : Ways) (names : List (List ℕ)) (shows : ℕ → Snapshot)
     (looks : List Look) : Type 0 where
   pub saw : snapshots looks ≡ seen_first shows (length looks)
   pub alive : told_in ≡ true → (n : ℕ) → 0 < n → n < length looks → is_alive ways names (take n looks) ≡ true
 
--- The look after these was stopped by a fault, and no other was made.
+-- Some looks were made, the next look was stopped by a fault, and no other look was made.
 pub record StoppedIn (told_in told : Bool) (calling : Calling) (ways : Ways) (headers : Bool)
     (names : List (List ℕ)) (count : ℕ) (shows : ℕ → Snapshot) (first : List Slot) (seen : List Snapshot)
     (watched : List Watched) (slots : List Slot) (why : Fault) : Type 0 where
@@ -66,36 +66,37 @@ pub record StoppedIn (told_in told : Bool) (calling : Calling) (ways : Ways) (he
   pub alive : told_in ≡ true → 0 < length looks → is_alive ways names looks ≡ true
   pub halted : Halted told_in told calling ways headers names looks (shows (length looks)) first watched slots why
 
--- the outputs got all of this, and the status tells whether anything failed
+-- the outputs got all text and all messages, and the status is 1 if anything failed, and 0 otherwise
 pub record Leaves (told : Bool) (calling : Calling) (followed : Followed) (first new : List Slot)
     (status : ℕ) : Type 0 where
   pub wrote : Wrote told calling followed.out followed.messages first new
   pub status_is : status ≡ (if followed.has_failed then 1 else 0)
 
--- before a look that sees this it is found that the process is gone, where one is waited for
+-- whether it can be found before a look that sees this that the process is gone, if there is a process to ask for
 abbrev pub is_over : (process : Option ℕ) → Snapshot → Bool
 is_over None snapshot = false
 is_over (Some process) snapshot = snapshot.lacks process
 
--- how many looks are made from that of this number on, of as many that are left: the first of them before which the
+-- how many looks are made, from the look of number `from` on and at most `left`: the first look before which the
 -- process is gone is the last
 abbrev pub until_over : (process : Option ℕ) → (ℕ → Snapshot) → (from left : ℕ) → ℕ
 until_over process shows from zero = 0
 until_over process shows from (suc left) =
     if is_over process (shows from) then 1 else 1 + until_over process shows (from + 1) left
 
--- At most as many looks are made of those that are asked for. Whatever is watched, there are fewer only where it was
--- found before the last of them that the process is gone.
+-- How many looks are made at most, of `count` that are asked for. If they are fewer, it was found before the last of
+-- them that the process is gone. If what looks see is visible, that is the first look before which it is gone.
 pub record AreMost (told_in : Bool) (process : Option ℕ) (shows : ℕ → Snapshot) (count most : ℕ) : Type 0 where
   pub are : told_in ≡ true → most ≡ until_over process shows 0 count
   pub within : most ≤ count
   pub found : most < count → (last : ℕ) × (most ≡ suc last) × IsTrue (is_over process (shows last))
 
--- A run ended so: these looks and no others were made, as many as were asked for, or those after which nothing more can
--- come, and the outputs have exactly what they give; or a look was stopped, and the outputs have all of the looks
--- before it, a beginning of it, and the message, but of a reader that is gone where none is due; or `tail` was called by
--- its own name, and before a look that could give something nobody read standard output any more: it has exactly what
--- the looks before give, and nothing is told; or there was no memory to begin, and no look was made.
+-- A run ended in one of four ways. As many looks were made as were asked for, or fewer, after which nothing more can
+-- come; the outputs have exactly what these looks give. Or a look was stopped; the outputs have all of the looks before
+-- it, a beginning of this look, and a message, unless the reader of standard output is gone and `tail` was called by
+-- its own name. Or `tail` was called by its own name, and before a look that could give something nobody read standard
+-- output any more; it has exactly what the looks before give, and nothing is reported. Or there was no memory to begin;
+-- that is reported, and no look was made.
 pub data FollowEndsAs (told_in told : Bool) (calling : Calling) (ways : Ways) (headers : Bool)
     (names : List (List ℕ)) (count : ℕ) (shows : ℕ → Snapshot) (first : List Slot) (seen : List Snapshot)
     (watched : List Watched) (new : List Slot) (status : ℕ) : Type 0 where
@@ -123,7 +124,7 @@ pub data FollowEndsAs (told_in told : Bool) (calling : Calling) (ways : Ways) (h
       → status ≡ 1 → FollowEndsAs told_in told calling ways headers names count shows first seen watched new
       status
 
--- a run that ends once this process is gone, where one is waited for
+-- how a run ends if it ends with this process, or if no process is given
 abbrev pub FollowEndsBy : Option ℕ → (told_in told : Bool) → Calling → Ways → Bool → List (List ℕ) → (count : ℕ)
     → (ℕ → Snapshot) → List Slot → List Snapshot → List Watched → List Slot
     → (status : ℕ) → Type 0

@@ -28,17 +28,17 @@ pub record FollowState : Type 0 where
   pub by_name : Bool
   pub start : Start
   pub names : List NameState
-  -- the number of the first of them, once they are watched
+  -- the number of the first name, once the names are watched
   pub first : ℕ
   pub printer : PrinterState
   pub phase : Phase
-  -- a name was missing at the first look, a call on one failed, or a fault ended following
+  -- whether a name was missing at the first look, a call on a name failed, or a fault ended following
   pub has_failed : Bool
 
 abbrev pub new_state : List ℕ → NameState
 new_state name = record { text = name; standing = New }
 
--- these names are to be followed; no look was made yet
+-- following with these names, before the first look
 abbrev pub opened_follow : Calling → Bool → Start → Bool → List (List ℕ) → FollowState
 opened_follow calling by_name start headers names =
     record {
@@ -51,12 +51,12 @@ opened_follow calling by_name start headers names =
       has_failed = false;
     }
 
--- each name can be looked at, where this is the number of the first
+-- each name can be looked at, if the first has this number
 abbrev pub AllReady : List NameState → (first : ℕ) → List Watched → Type 0
 AllReady names first watched =
     (place : ℕ) → place < length names → CanVisit (state_at names place) (watched_at watched (first + place))
 
--- the next look can be made: the first one whatever others watch; one that ended following takes nothing
+-- the next look can be made; the first look needs no watched names, and if following is over nothing is needed
 abbrev pub CanLook : FollowState → List Watched → List Slot → Type 0
 CanLook follow watched slots = elim follow.phase [
   | Fresh ↦ CanPrint slots
@@ -64,7 +64,7 @@ CanLook follow watched slots = elim follow.phase [
   | Over ↦ Unit {0}
 ]
 
--- a look leaves the watched name of this number as it is: others added it, or following is over
+-- a look leaves the watched name of this number as it is: it is no name of this following, or following is over
 abbrev pub IsOther : FollowState → List Watched → ℕ → Type 0
 IsOther follow watched number = elim follow.phase [
   | Fresh ↦ number < length watched
@@ -72,8 +72,8 @@ IsOther follow watched number = elim follow.phase [
   | Over ↦ Unit {0}
 ]
 
--- Before the first look the names are new, and will come after those that are watched already; then they are watched
--- after these, and stand as after these looks.
+-- Before the first look the names are new, and will be watched after those that are watched already. Then they are
+-- watched there, and each stands as after these looks.
 abbrev pub StandsIn : Bool → Ways → List Look → List NameState → List Watched → Phase → Type 0
 StandsIn told ways looks names watched Fresh = (looks ≡ []) × (names ≡ map new_state (texts names))
     × (length watched ≡ ways.first)
@@ -81,8 +81,8 @@ StandsIn told ways looks names watched Looking = AllStand told ways looks names 
     × (length watched ≡ ways.first + length names)
 StandsIn told ways looks names watched Over = ⊥
 
--- These looks at these names were made, from the outputs as they were at first: they have exactly what the looks give.
--- Whatever is watched, it is what their calls found.
+-- These looks at these names were made. Since the outputs were as in `first`, they got exactly what the looks give.
+-- Even if what looks see isn't visible, they give what their calls found.
 pub record Holds (told_in told : Bool) (calling : Calling) (ways : Ways) (headers : Bool) (names : List (List ℕ))
     (looks : List Look)
     (first : List Slot) (follow : FollowState) (watched : List Watched) (slots : List Slot) : Type 0 where
@@ -96,10 +96,10 @@ pub record Holds (told_in told : Bool) (calling : Calling) (ways : Ways) (header
   pub shared : AllShared told (fresh_printer calling headers) shares first follow.printer slots
   pub failed : any_failed shares ≡ follow.has_failed
 
--- What a look that was stopped gave: nothing; or it came to the name at a place. How each name before that came through
--- is known, and no call on this one failed, nor on those after it: there are fates up to its number, and from there on
--- none. With these the look gives each name before it a share, which is `whole`; of what it gives this name, the name
--- has a beginning, which is the one in `part`. A name broke only where one of these looks tells so.
+-- What a look that was stopped gave: nothing; or it came to the name at a place. There are fates for the names before
+-- this place, and no call on this name or a later name failed. The names before it have all that the look gives them,
+-- in `whole`. This name has a beginning of what the look gives it, the only share in `part`. Names broke exactly if one
+-- of these looks says so.
 pub data Begun (told_in : Bool) (ways : Ways) (names : List (List ℕ)) (looks : List Look) (snapshot : Snapshot)
     (watched : List Watched) : (whole part : List Share) → Type 0 where
   nothing : AreWatched ways looks names watched → Begun told_in ways names looks snapshot watched [] []
@@ -115,8 +115,8 @@ pub data Begun (told_in : Bool) (ways : Ways) (names : List (List ℕ)) (looks :
       (slice_index_or names place [])))
       → Begun told_in ways names looks snapshot watched shares (share ∷ [])
 
--- Following ended in the look after these, at one name: the outputs had all that these give, and all that this one gives
--- the names before, and got a beginning of what it gives that name.
+-- Following ended in the look after these, at one name. The outputs got all that these looks give, all that this look
+-- gives for the names before that name, and a beginning of what it gives for that name.
 pub record Halted (told_in told : Bool) (calling : Calling) (ways : Ways) (headers : Bool) (names : List (List ℕ))
     (looks : List Look)
     (snapshot : Snapshot) (first : List Slot) (watched : List Watched) (slots : List Slot)
@@ -132,17 +132,17 @@ pub record Halted (told_in told : Bool) (calling : Calling) (ways : Ways) (heade
   pub shared : AllShared told (fresh_printer calling headers) (shares ++ whole) first printer reached
   pub short : AllShort told printer part reached slots why
 
--- why a look was stopped: there was no memory, or standard output broke in it, or a fault had ended following before
+-- why a look was stopped: there was no memory, or standard output broke in it, or following was over before
 pub data IsCause (old : FollowState) (slots slots_new : List Slot) : Fault → Type 0 where
   lacks_memory : IsCause old slots slots_new Memory
   output_broke : Rose 0 slots slots_new → IsCause old slots slots_new (Write 0)
   was_over : old.phase ≡ Over → IsCause old slots slots_new Failed
 
--- a look that was stopped saw the files, or didn't come to that
+-- a look that was stopped saw the files, or was stopped before that
 abbrev pub SawOrNot : List Snapshot → Snapshot → List Snapshot → Type 0
 SawOrNot seen snapshot seen_new = (seen_new ≡ seen) ⊎ (seen_new ≡ seen ++ snapshot ∷ [])
 
--- whatever looks were made before, one more was made, which saw this
+-- whatever looks were made before, one more look was made, which saw this
 abbrev pub LooksOn : (told_in told : Bool) → Snapshot → FollowState → List Watched → List Slot → FollowState
     → List Watched → List Slot → Type 0
 LooksOn told_in told snapshot old watched slots new watched_new slots_new =
@@ -151,7 +151,7 @@ LooksOn told_in told snapshot old watched slots new watched_new slots_new =
     → (fates : List Fate) × Holds told_in told calling ways headers names
     (looks ++ record { snapshot = snapshot; fates = fates } ∷ []) first new watched_new slots_new
 
--- whatever looks were made before, the next one was stopped
+-- whatever looks were made before, the next look was stopped
 abbrev pub StopsOn : (told_in told : Bool) → Snapshot → FollowState → List Watched → List Slot → List Watched
     → List Slot → Fault → Type 0
 StopsOn told_in told snapshot old watched slots watched_new slots_new why =
@@ -159,17 +159,17 @@ StopsOn told_in told snapshot old watched slots watched_new slots_new why =
     → Holds told_in told calling ways headers names looks first old watched slots
     → Halted told_in told calling ways headers names looks snapshot first watched_new slots_new why
 
--- the name of this number goes on: it wasn't dropped, and it is followed by name or a file of it is open
+-- whether the name of this number goes on: it wasn't dropped, and it is followed by name or a file of it is open
 abbrev pub goes_on_at : Ways → List Look → ℕ → List ℕ → Bool
 goes_on_at ways looks place name = not (is_dropped place looks)
     && (ways.by_name || is_some (open_after ways.by_name name (snapshots looks)))
 
--- one of the names from this place on does
+-- whether one of the names from this place on goes on
 abbrev pub is_alive_from : Ways → List Look → ℕ → List (List ℕ) → Bool
 is_alive_from ways looks place [] = false
 is_alive_from ways looks place (name ∷ names) =
     goes_on_at ways looks place name || is_alive_from ways looks (1 + place) names
 
--- a further look can give something
+-- whether a further look can give something
 abbrev pub is_alive : Ways → List (List ℕ) → List Look → Bool
 is_alive ways names looks = is_alive_from ways looks ways.first names

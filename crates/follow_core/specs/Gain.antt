@@ -1,4 +1,4 @@
--- What each entry adds to the text of a name, by the one before it.
+-- What each entry adds to the text of a name, by the entry before it.
 use Rattle.std.specs.Prelude.{ℕ, List, [], ◌∷◌, ◌++◌, Option, Some, None, length, drop, if◌then◌else◌}
 use Rattle.follow_core.specs.{Version.{Entry, version, gap}, Run.goes_on}
 
@@ -12,7 +12,7 @@ abbrev pub gains_later : Entry → List Entry → List ℕ
 gains_later last [] = []
 gains_later last (entry ∷ entries) = gain_between last entry ++ gains_later entry entries
 
--- what the first look gives
+-- what the entry of the first look adds
 abbrev pub started : (List ℕ → List ℕ) → Entry → List ℕ
 started start (version v) = start v.contents
 started start gap = []
@@ -21,13 +21,13 @@ abbrev pub last_from : Entry → List Entry → Entry
 last_from entry [] = entry
 last_from entry (next ∷ entries) = last_from next entries
 
--- what further entries add
+-- what entries add after the entries before them; if there are none before, the first entry is that of the first look
 abbrev pub gains_after : (List ℕ → List ℕ) → List Entry → List Entry → List ℕ
 gains_after start [] [] = []
 gains_after start [] (entry ∷ entries) = started start entry ++ gains_later entry entries
 gains_after start (entry ∷ before) entries = gains_later (last_from entry before) entries
 
--- the last entry; before the first look none is open
+-- the last entry; before the first look a gap
 abbrev pub last_of : List Entry → Entry
 last_of [] = gap
 last_of (entry ∷ entries) = last_from entry entries
@@ -37,7 +37,7 @@ abbrev pub file_of : Entry → Option ℕ
 file_of gap = None
 file_of (version v) = Some v.file
 
--- how much of it was seen
+-- how many bytes of the file were seen
 abbrev pub seen_length : Entry → ℕ
 seen_length gap = 0
 seen_length (version v) = length v.contents

@@ -1,4 +1,4 @@
--- How bytes of a name come to standard output, under headers; and how messages are told.
+-- What is known to the code that writes the bytes of names, under headers, and messages.
 use Rattle.std.specs.Prelude.{◌≡◌, ℕ, ◌≤◌, Bool, List, Option, None, length, take}
 use Rattle.ports_core.specs.{
   Slot.{Slot, with_written, told_of},
@@ -8,17 +8,17 @@ use Rattle.ports_core.specs.{
 use Rattle.ports_core.specs.declared.fault.Fault.TheVariants as fault
 
 pub record PrinterState : Type 0 where
-  -- how `tail` was called, by which messages of failures tell a reason or none
+  -- how `tail` was called; that decides whether messages of failures have a reason
   pub calling : Calling
   pub headers : Bool
-  -- the name that the last header was of
+  -- the name of the last header
   pub last : Option (List ℕ)
 
--- before anything was written
+-- the state before anything was written
 abbrev pub fresh_printer : Calling → Bool → PrinterState
 fresh_printer calling headers = record { calling = calling; headers = headers; last = None }
 
--- a beginning of the text was written before standard output broke, or before memory was wanting
+-- a beginning of the text was written before standard output broke, or before there was no memory
 pub data Short (told : Bool) (text : List ℕ) (old new : List Slot) : Fault → Type 0 where
   broke : (n : ℕ) → BrokeAfter told old new 0 text n → Short told text old new (fault.Write 0)
   no_room : (n : ℕ) → n ≤ length text → new ≡ with_written 0 (told_of told (take n text)) old

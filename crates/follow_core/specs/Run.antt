@@ -6,17 +6,17 @@ use Rattle.std.specs.{
 use Rattle.ports_core.specs.Part.{IsBeginning}
 use Rattle.follow_core.specs.Version.{Version, Entry, version, gap}
 
--- a version goes on from the one before it: it is of the same file, and that did not get shorter
+-- whether version w goes on from version v: it is the same file, and it didn't get shorter
 abbrev pub goes_on : Version → Version → Bool
 goes_on v w = (v.file == w.file) && nat_le (length v.contents) (length w.contents)
 
--- the first of these entries goes on from this version
+-- whether the first of these entries goes on from this version
 abbrev pub runs_on : Version → List Entry → Bool
 runs_on v [] = false
 runs_on v (gap ∷ entries) = false
 runs_on v (version w ∷ entries) = goes_on v w
 
--- the runs: the longest stretches of neighbouring versions, without a gap, in which each goes on from the one before
+-- the runs: the longest stretches of versions without a gap, in which each version goes on from the version before it
 abbrev pub runs_of : List Entry → List (List Version)
 runs_of [] = []
 runs_of (gap ∷ entries) = runs_of entries
@@ -31,26 +31,26 @@ last_contents [] = []
 last_contents (v ∷ []) = v.contents
 last_contents (v ∷ w ∷ run) = last_contents (w ∷ run)
 
--- of each run its last contents
+-- the last contents of each run, one after another
 abbrev pub whole_text : List (List Version) → List ℕ
 whole_text [] = []
 whole_text (run ∷ runs) = last_contents run ++ whole_text runs
 
--- of the first run the start part of its first contents and what came after these, and of each other run its last
--- contents
+-- the text of runs, if the first run began at the first look: of it the start part of its first contents and what came
+-- after these contents; of each other run its last contents
 abbrev pub begun_text : (List ℕ → List ℕ) → List (List Version) → List ℕ
 begun_text start [] = []
 begun_text start (run ∷ runs) = start (first_contents run) ++ drop (length (first_contents run)) (last_contents run)
     ++ whole_text runs
 
--- The text of a name: of a run that begins at the first look the start part and what came later, and any other run
--- whole. The start part is what the tool gives of a file that is not followed.
+-- The text of a name. A run that begins at the first look gives its start part and what came later. Any other run gives
+-- its last contents. The start part is what the tool writes of a file that isn't followed.
 abbrev pub name_text : (List ℕ → List ℕ) → List Entry → List ℕ
 name_text start [] = []
 name_text start (gap ∷ entries) = whole_text (runs_of entries)
 name_text start (version v ∷ entries) = begun_text start (runs_of (version v ∷ entries))
 
--- in a run each version begins with the one before: a file that is appended to keeps its bytes
+-- if the next version goes on from this version, it begins with the bytes of this version, as after appending
 abbrev pub KeptFrom : Version → List Entry → Type 0
 KeptFrom v [] = Unit {0}
 KeptFrom v (gap ∷ entries) = Unit {0}

@@ -17,7 +17,7 @@ use Rattle.follow_core.specs.{
 
 pub record Share : Type 0 where
   pub name : List ℕ
-  -- the first look opened a file for it
+  -- whether this was the first look, and it opened a file of the name
   pub is_opened : Bool
   pub events : List Event
   -- why nothing more came: a call failed, or the name was missing at the first look
@@ -30,12 +30,12 @@ abbrev pub failure_line : List ℕ → Option Fault → List (List ℕ)
 failure_line name None = []
 failure_line name (Some fault) = failure_text fault name ∷ []
 
--- what is told, and after it the failure
+-- the lines about a name: what the look found, and after that the failure
 abbrev pub lines_of : Share → List (List ℕ)
 lines_of share = lines_in share.name share.events ++ failure_line share.name share.failure
 
--- What is due of a name at a look, in two parts: of the file that was open; and where the name leads elsewhere, that
--- this is so, and what the file holds to which it leads.
+-- What is due of a name at a look, in two parts: what came of the file that was open; and, if the name leads elsewhere,
+-- a line about that and what the file there holds.
 pub record Due : Type 0 where
   pub came : List Event
   pub led : List Event
@@ -44,7 +44,7 @@ pub record Due : Type 0 where
 abbrev pub opened_in : Ways → List ℕ → List Look → Option ℕ
 opened_in ways name looks = open_after ways.by_name name (snapshots looks)
 
--- where this file is open, of which the last look saw so much
+-- what is due at a later look, if this file is open and `last` is the last entry of the name
 abbrev pub due_later : (by_name : Bool) → List ℕ → Option ℕ → Entry → Snapshot → Due
 due_later by_name name opened last snapshot = record {
   came = events_later last (entries_open snapshot opened);
@@ -52,7 +52,7 @@ due_later by_name name opened last snapshot = record {
       (entries_led snapshot opened (open_after_look by_name name opened snapshot));
 }
 
--- at the first look the start part of the file that the name leads to
+-- what is due at a look after these; at the first look that is the start part of the file to which the name leads
 abbrev pub due_at : Ways → List ℕ → List Look → Look → Due
 due_at ways name [] look = record {
   came = [];
@@ -61,58 +61,59 @@ due_at ways name [] look = record {
 due_at ways name (first ∷ looks) look = due_later ways.by_name name (opened_in ways name (first ∷ looks))
     (last_of (entries_in ways name (first ∷ looks))) look.snapshot
 
--- all that a look gives for a name whose calls go well
+-- all events that a look gives for a name if no call on it fails
 abbrev pub events_at : Ways → List ℕ → List Look → Look → List Event
 events_at ways name before look = (due_at ways name before look).came ++ (due_at ways name before look).led
 
--- how much a file has from a place on
+-- how many bytes a file has from a place on
 abbrev pub left_from : Snapshot → Option ℕ → ℕ → ℕ
 left_from snapshot file place = length (held_at snapshot file) - place
 
--- a call failed on the file that was open before the look: this one
+-- whether a call on the file that was open before the look failed
 abbrev pub is_kept : Option ℕ → Fate → Bool
 is_kept opened (unmeasured file) = is_same file opened
 is_kept opened (unread file from) = is_same file opened
 is_kept opened fate = false
 
--- What came before that: nothing before its length is known; then it is told if it was truncated, and a read that
--- fails is that of a place, before which all was given.
+-- What came of the open file before a call on it failed. Before its length is known, nothing came. A read fails at a
+-- place: before that it was reported if the file was truncated, and all bytes before this place were given.
 abbrev pub came_before : Snapshot → Fate → List Event → List Event
 came_before snapshot (unmeasured file) came = []
 came_before snapshot (unread file from) came = all_but (left_from snapshot file from) came
 came_before snapshot fate came = came
 
--- What came of where the name leads before a call failed: that it leads there is told before the file is opened.
+-- What came of where the name leads, before a call failed. A line about it comes before the file is opened. A read
+-- fails at a place, and all bytes before this place were given.
 abbrev pub led_before : Snapshot → Fate → List Event → List Event
 led_before snapshot sound led = led
 led_before snapshot unled led = []
 led_before snapshot (unread file from) led = all_but (left_from snapshot file from) led
 led_before snapshot fate led = notes_in led
 
--- what is given for a name that has this fate, where this file was open before the look
+-- what is given for a name with this fate, if this file was open before the look
 abbrev pub given_by : Due → Snapshot → Option ℕ → Fate → List Event
 given_by due snapshot opened fate = if is_kept opened fate then came_before snapshot fate due.came
     else due.came ++ led_before snapshot fate due.led
 
--- what a name's text gains by a look
+-- what a look adds to a name's text
 abbrev pub gain : Ways → List ℕ → List Look → Look → List ℕ
 gain ways name before look = bytes_in (events_at ways name before look)
 
--- what it gained in all looks
+-- what all looks add to a name's text
 abbrev pub gains_from : Ways → List ℕ → List Look → List Look → List ℕ
 gains_from ways name before [] = []
 gains_from ways name before (look ∷ looks) =
     gain ways name before look ++ gains_from ways name (before ++ look ∷ []) looks
 
--- a name that was dropped gives nothing
+-- what a look gives for a name that was dropped: nothing
 abbrev pub no_share : List ℕ → Share
 no_share name = record { name = name; is_opened = false; events = []; failure = None }
 
--- one that leads nowhere at the first look is told as one that can't be opened
+-- what the first look gives for a name that leads nowhere: the message that it can't be opened
 abbrev pub missing_share : List ℕ → Share
 missing_share name = record { name = name; is_opened = false; events = []; failure = Some (Open 0) }
 
--- the fault that is told of it
+-- the fault that is reported for a name with this fate
 abbrev pub failure_of : Fate → Option Fault
 failure_of sound = None
 failure_of unled = Some (Open 0)
@@ -125,7 +126,7 @@ abbrev pub is_unopened : Fate → Bool
 is_unopened unopened = true
 is_unopened fate = false
 
--- what the look gives for a name that has this fate
+-- what a look after these gives for a name with this fate
 abbrev pub share_by : Ways → List ℕ → List Look → Look → Fate → Share
 share_by ways name before look fate =
     if not (is_some (failure_of fate)) && is_first before && is_missing (entries_in ways name (before ++ look ∷ []))
@@ -137,7 +138,7 @@ share_by ways name before look fate =
       failure = failure_of fate;
     }
 
--- what a look after these gives for the name of this number
+-- what a look after these gives for the name of this number; nothing if the name was dropped before
 abbrev pub share_of : Ways → List Look → Look → ℕ → List ℕ → Share
 share_of ways before look place name = if is_dropped place before then no_share name
     else share_by ways name before look (fate_at place look)
@@ -147,7 +148,7 @@ shares_at_look_from ways before look place [] = []
 shares_at_look_from ways before look place (name ∷ names) =
     share_of ways before look place name ∷ shares_at_look_from ways before look (place + 1) names
 
--- what a look after these gives, for the names in order
+-- what a look after these gives for each name, in order
 abbrev pub shares_at_look : Ways → List (List ℕ) → List Look → Look → List Share
 shares_at_look ways names before look = shares_at_look_from ways before look ways.first names
 
@@ -156,11 +157,11 @@ shares_from ways names before [] = []
 shares_from ways names before (look ∷ looks) =
     shares_at_look ways names before look ++ shares_from ways names (before ++ look ∷ []) looks
 
--- what all looks give, look by look and at each for the names in order
+-- what all looks give, look by look, and at each look for each name in order
 abbrev pub shares_of : Ways → List (List ℕ) → List Look → List Share
 shares_of ways names looks = shares_from ways names [] looks
 
--- this share begins as that one
+-- `part` is a beginning of `whole`, and no call on the name failed
 pub record BeginsShare (part whole : Share) : Type 0 where
   pub name : part.name ≡ whole.name
   pub opened : part.is_opened ≡ whole.is_opened

@@ -1,5 +1,5 @@
--- How what a look gives for a name comes to the outputs: text to standard output, under a header where one is due, and
--- lines to standard error.
+-- How the outputs get what a look gives for a name: standard output gets text, under a header if a header is due, and
+-- standard error gets lines.
 use Rattle.std.specs.Prelude.{◌≡◌, ℕ, Bool, true, List, ◌∷◌, Option, Some, None, IsTrue}
 use Rattle.ports_core.specs.{
   Slot.{Slot, is_open, is_writable, slot_at, told_of, with_written},
@@ -12,28 +12,29 @@ use Rattle.follow_core.specs.{
   Share.Share,
 }
 
--- the text came to standard output, or a beginning of it before this fault
+-- standard output got the text, or a beginning of it before this fault
 abbrev pub CameTo : Bool → List ℕ → List Slot → List Slot → Option Fault → Type 0
 CameTo told text old new None = new ≡ with_written 0 (told_of told text) old
 CameTo told text old new (Some fault) = Short told text old new fault
 
--- so did this text, and these lines came to standard error; no other output changed
+-- standard output got the text, or a beginning of it before this fault; standard error got these lines; no other output
+-- changed
 abbrev pub WroteBy : Bool → Calling → List ℕ → List (List ℕ) → List Slot → List Slot → Option Fault → Type 0
 WroteBy told calling text lines old new fault = (output error : Slot) (others : List Slot)
     → old ≡ output ∷ error ∷ others → (error_after : Slot) × TellsAll told calling lines error error_after
     × CameTo told text (output ∷ error_after ∷ others) new fault
 
--- the text and the lines
+-- standard output got the text, and standard error the lines
 abbrev pub Wrote : Bool → Calling → List ℕ → List (List ℕ) → List Slot → List Slot → Type 0
 Wrote told calling text lines old new = WroteBy told calling text lines old new None
 
--- all shares came there, one after another
+-- the outputs got all shares, one after another
 pub record AllShared (told : Bool) (printer : PrinterState) (shares : List Share) (old : List Slot)
     (after : PrinterState) (new : List Slot) : Type 0 where
   pub printer_is : after ≡ record printer { last = last_header_from printer.headers printer.last shares }
   pub slots : Wrote told printer.calling (text_from printer.headers printer.last shares) (messages_of shares) old new
 
--- their lines did, and a beginning of their text, before standard output broke or memory was wanting
+-- the outputs got the lines of all shares, and a beginning of their text before this fault
 pub record AllShort (told : Bool) (printer : PrinterState) (shares : List Share) (old new : List Slot)
     (fault : Fault) : Type 0 where
   pub slots : WroteBy told printer.calling (text_from printer.headers printer.last shares) (messages_of shares) old
@@ -43,6 +44,6 @@ pub record AllShort (told : Bool) (printer : PrinterState) (shares : List Share)
 abbrev pub HasError : List Slot → Type 0
 HasError slots = is_open (slot_at slots 1).state ≡ true
 
--- and standard output can be written
+-- standard output can be written, and standard error is open
 abbrev pub CanPrint : List Slot → Type 0
 CanPrint slots = IsTrue (is_writable slots 0) × HasError slots

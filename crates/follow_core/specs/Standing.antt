@@ -20,7 +20,7 @@ pub record NameState : Type 0 where
   pub text : List ℕ
   pub standing : Standing
 
--- what stands at a place where there is no name
+-- what stands at a place without a name
 abbrev pub no_state : NameState
 no_state = record { text = []; standing = Left }
 
@@ -30,7 +30,7 @@ state_at names place = slice_index_or names place no_state
 abbrev pub texts : List NameState → List (List ℕ)
 texts names = map (λ name. name.text) names
 
--- the name can be looked at, or it isn't any more
+-- the name can be looked at, or is looked at no more
 abbrev pub CanVisit : NameState → Watched → Type 0
 CanVisit name watched = elim name.standing [
   | New ↦ (watched.name ≡ name.text) × (watched.failed ≡ None)
@@ -38,38 +38,36 @@ CanVisit name watched = elim name.standing [
   | Left ↦ Unit {0}
 ]
 
--- a name stands at this entry: its file is the open one, and so much of it was seen
+-- a name stands at this entry: the file of the entry is open, and `position` bytes of it were seen
 pub record StandsAt (last : Entry) (opened : Option ℕ) (position : ℕ) : Type 0 where
   pub file : opened ≡ file_of last
   pub seen : position ≡ seen_length last
 
--- The name of this number broke just as these looks tell, if it did: by the first call on it that failed, which is one
--- that a look makes.
+-- The name of this number broke exactly if these looks say so. Each look can meet the fate that it has for the name.
 pub record BrokeIn (ways : Ways) (looks : List Look) (place : ℕ) (failed : Option Broken) : Type 0 where
   pub call : failed ≡ failed_in place looks
   pub met : are_met true ways.by_name ways.seeks place looks ≡ true
 
--- The name that is watched at this number is this one. It broke just as these looks tell, if it did, and no file of it
--- is open then.
+-- This name is watched at this number. It broke exactly if these looks say so, and no file of a broken name is open.
 pub record IsWatched (ways : Ways) (looks : List Look) (place : ℕ) (name : List ℕ) (watched : Watched) : Type 0 where
   pub named : watched.name ≡ name
   pub broke : BrokeIn ways looks place watched.failed
   pub closed : is_some watched.failed ≡ true → watched.opened ≡ None
 
--- From the number of the first on as many are watched as there are names, once a look was made; where the first look
--- found no memory to add them, perhaps the first of these alone. Each is watched by its own name.
+-- The watched names end with these names, from the number `first` on. Once a look was made, all of them are watched.
+-- Before that some or all of them may be missing at the end. Each is watched by its own name.
 abbrev pub AreWatched : Ways → List Look → List (List ℕ) → List Watched → Type 0
 AreWatched ways looks names watched = (length watched ≤ ways.first + length names)
     × (0 < length looks → length watched ≡ ways.first + length names)
     × ((place : ℕ) → ways.first + place < length watched → IsWatched ways looks (ways.first + place)
     (slice_index_or names place []) (watched_at watched (ways.first + place)))
 
--- a look left it so; of a name without a file it is known where names are followed
+-- the look found this open file to hold `held` bytes; that the name leads nowhere is known only if names are followed
 abbrev pub IsLong : (by_name : Bool) → Snapshot → List ℕ → Option ℕ → (held : ℕ) → Type 0
 IsLong by_name snapshot name None held = by_name ≡ true → LeftOpen snapshot name None held
 IsLong by_name snapshot name (Some file) held = LeftOpen snapshot name (Some file) held
 
--- It is looked at again: its open file is that of the last entry, and this much of it was seen.
+-- The name is looked at again. The file of its last entry is open, and `position` bytes of it were seen.
 pub record IsFollowed (told : Bool) (ways : Ways) (looks : List Look) (place : ℕ) (name : List ℕ) (watched : Watched)
     (position : ℕ) : Type 0 where
   pub named : watched.name ≡ name
@@ -80,7 +78,7 @@ pub record IsFollowed (told : Bool) (ways : Ways) (looks : List Look) (place : �
   pub there : told ≡ true → ways.by_name ≡ false → is_some watched.opened ≡ true
   pub long : IsLong ways.by_name (latest (snapshots looks)) name watched.opened position
 
--- it was missing at the first look, and names aren't followed
+-- the name was missing at the first look, and names aren't followed
 pub record IsMissed (told : Bool) (ways : Ways) (looks : List Look) (place : ℕ) (name : List ℕ)
     (watched : Watched) : Type 0 where
   pub way : ways.by_name ≡ false
@@ -89,7 +87,7 @@ pub record IsMissed (told : Bool) (ways : Ways) (looks : List Look) (place : ℕ
   pub closed : watched.opened ≡ None
   pub unopened : told ≡ true → open_after ways.by_name name (snapshots looks) ≡ None
 
--- It is looked at no more: a call on it failed, so that it is broken, or it was missing.
+-- The name is looked at no more: a call on it failed, so it is broken, or it was missing at the first look.
 pub record IsLeft (told : Bool) (ways : Ways) (looks : List Look) (place : ℕ) (name : List ℕ)
     (watched : Watched) : Type 0 where
   pub begun : is_first looks ≡ false
@@ -102,18 +100,18 @@ Stands told ways looks place name watched New = (looks ≡ []) × (watched ≡ a
 Stands told ways looks place name watched (Followed position) = IsFollowed told ways looks place name watched position
 Stands told ways looks place name watched Left = IsLeft told ways looks place name watched
 
--- no name that is watched from the first on goes on: each broke, or no file of it is open and names aren't followed
+-- no name that is watched from the number `first` on goes on: each broke, or has no open file and names aren't followed
 abbrev pub NoneGoesOn : Ways → List Watched → Type 0
 NoneGoesOn ways watched = (place : ℕ) → ways.first + place < length watched
     → (is_some (watched_at watched (ways.first + place)).failed ≡ true)
     ⊎ ((ways.by_name ≡ false) × ((watched_at watched (ways.first + place)).opened ≡ None))
 
--- the name at this place stands so, by its number
+-- the name at this place stands as after these looks
 abbrev pub StandsAmong : Bool → Ways → List Look → List NameState → List Watched → ℕ → Type 0
 StandsAmong told ways looks names watched place = Stands told ways looks (ways.first + place)
     (state_at names place).text (watched_at watched (ways.first + place)) (state_at names place).standing
 
--- all names do
+-- each name stands as after these looks
 abbrev pub AllStand : Bool → Ways → List Look → List NameState → List Watched → Type 0
 AllStand told ways looks names watched = (place : ℕ) → place < length names
     → StandsAmong told ways looks names watched place

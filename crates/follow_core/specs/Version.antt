@@ -19,22 +19,22 @@ abbrev pub is_file : ℕ → Option ℕ → Bool
 is_file file None = false
 is_file file (Some other) = file == other
 
--- both are the same file
+-- whether there are two files, and they are the same
 abbrev pub is_same : Option ℕ → Option ℕ → Bool
 is_same None other = false
 is_same (Some file) other = is_file file other
 
--- what a name's open file holds
+-- what a file holds; nothing if there is no file
 abbrev pub held_at : Snapshot → Option ℕ → List ℕ
 held_at snapshot None = []
 held_at snapshot (Some file) = snapshot.holds file
 
--- the file that was open, as it is now
+-- the file that was open, with what it holds now
 abbrev pub entries_open : Snapshot → Option ℕ → List Entry
 entries_open snapshot None = []
 entries_open snapshot (Some file) = version_in snapshot file ∷ []
 
--- then the file that the name leads to, where it is another or none was open; a gap where it leads nowhere
+-- the file to which the name leads, if it isn't the open one; a gap if the name leads nowhere
 abbrev pub entries_led : Snapshot → Option ℕ → Option ℕ → List Entry
 entries_led snapshot opened None = gap ∷ []
 entries_led snapshot opened (Some file) = if is_file file opened then [] else version_in snapshot file ∷ []
@@ -43,13 +43,13 @@ abbrev pub gap_if_none : Option ℕ → List Entry
 gap_if_none None = gap ∷ []
 gap_if_none (Some file) = []
 
--- what a look adds where this file was open: a name is followed by itself, or else by the file that was opened
+-- the entries that a look adds if this file was open; the flag says whether the name is followed, or only the open file
 abbrev pub entries_at_look : Bool → List ℕ → Option ℕ → Snapshot → List Entry
 entries_at_look true name opened snapshot =
     entries_open snapshot opened ++ entries_led snapshot opened (snapshot.leads name)
 entries_at_look false name opened snapshot = entries_open snapshot opened ++ gap_if_none opened
 
--- the file that is open after that look
+-- the file that is open after a look, if this file was open before it
 abbrev pub open_after_look : Bool → List ℕ → Option ℕ → Snapshot → Option ℕ
 open_after_look true name opened snapshot = snapshot.leads name
 open_after_look false name opened snapshot = opened
@@ -60,7 +60,7 @@ entries_later by_name name opened (snapshot ∷ snapshots) =
     entries_at_look by_name name opened snapshot
     ++ entries_later by_name name (open_after_look by_name name opened snapshot) snapshots
 
--- The first look opens the file that the name leads to, if there is one.
+-- the entries of a name in these looks; the first look opens the file to which the name leads, if there is one
 abbrev pub entries_of : Bool → List ℕ → List Snapshot → List Entry
 entries_of by_name name [] = []
 entries_of by_name name (first ∷ later) =

@@ -28,15 +28,15 @@ pub enum Phase {
     Fresh,
     /// The names are watched, and were looked at.
     Looking,
-    /// A fault ended it.
+    /// A fault ended following.
     Over,
 }
 
-/// `tail` that follows files (POSIX.1-2017, XCU tail, `-f`; GNU's `--follow=name` too): one look after another writes to standard
-/// output what came to each name since the look before, and tells on standard error what changed. The first look writes the end of
-/// each file, or what comes from a place on.
+/// `tail` that follows files (POSIX.1-2017, XCU tail, `-f`; also GNU's `--follow=name`): one look after another writes
+/// to standard output what came to each name since the look before, and reports on standard error what changed. The
+/// first look writes the end of each file, or all from a place on.
 ///
-/// It keeps the names and one buffer of 65,536 bytes; of a file only how many bytes were seen.
+/// It keeps the names and one buffer of 65,536 bytes. Of each file it keeps only how many bytes were seen.
 #[derive(Drop)]
 pub struct Follow {
     by_name: bool,
@@ -66,14 +66,14 @@ impl Model for Follow {
 }
 
 impl Follow {
-    /// Following of these names, of which there may be none, by `cutters`: by name, so that the file to which a name leads is read, or
-    /// by the file that is open since the first look; with a header before each stretch of text or without. The first look writes the
-    /// last `count` lines or bytes, or with `from_nth` all from number `count` on. Lines end with `delim`. Nothing is opened before the
-    /// first look.
+    /// Following of these names by `cutters`. There may be no name. With `by_name` the file to which a name leads is
+    /// read, and otherwise the file that is open since the first look. With `headers` a header stands before each
+    /// stretch of text. The first look writes the last `count` lines or bytes, or with `from_nth` all from number
+    /// `count` on. Lines end with `delim`. Nothing is opened before the first look.
     ///
     /// # Errors
     ///
-    /// `Memory` where there is no room for the names and the buffer.
+    /// `Memory` if there is no room for the names and the buffer.
     pub fn open(
         alloc: Global,
         names: &[&str],
@@ -98,11 +98,12 @@ impl Follow {
         Follow::open_as(alloc, Calling::Cutters, names, start, by_name, headers)
     }
 
-    /// The same, by how `tail` was called: its messages and what it makes of names that can't be read go by that.
+    /// Following of these names, as `open` makes it, but by how `tail` was called. That decides about its messages and
+    /// about names that can't be read.
     ///
     /// # Errors
     ///
-    /// `Memory` where there is no room for the names and the buffer.
+    /// `Memory` if there is no room for the names and the buffer.
     pub fn open_as(
         alloc: Global,
         calling: Calling,
@@ -126,17 +127,18 @@ impl Follow {
         })
     }
 
-    /// Makes a look. The first one adds the names to what is watched, after those that others added, which stay as they are. All
-    /// looks take the same `watch`, on which nobody else calls from the first look on.
+    /// Makes a look. The first look adds the names to the watched names, after those that others added, which stay as
+    /// they are. All looks take the same `watch`, on which nobody else calls from the first look on.
     ///
-    /// A name that can't be looked at, opened or read is told on standard error, with the system's reason where `tail` was called by its
-    /// own name, and dropped, and the others go on. A message that can't be written is passed over.
+    /// If a name can't be looked at, opened or read, that is reported on standard error, with the system's reason if
+    /// `tail` was called by its own name. The name is dropped, and the others go on. A message that can't be written is
+    /// passed over.
     ///
     /// # Errors
     ///
-    /// `Write(0)` where standard output broke, `Memory` where there was none for a name, a look, a header or a line that tells what
-    /// changed. Standard output then has all of the looks before, and a beginning of this one. Either ends following: a later look is
-    /// `Failed`, and does nothing.
+    /// `Write(0)` if standard output broke. `Memory` if there was none for a name, a look, a header or a line about a
+    /// change. Standard output then has all of the looks before, and a beginning of this look. Either fault ends
+    /// following: a later look returns `Failed`, and does nothing.
     pub fn look<W: Watch, O: Outs>(&mut self, watch: &mut W, outs: &mut O) -> Result<(), Fault>
         requires { CanLook self.old (W.watched watch.old) (O.slots outs.old) }
         ensures looked { OnOk result (LooksOn W.told O.told (W.shows watch.old (length (W.seen watch.old))) self.old
@@ -178,7 +180,8 @@ impl Follow {
         }
     }
 
-    /// Whether a further look can give something: some name was not dropped and is followed by name or has its file open.
+    /// Whether a further look can give something: some name wasn't dropped, and is followed by name or has its file
+    /// open.
     pub fn alive(&self) -> bool
         ensures alive { (told : Bool) (calling : Calling) (ways : Ways) (headers : Bool) (names : List (List ℕ))
             (looks : List Look) (first slots : List Slot) (watched : List Watched)
@@ -192,15 +195,16 @@ impl Follow {
         any_goes_on(&self.names, self.by_name)
     }
 
-    /// Whether a name was missing at the first look, a call on one failed, or a fault ended following: the status isn't 0 then.
+    /// Whether a name was missing at the first look, a call on a name failed, or a fault ended following: the status
+    /// isn't 0 then.
     pub fn failed(&self) -> bool
         ensures { result ≡ self.now.has_failed }
     {
         self.has_failed
     }
 
-    /// Makes a look, and returns whether a name was missing or a call on one failed. Leaves it to the caller to keep that, and to end
-    /// following after a fault.
+    /// Makes a look, and returns whether a name was missing or a call on a name failed. The caller has to keep that,
+    /// and to end following after a fault.
     ///
     /// # Errors
     ///
@@ -230,11 +234,11 @@ impl Follow {
         )
     }
 
-    /// Adds the names to what is watched, before the first look; does nothing before a later one.
+    /// Adds the names to the watched names before the first look; does nothing before a later look.
     ///
     /// # Errors
     ///
-    /// `Memory` where there was none for a name.
+    /// `Memory` if there was none for a name.
     fn begin<W: Watch>(&mut self, watch: &mut W) -> Result<(), Fault>
         requires { CanBegin self.old (W.watched watch.old) }
         ensures begins { OnOk result (BeginsLook W.told self.old (W.watched watch.old) self.new (W.watched watch.new)) }

@@ -32,8 +32,8 @@ ghost use Rattle.follow_core.specs.{
   declared.notice.Notice.Notice,
 };
 
-/// What one look more gives. The text and the messages are those before and then that look's, in the order of the names; the
-/// status is 1 where it was before or a name fails in that look.
+/// What one look more gives. The text and the messages are those of the looks before, and then those of this look, in
+/// the order of the names. The status is 1 if it was 1 before or a name fails at this look.
 pub fn one_look_more()
     ensures out { (ways : Ways) (headers : Bool) (names : List (List ℕ)) (looks : List Look) (look : Look)
         → (followed ways headers names (looks ++ look ∷ [])).out
@@ -47,8 +47,9 @@ pub fn one_look_more()
         ≡ ((followed ways headers names looks).has_failed || any_failed (shares_at_look ways names looks look)) }
 {}
 
-/// The text of a name only grows, where a file that is appended to keeps its bytes: what further entries add stands after what
-/// was there, and each adds what it has that the entry before it lacks; so does each look, and what all looks give is the text.
+/// The text of a name only grows, if files that are appended to keep their bytes. What further entries add stands after
+/// the text of the entries before, and each entry adds what it has that the entry before it lacks. What a look gives
+/// stands after the text so far, and what all looks give is the text.
 pub fn text_goes_on()
     ensures entries { (start : List ℕ → List ℕ) (before more : List Entry) → AreKept (before ++ more)
         → name_text start (before ++ more) ≡ name_text start before ++ gains_after start before more }
@@ -60,23 +61,23 @@ pub fn text_goes_on()
         → gains_from ways name [] looks ≡ name_text ways.start (entries_in ways name looks) }
 {}
 
-/// Looks don't matter: two placings of looks among the same edits give the same text of each name, where the first look stands
-/// after the same edits, one look sees all that the edits before it do, and a file that is appended to keeps its bytes. So it is also
-/// where a name that can't be opened or read counts as missing.
+/// Looks don't matter. Two placings of looks among the same edits give the same text of each name, if the first look
+/// stands after the same edits, each look sees all that the edits before it do, and files that are appended to keep
+/// their bytes. That is also true if a name that can't be opened or read counts as missing.
 pub fn looks_agree()
     ensures { (forgives : Bool) (start : List ℕ → List ℕ) (by_name : Bool) (name : List ℕ) (first : List Edit)
         (one other : List (List Edit)) → Agree forgives start by_name name first one other }
 {}
 
-/// Where no call on a name can fail, it isn't dropped: no call on it failed in these looks.
+/// A name on which no call can fail isn't dropped: no call on it failed in these looks.
 pub fn forgiven_names_stay()
     ensures { (ways : Ways) (names : List (List ℕ)) (looks : List Look) (shares : List Share)
         → AreFound ways names looks shares → (place : ℕ) → place < length names
         → NoneBreaks (slice_index_or names place []) looks → failed_in (ways.first + place) looks ≡ None }
 {}
 
-/// Where names are followed while they are there, so that each look insists, a name that leads nowhere at one of them is dropped: a call
-/// on it failed.
+/// If names are followed as long as they lead to a file, each look insists. Then a name that leads nowhere at one of
+/// the looks is dropped: a call on it failed.
 pub fn missing_names_are_dropped()
     ensures { (ways : Ways) (names : List (List ℕ)) (looks : List Look) (shares : List Share)
         → AreFound ways names looks shares → shares ≡ shares_of ways names looks → ways.by_name ≡ true
@@ -84,13 +85,15 @@ pub fn missing_names_are_dropped()
         → is_dropped (ways.first + place) looks ≡ true }
 {}
 
-/// Where looks cling, a name that led to a file leads to it at each later look. Calls on it can fail all the same: then it is dropped.
+/// If looks cling, a name that led to a file leads to this file at each later look. A call on the name can still fail;
+/// then the name is dropped.
 pub fn first_files_stay()
     ensures { (shows : ℕ → Snapshot) (name : List ℕ) (file n later : ℕ) → n ≤ later
         → (clinging shows n).leads name ≡ Some file → (clinging shows later).leads name ≡ Some file }
 {}
 
-/// A line that tells what a look found is never the message of a failure: so it is told whole, or following ends before it.
+/// A line about what a look found is never the message of a failure. So it is written whole, or following ends before
+/// it.
 pub fn notices_are_no_failures()
     ensures { (notice : Notice) (name : List ℕ) → IsFailure (notice_of notice name) → ⊥ }
 {}

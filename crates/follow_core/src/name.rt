@@ -19,11 +19,13 @@ use watch_core::Watch;
 /// How a name stands between two looks.
 #[derive(Clone, Copy)]
 pub enum Standing {
-    /// It was not looked at yet.
+    /// The name was not looked at yet.
     New,
-    /// It is looked at again. Holds how many bytes of its open file were seen; 0 where none is open.
+    /// The name is looked at again. The number says how many bytes of its open file were seen; it is 0 if no file is
+    /// open.
     Followed(u64),
-    /// It is looked at no more: a call on it failed, or it was missing at the first look and only files that are open are followed.
+    /// The name is looked at no more: a call on it failed, or it was missing at the first look and only open files are
+    /// followed.
     Left,
 }
 
@@ -45,7 +47,7 @@ impl Name {
     ///
     /// # Errors
     ///
-    /// `AllocError` where there is no room for it.
+    /// `AllocError` if there is no room for it.
     pub(crate) fn new(alloc: Global, text: &str) -> Result<Self, AllocError>
         ensures { IfOk result (λ name. name ≡ record { text = text.now; standing = Standing.New }) }
     {
@@ -62,7 +64,7 @@ impl Name {
         self.text.as_str()
     }
 
-    /// Whether a further look can give something of it, where it is followed by name or by its open file.
+    /// Whether a further look can give something of the name, if it is followed by name or by its open file.
     pub(crate) fn goes_on(&self, by_name: bool) -> bool
         ensures { result ≡ goes_on_as by_name self.now.standing }
     {
@@ -73,12 +75,12 @@ impl Name {
         }
     }
 
-    /// Looks at the name: opens its file at the first look, and writes what came to it, with the messages of what changed or failed.
-    /// Returns whether it was missing at the first look, or a call on it failed.
+    /// Looks at the name: opens its file at the first look, and writes what came to it, with messages about what
+    /// changed or failed. Returns whether the name was missing at the first look, or a call on it failed.
     ///
     /// # Errors
     ///
-    /// `Write(0)` where standard output broke, `Memory` where there was none for a header or a line that tells what changed.
+    /// `Write(0)` if standard output broke. `Memory` if there was none for a header or a line about a change.
     pub(crate) fn visit<W: Watch, O: Outs>(
         &mut self,
         by_name: bool,
@@ -116,7 +118,7 @@ impl Name {
 ///
 /// # Errors
 ///
-/// `Memory` where there is no room for them.
+/// `Memory` if there is no room for them.
 pub(crate) fn new_names(alloc: Global, names: &[&str]) -> Result<Vec<Name>, Fault>
     ensures ok { IfOk result (λ made. made.items ≡ map new_state (map (λ name. name.now) names.now)) }
     ensures err { IfErr result (λ fault. fault ≡ Fault.Memory) }
@@ -130,11 +132,11 @@ pub(crate) fn new_names(alloc: Global, names: &[&str]) -> Result<Vec<Name>, Faul
     Ok(made)
 }
 
-/// Adds the names to what is watched, one after another, and returns the number of the first; 0 where there are none.
+/// Adds the names to the watched names, one after another, and returns the number of the first; 0 if there are none.
 ///
 /// # Errors
 ///
-/// `Memory` where there is none: the first of them may have been added.
+/// `Memory` if there is none: then the first of the names may have been added.
 pub(crate) fn add_all<W: Watch>(names: &[Name], watch: &mut W) -> Result<usize, Fault>
     ensures ok { OnOk result (W.watched watch.new ≡ W.watched watch.old ++ map added (texts names.now)) }
     ensures first { IfOk result (λ first. (0 < length names.now → first ≡ length (W.watched watch.old))
@@ -156,12 +158,12 @@ pub(crate) fn add_all<W: Watch>(names: &[Name], watch: &mut W) -> Result<usize, 
     Ok(first)
 }
 
-/// Looks at all names in order, each at its number in the watch, from that of the first on. Returns whether one was missing at the
-/// first look, or a call on one failed.
+/// Looks at all names in order, each at its number in the watch, from the number of the first on. Returns whether a
+/// name was missing at the first look, or a call on a name failed.
 ///
 /// # Errors
 ///
-/// `Write(0)` where standard output broke, `Memory` where there was none for a header or a line that tells what changed.
+/// `Write(0)` if standard output broke. `Memory` if there was none for a header or a line about a change.
 pub(crate) fn visit_all<W: Watch, O: Outs>(
     by_name: bool,
     start: Start,

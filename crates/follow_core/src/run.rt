@@ -21,9 +21,10 @@ use watch_core::Watch;
 /// When following ends, if it doesn't before.
 #[derive(Clone, Copy, Debug, PartialEq, Eq)]
 pub struct Limits {
-    /// After as many looks.
+    /// After this many looks.
     pub looks: u64,
-    /// After the first look that began once the process of this number was seen to be gone. None where no process is waited for.
+    /// After the first look before which it was found that the process of this number is gone. None if no process is
+    /// waited for.
     pub process: Option<u32>,
 }
 
@@ -32,17 +33,18 @@ pub struct Limits {
 pub enum Method {
     /// By descriptor: the file that was opened at the first look, wherever its name leads.
     Descriptor,
-    /// By name: the file to which it leads. A name that leads nowhere is looked for again.
+    /// By name: the file to which the name leads. A name that leads nowhere is looked for again.
     Name,
-    /// By name, while it leads to a file. A name that leads nowhere is dropped.
+    /// By name, as long as the name leads to a file. A name that leads nowhere is dropped.
     PresentName,
-    /// The first file to which a name leads at any look, wherever it leads later. A name that can't be opened before counts as missing. If
-    /// the file can't be read later, the name is dropped.
+    /// The first file to which a name leads at any look, wherever it leads later. A name that can't be opened before
+    /// that counts as missing. If the file can't be read later, the name is dropped.
     FirstFile,
 }
 
 impl Method {
-    /// Whether names are followed to where looks say that they lead. One that stays with its first file leads to that.
+    /// Whether names are followed to where looks say that they lead. A name that stays with its first file leads to
+    /// that file.
     pub fn is_by_name(self) -> bool
         ensures { result ≡ is_by_name self }
     {
@@ -53,31 +55,34 @@ impl Method {
     }
 }
 
-/// The output that is written.
+/// The number of standard output among the outputs.
 const STANDARD_OUTPUT: usize = 0;
 
-/// The status that a shell gives for a tool which the signal stopped of a reader that is gone.
+/// The status that a shell gives for a tool that ended by the signal about a reader that is gone.
 const UNREAD: u8 = 141;
 
-/// How looks came to their end, where no fault stopped one.
+/// How looks came to their end, if no fault stopped a look.
 #[derive(Clone, Copy)]
 enum End {
-    /// As many were made as were asked for, or no further one can give anything.
+    /// As many looks were made as were asked for, or a further look can give nothing.
     Looked,
     /// Nobody reads standard output any more.
     Unread,
 }
 
-/// A whole run of `tail` that follows these names (POSIX.1-2017, XCU tail, `-f`; GNU's `--follow=name` too): looks, one directly
-/// after another, up to the limits. It ends sooner if after a look no further one can give anything, as once each name is dropped. Its
-/// status is 1 if a name was missing at the first look or failed, or if a fault ended following, and else 0. If `tail` was called by its
-/// own name, it asks before each look whether standard output is still read. If it isn't, the run ends without a word, with status 141.
+/// A whole run of `tail` that follows these names (POSIX.1-2017, XCU tail, `-f`; also GNU's `--follow=name`): looks,
+/// one directly after another, up to the limits. It ends sooner if after a look a further look can give nothing, for
+/// example once each name is dropped. Its status is 1 if a name was missing at the first look or failed, or if a fault
+/// ended following, and 0 otherwise. If `tail` was called by its own name, it asks before each look whether standard
+/// output is still read. If it isn't, the run ends without a message, with status 141.
 ///
-/// Standard output has exactly what the looks saw: of each file the part that `start` says, then what it has past the length that the
-/// look before saw; all of a file that was truncated, that came back, or that the name leads to in place of another. Standard error has
-/// a line for each such change and each failure. Where standard output breaks, or memory is wanting, that is told and ends the run, with
-/// all of the looks before written, and a beginning of that one. It takes memory for the names and a buffer of 65,536 bytes, before
-/// anything is opened, and for its lines and headers.
+/// Standard output has exactly what the looks saw: of each file the part that `start` says, and then what it has past
+/// the length that the look before saw; all of a file that was truncated, that appeared again, or to which the name
+/// leads in place of another. Standard error has a line for each such change and each failure. If standard output
+/// breaks, or there is no memory, that is reported and ends the run, with all of the looks before written, and a
+/// beginning of this look. If the reader of standard output is gone and `tail` was called by its own name, nothing is
+/// reported and the status is 141. It takes memory for the names and a buffer of 65,536 bytes, before anything is
+/// opened, and for its lines and headers.
 pub fn follow_files<W: Watch, O: Outs>(
     alloc: Global,
     calling: Calling,
@@ -113,7 +118,7 @@ pub fn follow_files<W: Watch, O: Outs>(
     }
 }
 
-/// Has the watch forgive, insist or cling, as names are followed and `tail` was called.
+/// Makes the watch forgive, insist or cling, by how names are followed and how `tail` was called.
 fn treat_by<W: Watch>(calling: Calling, method: Method, watch: &mut W)
     requires unseen { W.seen watch.old ≡ [] }
     ensures shows { W.shows watch.new ≡ shows_by calling method (W.shows watch.old) }
@@ -128,8 +133,8 @@ fn treat_by<W: Watch>(calling: Calling, method: Method, watch: &mut W)
     }
 }
 
-/// Makes looks up to the limits, or ends sooner, where after a look no further one can give anything, or where `tail` was called by
-/// its own name and nobody reads standard output any more.
+/// Makes looks up to the limits. Ends sooner if after a look a further look can give nothing, or if `tail` was called
+/// by its own name and nobody reads standard output any more.
 ///
 /// # Errors
 ///
@@ -184,7 +189,8 @@ fn make_looks<W: Watch, O: Outs>(
     Ok(End::Looked)
 }
 
-/// Whether nobody reads standard output any more, which is asked where `tail` was called by its own name. It breaks then.
+/// Whether nobody reads standard output any more. That is asked only if `tail` was called by its own name. Standard
+/// output breaks if nobody reads it.
 fn is_unread<O: Outs>(calling: Calling, outs: &mut O) -> bool
     requires { IsTrue (is_writable (O.slots outs.old) 0) }
     ensures read { result ≡ false → O.slots outs.new ≡ O.slots outs.old }

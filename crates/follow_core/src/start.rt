@@ -17,7 +17,7 @@ use watch_core::Watch;
 pub struct Start {
     /// What is counted: lines or bytes.
     pub unit: Unit,
-    /// Whether the count is the number of the first one that is written; 0 is read as 1.
+    /// Whether the count is the number of the first line or byte that is written; 0 is read as 1.
     pub from_nth: bool,
     /// The count.
     pub count: u64,
@@ -26,12 +26,12 @@ pub struct Start {
 }
 
 impl Start {
-    /// Where this part begins in an open file of `len` bytes. Lines are looked for from the end, or from the front
-    /// where the nth begins the part; bytes are not looked for. It takes no memory.
+    /// Where this part begins in an open file of `len` bytes. Lines are looked for from the end; with `from_nth` they
+    /// are looked for from the front. Bytes are not looked for. It takes no memory.
     ///
     /// # Errors
     ///
-    /// `Read` where the file fails: the name is broken.
+    /// `Read` if the file fails: the name is broken.
     pub(crate) fn find<W: Watch>(
         self,
         watch: &mut W,
@@ -71,8 +71,8 @@ impl Start {
     }
 }
 
-/// Where the last `count` lines of a file of `len` bytes begin. The place is looked for from the end, by the delimiters before the last
-/// byte: each of them ends a line after which another one follows.
+/// Where the last `count` lines of a file of `len` bytes begin. The place is looked for from the end, by the delimiters
+/// before the last byte: after each of them another line begins.
 fn find_last_lines<W: Watch>(
     watch: &mut W,
     place: usize,
@@ -115,7 +115,7 @@ fn find_last_lines<W: Watch>(
     Ok(0)
 }
 
-/// Where the lines of a file of `len` bytes begin that come after its first `count`.
+/// Where the lines that follow the first `count` lines of a file of `len` bytes begin.
 fn pass_lines<W: Watch>(
     watch: &mut W,
     place: usize,
@@ -154,11 +154,11 @@ fn pass_lines<W: Watch>(
     Ok(len)
 }
 
-/// Fills a block with the open file's bytes from a place on, as far as there are any, and returns how many there were.
+/// Fills a block with bytes of the open file from a place on, as far as there are any, and returns how many there were.
 ///
 /// # Errors
 ///
-/// `Read` where the file fails: the name is broken.
+/// `Read` if the file fails: the name is broken.
 fn read_block<W: Watch>(
     watch: &mut W,
     place: usize,

@@ -63,7 +63,7 @@ tail_begins : (delim : ℕ) (from_nth : Bool) (unit : Counted) (n : ℕ)
 tail_begins delim true unit n = rw (after_of-nil delim unit (n - 1))
 tail_begins delim false unit n = refl
 
--- nothing is written before a byte came in
+-- Nothing is written before a byte came in.
 
 pub some_there : (slots : List Slot) → 2 ≤ length slots → 0 < length slots
 some_there slots two = omega (arith, two)
@@ -81,7 +81,7 @@ pub between_starts : (from end : ℕ) {told : Bool} {slots : List Slot} → 2 �
 between_starts from end {told} {slots} two =
     rw (none_before from end [] (omega arith)) (nothing_out told slots (some_there slots two))
 
--- an engine for which there was no memory
+-- without memory for an engine its opening stops, and the outputs stay as they were
 pub no_memory : {told : Bool} {work : Work} {opening : Needs} {slots : List Slot} {fault : Fault}
     → opening.memory ≡ true → 2 ≤ length slots → fault ≡ Memory → OpensShort work opening told slots slots fault
 no_memory {told} {work} {slots} may two is = rw is (record {
@@ -92,12 +92,12 @@ no_memory {told} {work} {slots} may two is = rw is (record {
   swept = swept_none work.clears (length slots) slots (none_past slots);
 })
 
--- what standard output is told of files says whether it is told of them
+-- standard output gets lines about files exactly if `verbose` says so
 verbose_is : (verbose : Bool) → is_verbose (tells_by verbose) ≡ verbose
 verbose_is true = refl
 verbose_is false = refl
 
--- an engine that was opened, and left the outputs as they were
+-- An engine that was opened left the outputs as its work says before the first byte.
 
 pub opened_of : {S : Type 0} (terms : Terms S) {begun asked : Work} (told : Bool) (old new : List Slot)
     (result : Result (GuardState S) Fault) → begun ≡ asked → IfOk result (λ e. HoldsIn terms.Holds e [])
@@ -108,7 +108,7 @@ pub opened_of : {S : Type 0} (terms : Terms S) {begun asked : Work} (told : Bool
 opened_of terms told old new (Ok e) is fresh does bound ready owns at = grind (arith, common_steps)
 opened_of terms told old new (Err fault) is fresh does bound ready owns at = tt
 
--- one that could not be opened
+-- an engine that couldn't be opened
 pub opened_short : {E : Type 0} (told : Bool) {begun asked : Work} {opening : Needs} (old new : List Slot)
     (result : Result E Fault) (Why Left : Fault → Type 0)
     → begun ≡ asked → 2 ≤ length old → ((fault : Fault) → Why fault → Left fault
@@ -155,7 +155,7 @@ split_halts (way.Cut cut) elide names tells said old new fault (inr (inl (told, 
 split_halts (way.Cut cut) elide names tells said old new fault (inr (inr (slot, is, rose))) = rw is (refl, (refl, refl), refl)
 split_halts way elide names tells said old new fault is = rw is (refl, refl, refl)
 
--- what wasn't opened is nothing
+-- of an engine that wasn't opened anything is true
 pub none_opened : {E : Type 0} (P : E → Type 0) (result : Result E Fault) → IsErr result → IfOk result P
 none_opened P (Ok e) errs = absurd (cc)
 none_opened P (Err fault) errs = tt
@@ -170,7 +170,7 @@ pub no_memory_for : {E : Type 0} (told : Bool) (work : Work) (opening : Needs) (
 no_memory_for told work opening slots (Ok e) P may two err = tt
 no_memory_for told work opening slots (Err fault) P may two err = no_memory (may err.1) two err.0
 
--- an engine of `head` or `tail` that was opened, whatever the input shows
+-- an engine of `head` or `tail` that was opened left the outputs as they were, whatever the input shows
 pub opened_still : (told : Bool) {begun asked : Work} (old : List Slot) (result : Result (GuardState Ends) Fault)
     → begun ≡ asked → IfOk result (λ e. HoldsIn ends.Holds e [])
     → IfOk result (λ e. ends.work e.stage ≡ begun) → IfOk result (λ e. e.fed < 2 ^ 63) → IsTrue (is_writable old 0)
@@ -178,7 +178,7 @@ pub opened_still : (told : Bool) {begun asked : Work} (old : List Slot) (result 
 opened_still told old (Ok e) is fresh does bound ready at = grind (arith, common_steps, opened_of)
 opened_still told old (Err fault) is fresh does bound ready at = tt
 
--- the work that is asked for, by what an input shows
+-- The work that is asked for, by what an input shows.
 
 pub head_by : (shown : Option (List ℕ)) {those asked : EndsAsked} {minus : Bool} → those ≡ asked
     → is_minus those.count.sign ≡ minus
@@ -190,7 +190,7 @@ pub tail_by : (shown : Option (List ℕ)) {those asked : EndsAsked} {plus : Bool
     → tail_in those.delim those.unit plus those.count.amount shown ≡ (tail_task Cutters asked).work shown
 tail_by shown is signed = rw (← signed, is)
 
--- the work of `split`, for a length that matters or not
+-- The work of `split`: a length matters only for chunks.
 
 pub length_matters : (asked : Way) → ((chunks : Chunks) → asked ≡ way.Chunks chunks → ⊥)
     → ((place : ℕ) (chunks : Chunks) → asked ≡ way.Chunk place chunks → ⊥)
@@ -200,7 +200,7 @@ length_matters (way.Chunks chunks) to_files to_output one other elide filing = a
 length_matters (way.Chunk place chunks) to_files to_output one other elide filing = absurd (to_output place chunks refl)
 length_matters asked to_files to_output one other elide filing = refl
 
--- the length that an input says by what it shows: of some text, where inputs don't tell theirs
+-- the length that an input showed is the length of some text; if bytes aren't visible, any text of this length will do
 pub said_shown : (told : Bool) (slot : ℕ) (sources : List Source) {size : Option ℕ}
     → (told ≡ true → size ≡ count_shown (source_at sources slot).left)
     → (shown : Option (List ℕ)) × IsShown told (Some slot) sources shown × (size ≡ option_map length shown)
@@ -209,7 +209,7 @@ said_shown false slot sources {size = None} counts = (None, λ t. absurd (cc), r
 said_shown false slot sources {size = Some n} counts =
     (Some (replicate n 0), λ t. absurd (cc), ap Some (sym (length-replicate n 0)))
 
--- no look was made
+-- sources that stayed as they were were at most looked at
 pub only_looked_none : (most : ℕ) (source : Option ℕ) (sources : List Source) → OnlyLooked most source sources sources
 only_looked_none most None sources = refl
 only_looked_none most (Some slot) sources = looked_none most slot sources

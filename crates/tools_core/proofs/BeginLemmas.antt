@@ -1,4 +1,4 @@
--- What a run leaves that a fault stopped is a beginning of what one leaves that none stopped.
+-- Lemmas: what a run leaves if a fault stops it is a beginning of what it leaves if no fault does.
 use Rattle.std.{
   proofs.lemmas.{Grind.common_steps, Bool.{cases_eq, false≢true, cond_both}},
   proofs.Common.{◌≡◌, ℕ, ◌+◌, ◌≤◌, ◌<◌, zero, suc, Bool, true, false, List, [], ◌∷◌, ◌++◌, length, map, Option, inl},
@@ -43,18 +43,18 @@ use Rattle.run_core.specs.{
 use Rattle.run_core.proofs.StopLemmas.{after_assoc, begins_after, nothing_after}
 use Rattle.seg_core.specs.declared.cut.Way.TheVariants as way
 
--- nothing is a beginning of anything
+-- an output without a byte begins any output
 pub empty_begins : {output other : Slot} → output.written ≡ [] → BeginsAs output other
 empty_begins {other} none = record { bytes = rw none (nothing_begins other.written); named = inr none }
 
--- nothing was written
+-- outputs to which nothing was written begin any outputs
 pub bare_begins : (error : Slot) {other : Slot} (place : ℕ) → (place ≡ 1 → ⊥)
     → BeginsAs (slot_at (streams_with error) place) other
 bare_begins error zero differs = empty_begins refl
 bare_begins error (suc zero) differs = absurd (differs refl)
 bare_begins error (suc (suc place)) differs = empty_begins refl
 
--- an output that keeps its name and bytes keeps what it begins, and what begins it
+-- If an output keeps its name and bytes, it begins what it began, and what began it still begins it.
 
 kept_begins : {sweeps : Bool} {place : ℕ} {old new other : Slot} → Kept sweeps place old new → BeginsAs old other
     → BeginsAs new other
@@ -64,7 +64,7 @@ pub begins_kept : {sweeps : Bool} {place : ℕ} {output whole other : Slot} → 
     → BeginsAs output whole → BeginsAs output other
 begins_kept kept begins = grind (arith, common_steps)
 
--- What a fault leaves in the slots by itself: it breaks one of them, or adds one that couldn't be opened.
+-- What a fault leaves in the slots by itself: it breaks a slot, or adds a slot that couldn't be opened.
 
 abbrev pub IsMarked : Fault → ℕ → List Slot → Slot → Type 0
 IsMarked (Write slot) place before new = (place ≡ slot) × (place < length before)
@@ -97,7 +97,7 @@ mark_begins (Write slot) place before marked begins = grind (arith, common_steps
 mark_begins (Open slot) place before (here, (kept, why, is)) begins = empty_begins (rw is)
 mark_begins fault place before marked begins = absurd marked
 
--- The outputs of a part that begins another
+-- The outputs of a part that begins another part.
 
 files_at : (files others : List File) → FilesBegin files others → (place : ℕ)
     → BeginsAs (slot_at (map slot_of files) place) (slot_at (map slot_of others) place)
@@ -112,19 +112,19 @@ part_at error zero begins differs = grind (arith, common_steps)
 part_at error (suc zero) begins differs = absurd (differs refl)
 part_at {low} {high} error (suc (suc place)) begins differs = files_at low.files high.files begins.files place
 
--- outputs that are at it, and what came of them
+-- outputs that have a part, and of which files were removed or stayed, begin each part that this part begins
 left_begins : (clears : Bool) {low high : Part} {error : Slot} {reached : List Slot} (new : List Slot) {place : ℕ}
     → Begins low high → (place ≡ 1 → ⊥) → OutputsAt true (streams_with error) low reached → Swept clears 2 reached new
     → BeginsAs (slot_at new place) (slot_at (slots_of high) place)
 left_begins clears {error} {reached} new {place} begins differs at swept = kept_begins
     (swept_kept clears reached new swept place) (rw (slots_at at) (part_at error place begins differs))
 
--- One input, which ends after these bytes
+-- One input, which ends after these bytes.
 
 abbrev pub ending : List ℕ → Content
 ending bytes = unshown bytes
 
--- what is made of it, after its header
+-- what is made of the input, after its header
 abbrev pub part_of : Task → List ℕ → List ℕ → Part
 part_of task name bytes = after_part (only_out (header_text task.with_header true name)) ((task.work None).whole bytes)
 
@@ -140,7 +140,7 @@ call_begins {content = content} grows opens = grows.settled [] content.bytes ref
 call_begins grows (feeds x piece rest is few going) = search rules
 call_begins grows (closes x has needed) = grows.closed x has
 
--- what comes before a part begins both
+-- a part begins the part that has another part after it
 begins_more : (first next : Part) → Begins first (after_part first next)
 begins_more first next = rw nothing_after at (begins_after first (nothing_begins_part next))
 
@@ -156,7 +156,7 @@ step_begins {task} is_first name {so_far} grows (call_step content call is leave
     let header = only_out (header_text task.with_header is_first name) in
     rw (after_assoc so_far header call.high) (begins_after so_far (begins_after header (call_begins (grows content) is)))
 
--- What is made of inputs is what is made of the first of them, of one, and of those after it.
+-- What is made of inputs is what is made of the first inputs, of one input, and of the inputs after it.
 
 made_after : (task : Task) (is_first : Bool) (before : List Input) (input : Input) (after : List Input)
     → (of_inputs task is_first (before ++ input ∷ after)).part
@@ -168,7 +168,7 @@ made_after task is_first [] input after = grind (arith, common_steps)
 made_after task is_first (first ∷ before) input after =
     simp (made_after task (is_first && is_missing first.content) before input after, append_assoc, and_assoc)
 
--- A run over any inputs
+-- A run over any inputs.
 
 pub begins_whole : {task : Task} {inputs : List Input} {sources : List Source}
     {new : List Slot} {status : ℕ} {place : ℕ}
@@ -192,7 +192,7 @@ begins_whole {task} {inputs} {new = new} {place = place} grows differs
     ])
 begins_whole {place} grows differs (no_room error says slots untouched count status_is) = rw slots (bare_begins error place differs)
 
--- Works grow.
+-- Lawful works only grow.
 
 closed_made : {work : Work} (content : Content) → IsLawful work → (x : List ℕ) → HasAll work content x
     → Begins (work.whole x) (made_of work content)
@@ -214,7 +214,7 @@ settled_made work content grows ends x rest is = cond_both (is_enough work conte
 pub lawful_grows : {work : Work} → IsLawful work → (content : Content) → IsGrowing work content
 lawful_grows {work} law content = record { settled = settled_made work content law.grows law.ends; closed = closed_made content law }
 
--- where lines are dealt, and all files have names
+-- All files have names, if their number is known.
 
 named_up_to : (asked : SplitAsked) (count : ℕ) → first_number asked.from + count ≤ name_count asked.alphabet asked.width
     → are_named (naming_of asked) count ≡ true
@@ -231,7 +231,7 @@ all_have_names asked named = by asked.way named where
   by (way.Chunk place chunks) all = tt
   by (way.Turn place n delim) all = tt
 
--- what can be asked is a way
+-- what can be asked of `split` is a way to split
 pub is_way : (asked : SplitAsked) → CanSplit asked → IsWay asked.way
 is_way asked can = by asked.way can.way where
   by : (way : Way) → IsInLimits way → IsWay way

@@ -1,4 +1,4 @@
--- Over the inputs that any run found there is a run that no fault stops.
+-- Lemmas: over the inputs that any run found there is a run that no fault stops.
 use Rattle.std.{
   proofs.Common.{◌≡◌, ℕ, ◌+◌, ◌≤◌, ◌<◌, ◌^◌, suc, zero, Bool, true, false, ◌||◌, cond, List, [], ◌∷◌, ◌++◌},
   proofs.Common.{length, map, Option, Some, None, inl, inr, ◌⊎◌, refl, sym, ◌∙◌, ap, arith, lit<, append_assoc},
@@ -54,7 +54,7 @@ use Rattle.tools_core.{
 use Rattle.ports_core.specs.Swept as swept_so
 use Rattle.tee_core.specs.Run as tee
 
--- Of an input a tool reads a front: as far as it has enough of it, and no further.
+-- A tool reads a front of an input: as far as it has enough of the input, and no further.
 
 record Front (work : Work) (bytes : List ℕ) : Type 0 where
   pub read : List ℕ
@@ -71,11 +71,11 @@ front_from work x (byte ∷ rest) needed = elim (cases_Bool (work.is_complete x)
       (front_from work (x ++ byte ∷ []) rest (inr (x, byte ∷ [], refl, omega arith, going)))
 ]
 
--- an open source that tells its bytes, whatever it holds
+-- an open source whose bytes are visible, whatever it holds
 came_from : {content : Content} (source : Source) → source.is_open ≡ true → CameFrom true content source
 came_from source is = record { was_open = is; breaks = λ untold. absurd (cc) }
 
--- such a reader leaves this of an input, or of one that is missing
+-- the source of an input after a tool read such a front of it, or of an input that is missing
 record LeftFor (work : Work) (there : Option Content) : Type 0 where
   pub source : Source
   pub is : (slot : ℕ) → IsLeft true work largest_piece slot there source
@@ -107,12 +107,12 @@ module _ (work : Option (List ℕ) → Work) (world : World) where
   abbrev standard : LeftFor (work (shown_of (Some world.standard))) (Some world.standard)
   standard = left_for work (Some world.standard)
 
-  -- beside the sources of the names before these, there are such in which all of these inputs are done
+  -- after the sources of the names before these, there are further sources, so that all of these inputs are done
   abbrev CanBeDone : List Source → List Input → Type 0
   CanBeDone more inputs =
       (rest : List Source) × AreDone true work largest_piece inputs (standard.source ∷ (more ++ rest))
 
-  -- the names after one are done, whatever that is
+  -- the inputs of these names can be done, whatever stands before them
   abbrev AreDoneFrom : List (List ℕ) → Type 0
   AreDoneFrom names = (was_read : Bool) (slot : ℕ) (more : List Source) → slot ≡ suc (length more)
       → CanBeDone more (inputs_from world was_read slot names)
@@ -190,7 +190,7 @@ cleans true output error files =
       cleared (suc zero) past = absurd (omega (arith, past))
       cleared (suc (suc place)) past = cleared_each files place
 
--- So a run over any inputs can end well.
+-- A run over any inputs can end well.
 
 record Well (Does : List Source → List Slot → ℕ → Type 0)
     (Whole : (sources : List Source) (new : List Slot) (status : ℕ) → Does sources new status → Type 0) : Type 0 where
@@ -214,7 +214,7 @@ ends_well task world names =
       unstopped = tt;
     }
 
--- `tee`, whose input comes byte by byte
+-- `tee`, whose input comes byte by byte.
 
 abbrev pieces_of : List ℕ → List (List ℕ)
 pieces_of bytes = map (λ byte. byte ∷ []) bytes
@@ -236,7 +236,7 @@ copies_left : (mode : Mode) (pieces names : List (List ℕ))
 copies_left mode pieces [] = tee.no_file
 copies_left mode pieces (name ∷ names) = tee.one_file name names None (unbroken names) _ _ tee.file_whole (copies_left mode pieces names)
 
--- what settings ask for was done
+-- what settings ask for can be done, and no fault stops it
 abbrev DoesWell : Calling → Settings → World → Type 0
 DoesWell calling asked world =
     Well (DoesAsked calling true true asked (inputs_at world (names_of asked)))

@@ -1,4 +1,4 @@
--- What `csplit` leaves of its input.
+-- Lemmas on what `csplit` leaves of its input.
 use Rattle.std.{proofs.lemmas.{Grind.common_steps, Bool.{cond_both, false≢true, lt-ltb}, List.{append-nil, Elements.{All-append, All-cons, All-map, All-nil}}}, proofs.Common.{suc, ◌≡◌, ℕ, ◌+◌, drop, Bool, true, false, eqb, List, [], ◌∷◌, Option, Some, None, refl, ◌∙◌, ◌-◌}, proofs.Common.{◌≤◌, ◌++◌, length, map, sym, ap, arith, cond}, specs.List.flat_map}
 use Rattle.operand_core.specs.{
   declared.operand.{Operand.Operand, Target.{Target, TheVariants.{Number, Search}}, Times.{Times, TheVariants.Count}},
@@ -44,9 +44,9 @@ use Rattle.ports_core.proofs.OrderLemmas.{in_order, no_two}
 use Rattle.words_core.specs.{CsplitWords.CsplitAsked, declared.settings.Settings.TheVariants.Csplit}
 use Rattle.split_core.proofs.CutLaws.{bytes_of_shares}
 
--- Where no word of `csplit`'s operands skips a section, each operand keeps its section.
+-- If no word of `csplit`'s operands skips a section, each operand keeps its section.
 
--- what operands aim at
+-- What operands aim at.
 
 abbrev KeepsAim : Aim → Type 0
 KeepsAim (line n) = Unit {0}
@@ -108,7 +108,7 @@ all_keep : (calling : Calling) (words : List (List ℕ)) → SkipNothing words �
 all_keep calling [] none = tt
 all_keep calling (word ∷ words) none = words_keep calling 0 0 (word ∷ words) none
 
--- the operands that are read
+-- The operands that are read.
 
 abbrev pub KeepTargets : List Operand → Type 0
 KeepTargets [] = Unit {0}
@@ -126,7 +126,7 @@ read_keep (spelled ∷ more) (operand ∷ operands) keep are =
     grind (arith, common_steps, target_keeps, (read_keep more operands keep.1 are.1))
 read_keep spelled operands keep are = absurd are
 
--- All sections are kept, where all operands keep theirs.
+-- If all operands keep their sections, all sections are kept.
 
 abbrev AllKept : List Section → Type 0
 AllKept [] = Unit {0}
@@ -157,13 +157,13 @@ runs_keep (is_above state operand operands matched cut is at from far) keep = gr
 runs_keep (is_below state operand operands matched cut is at low) keep = grind (arith, common_steps)
 runs_keep run keep = record { sections = tt; final = refl }
 
--- The files of sections that are kept are joined their lines.
+-- The files of sections that are kept, joined, are the lines of these sections.
 
 all_bytes : (lines : List (List ℕ)) → map (λ (line : Line). line.text) (map marked lines) ≡ lines
 all_bytes [] = refl
 all_bytes (text ∷ lines) = rw (all_bytes lines)
 
--- what the files have
+-- What the files have.
 
 shares_have : (style : Style) (sections : List Section)
     → map (λ (one : Share). one.bytes) (shares_in style sections) ≡ flat_map (file_in style) sections
@@ -176,7 +176,7 @@ files_have : (style : Style) (place : ℕ) (shares : List Share)
 files_have style place [] = refl
 files_have style place (one ∷ shares) = rw (files_have style (place + 1) shares)
 
--- a section that is kept makes no file only where it is empty
+-- a section that is kept makes no file only if it is empty
 file_joined : (elide kept : Bool) (bytes : List ℕ) → kept ≡ true
     → joined (made_of (cond kept (cond elide Late AtOnce) Never) bytes) ≡ bytes
 file_joined elide false bytes kept = absurd (cc)
@@ -190,7 +190,7 @@ files_joined style [] kept = refl
 files_joined style (section ∷ sections) kept =
     grind (arith, common_steps, joined-append, file_joined, (files_joined style sections kept.1))
 
--- What a run leaves
+-- What a run leaves.
 
 -- a plan that ends well has no cut below the current line
 ends_well : (ending : Ending) → verdict_of ending ≡ None → is_final ending ≡ false
@@ -262,7 +262,7 @@ none_is_lost run asked input does has whole none =
     (rw (none_lost_at_end asked.style whole split.operands lines split.well, all_bytes (lines_of newline input))
     (joined-lines_of newline input))
 
--- Each line in its turn
+-- Each line has its turn.
 
 cut_rest : (suppress : Bool) (lines : List Line) (step : Step) → 1 ≤ step.cut
     → left_out suppress lines step ++ drop (line_after suppress step.cut - 1) lines ≡ drop (step.cut - 1) lines

@@ -1,4 +1,4 @@
--- What `tail` writes of one file that only grows, where it follows it and meets no fault.
+-- Lemmas on what `tail` writes of one file that only grows, if `tail` follows it and meets no fault.
 use Rattle.std.proofs.{
   lemmas.{Grind.common_steps, Bool.{or_parts, cases_lt, false≢true}},
   Common.{◌≡◌, ℕ, ◌+◌, ◌<◌, ◌≤◌, max, zero, suc, Bool, true, false, List, [], ◌∷◌, ◌++◌, length, drop, Option, Some},
@@ -34,7 +34,7 @@ use Rattle.words_core.specs.{
 
 -- The text of a name whose file only grows: its start part at the first look, and then all that came.
 
--- the looks from one on
+-- n looks, from the look of number `start` on
 abbrev pub looks_from : (ℕ → Snapshot) → ℕ → ℕ → List Snapshot
 looks_from shows start zero = []
 looks_from shows start (suc n) = shows start ∷ looks_from shows (suc start) n
@@ -50,7 +50,7 @@ seen_are shows zero = refl
 seen_are shows (suc n) = rw (seen_are shows n)
     (ap (λ k. looks_from shows 0 n ++ shows k ∷ []) (omega arith) ∙ one_more shows n)
 
--- the versions of its file
+-- the versions of the file in n looks, from the look of number `start` on
 abbrev pub versions : (ℕ → Snapshot) → ℕ → ℕ → ℕ → List Entry
 versions shows file start zero = []
 versions shows file start (suc n) = version_in (shows start) file ∷ versions shows file (suc start) n
@@ -75,7 +75,7 @@ versions_kept shows start (suc zero) within grows = (tt, tt)
 versions_kept shows start (suc (suc n)) within grows =
     grind (arith, common_steps, (versions_kept shows (suc start) (suc n) (omega (arith, within)) grows))
 
--- what they gain is what came
+-- what later looks gain is what came to the file
 holds_later : (shows : ℕ → Snapshot) {name : List ℕ} {file count : ℕ} (start n : ℕ) → start + n < count
     → OnlyGrows count shows name file
     → (shows (start + n)).holds file ≡ (shows start).holds file
@@ -102,7 +102,7 @@ gains_are shows {file} {n} {came} within grows is =
     (λ k. (shows k).holds file) (let e : 0 + n ≡ n = omega arith in e) ∙ is in
     sym (drop_front front gained) ∙ ap (drop (length front)) both ∙ drop_front front came
 
--- its file is open after each look
+-- the file is open after each look
 stays_open : (by_name : Bool) {name : List ℕ} (shows : ℕ → Snapshot) {file count : ℕ} (n : ℕ) → n < count
     → OnlyGrows count shows name file → open_after by_name name (looks_from shows 0 (suc n)) ≡ Some file
 stays_open by_name {name} shows {file} {count} n within grows = by by_name 1 n (omega (arith, within))
@@ -114,9 +114,9 @@ stays_open by_name {name} shows {file} {count} n within grows = by by_name 1 n (
           (grows.0 start (omega (arith, below)))
       by false start (suc n) below opened is = by false (suc start) n (omega (arith, below)) opened is
 
--- What following one name writes, where no call fails, is the text of that name.
+-- If no call fails, following one name writes the text of this name.
 
--- A name for which no call failed got all that the look gives.
+-- A name on which no call failed got all that the look gives.
 
 fine_share : (ways : Ways) (name : List ℕ) (before : List Look) (look : Look) (dropped : Bool) (fate : Fate)
     → dropped ≡ false → is_some (cond dropped (no_share name) (share_by ways name before look fate)).failure ≡ false
@@ -126,7 +126,7 @@ fine_share ways name before look true fate kept well = absurd (cc)
 fine_share ways name before look false sound kept well = grind (arith, common_steps)
 fine_share ways name before look false fate kept well = absurd (cc)
 
--- so further looks wrote all that they give, and the name is still followed
+-- further looks wrote all that they give, and the name is still followed
 record WroteAll (ways : Ways) (name : List ℕ) (before looks : List Look) (text : List ℕ) : Type 0 where
   pub is : text ≡ gains_from ways name before looks
   pub kept : is_dropped ways.first looks ≡ false
@@ -144,7 +144,7 @@ wrote_all ways name before (look ∷ looks) last kept well =
       kept = rw (fine.0, rest.kept);
     }
 
--- a file that is open could always have more, so no look is the last that can give something
+-- a further look can always give something of a name whose file is open
 alive_by : (dropped by_name : Bool) {opened : Option ℕ} {file : ℕ} → dropped ≡ false → opened ≡ Some file
     → ((not dropped && (by_name || is_some opened)) || false) ≡ true
 alive_by true by_name kept is = cc
@@ -182,7 +182,7 @@ wrote_text ways name shows count seen watched new keeps_bytes (stopped mid fault
 wrote_text ways name shows count seen watched new keeps_bytes (unread looks shares before own seen_is broken made few alive are found wrote is failed) = absurd (omega (arith, failed))
 wrote_text ways name shows count seen watched new keeps_bytes (no_room why unseen unwatched says failed) = absurd (omega (arith, failed))
 
--- each look of it, which begins within the pause that it asks for
+-- what each look of a run shows, if it begins within the pause that the run asks for
 abbrev pub paused : Run → Followed → (pause : ℕ) → ℕ → Snapshot
 paused run followed pause n = waiting (max (pause_by run.calling pause) 1) (showing run followed n)
 
@@ -228,7 +228,7 @@ tells_all run options followed name came file n follows bare named grows is =
       gains_are shows (omega (arith, all)) grew is,
     )
 
--- A run of the program is a run of one of both kinds, by what its words ask for.
+-- A run of the program follows or doesn't, by what its words ask for.
 
 pub ends_at : (run : Run) {looks : Option ℕ} → IsOfProgram run → looks_at (settings_of run.calling run.words) ≡ looks
     → ProgramEndsAt run.calling true true true run.words run.world.laid

@@ -1,5 +1,5 @@
--- What is true of the outcome of any inputs: which messages it has, and that its files are live; and what a run leaves that no fault
--- stopped: just what its inputs make, but for files that were to be removed.
+-- Lemmas on the outcome of any inputs: which messages it has, and that its files are live. Also on what a run leaves if
+-- no fault stopped it: exactly what its inputs make, except files that were to be removed.
 use Rattle.std.proofs.{
   lemmas.{
     Grind.common_steps,
@@ -71,7 +71,7 @@ use Rattle.ports_core.specs.Swept as swept_so
 use Rattle.ports_core.specs.declared.slot.State.TheVariants as state
 use Rattle.tee_core.specs.Run as tee
 
--- One of the lines
+-- One line among others.
 
 abbrev pub HasLine : Message → List Message → Type 0
 HasLine line lines = (before : List Message) × (after : List Message) × (lines ≡ before ++ line ∷ after)
@@ -84,7 +84,7 @@ pub has_before : {line : Message} {front : List Message} (back : List Message) �
     → HasLine line (front ++ back)
 has_before back (before, after, is) = (before, after ++ back, rw (is, append_assoc))
 
--- it is said, where all are
+-- the run wrote this line, among others
 abbrev pub SaysLine : Run → Settings → Message → Type 0
 SaysLine run asked line = (before : List Message) × (after : List Message) × SaysLines run asked (before ++ line ∷ after)
 
@@ -95,14 +95,14 @@ says_line (before, after, is) says = search rules
 pub one_line : (Line : Message → Type 0) (line : Message) → Line line → All Line (line ∷ [])
 one_line Line line is = All-cons Line line [] is (All-nil Line)
 
--- the only line tells this fault
+-- the only line reports this fault
 pub tells_one : (run : Run) (asked : Settings) (fault : Fault) (name : List ℕ) → IsMet run asked fault name
     → SaysAll true (speaker_of run.calling asked) (message_by run fault name ∷ []) standard_error
     (slot_at run.outputs 1)
     → Tells run asked fault name
 tells_one run asked fault name met says = ([], [], grind (arith, common_steps, one_line))
 
--- Files that are open or closed, and not broken
+-- Files that are open or closed, and not broken.
 
 abbrev pub slot_of : File → Slot
 slot_of file = record {
@@ -126,7 +126,7 @@ no_live = grind (arith, common_steps)
 live_both : (front back : List File) → AreLive front → AreLive back → AreLive (front ++ back)
 live_both front back one other = grind (arith, common_steps)
 
--- the files of a part that begins a live one
+-- The files of a part that begins a part with live files are live.
 
 live_state : {file whole : File} → (file.state ≡ Open) ⊎ (file ≡ whole) → has_file whole.state ≡ true
     → has_file file.state ≡ true
@@ -141,7 +141,7 @@ live_begin (file ∷ files) (whole ∷ wholes) begins live =
     let first = All-head P whole wholes live in
     All-cons P file files (begins.2 ∙ first.0, live_state begins.3 first.1) (live_begin files wholes begins.5 (All-tail P whole wholes live))
 
--- Files of a kind, of shares of one
+-- What is true of the file of each share is true of all files.
 
 pub each_made : (P : File → Type 0) (manner : Manner) (place : ℕ) (shares : List Share)
     → All (λ one. (place : ℕ) → P (made.file_at manner place one)) shares → All P (made.files_from manner place shares)
@@ -151,17 +151,17 @@ each_made P manner place (one ∷ shares) all = cond_both (manner.has_name place
     (each_made P manner (place + 1) shares (λ k one within. all (suc k) one (omega (arith, within)))))
     (λ lacks. All-nil P)
 
--- Works, whatever came in
+-- The files of a work are live, whatever came in.
 
 pub record IsLiving (work : Work) : Type 0 where
   pub settled : (x : List ℕ) → AreLive (work.settled x).files
   pub whole : (x : List ℕ) → AreLive (work.whole x).files
 
--- and files are removed after a fault, or kept
+-- the files of the work are live, and `clears` says whether they are removed after a fault
 abbrev pub LivesAs : Work → Bool → Type 0
 LivesAs work clears = IsLiving work × (work.clears ≡ clears)
 
--- whatever length an input says
+-- the works are such, whatever the input shows
 abbrev pub AreLiving : (Option (List ℕ) → Work) → Bool → Type 0
 AreLiving work clears = (shown : Option (List ℕ)) → LivesAs (work shown) clears
 
@@ -220,14 +220,14 @@ each_section P style (section ∷ sections) all =
 sections_there : (style : Style) (sections : List Section) → All IsThere (shares_in style sections)
 sections_there style sections = each_section (λ state. has_file state ≡ true) style sections (λ k other within. section_has _)
 
--- What a run over inputs makes of them
+-- What a run over inputs makes of them.
 
--- one of the lines is such a line
+-- `Line` is true of one of these lines
 abbrev pub HasSome : (Message → Type 0) → List Message → Type 0
 HasSome Line lines = (line : Message) × Line line × HasLine line lines
 
--- The messages of an outcome are such lines, and there are some just where a fault was met. Only after one are files
--- removed, of a tool that removes them. The files are live.
+-- `Line` is true of each message of an outcome, and there is a message exactly if a fault was met. Files are removed
+-- only after a fault, and only by a tool that removes them. The files are live.
 pub record Fits (Line : Message → Type 0) (clears : Bool) (made : Outcome) : Type 0 where
   pub are : All Line made.messages
   pub tells : made.failed ≡ true → HasSome Line made.messages
@@ -255,7 +255,7 @@ fits_joined : {Line : Message → Type 0} {clears : Bool} (first next : Outcome)
     → Fits Line clears next → Fits Line clears (joined first next)
 fits_joined {Line} first next one other = grind (arith, common_steps, has_before, has_after, live_both)
 
--- the lines that tell what is wrong with an input are such ones
+-- `Line` is true of each line that reports what is wrong with an input
 pub record TellsInput (Line : Message → Type 0) (task : Task) (work : Work) (name : List ℕ) (there : Option Content)
     : Type 0 where
   pub missing : there ≡ None → Line (message_of (CannotOpen 0) name)
@@ -295,7 +295,7 @@ inputs_fit {Line} task is_first (input ∷ inputs) tells living =
     (living input.shown).0))
     (inputs_fit task (is_first && is_missing input.content) inputs (All-tail P input inputs tells) living)
 
--- what a run found is told so
+-- The messages about inputs report what the run found.
 
 pub speaker_is : (calling : Calling) (asked : Settings) (task : Task) → IsTask calling asked task
     → task.speaker ≡ speaker_of calling asked
@@ -327,7 +327,7 @@ found_tells {run} asked {task} input of found = record {
       (fault_is.Verdict verdict, task.subject verdict input.name, inr (judged input content task verdict found is of enough judges), refl);
 }
 
--- these inputs, which the run found after others and before others
+-- the messages about these inputs, which the run found between other inputs, report what it met
 pub all_tell : (run : Run) (asked : Settings) (task : Task) (done inputs after : List Input)
     → IsTask run.calling asked task → inputs_at run.world (names_of asked) ≡ done ++ (inputs ++ after)
     → TellsAll (TellsMet run asked) task inputs
@@ -336,7 +336,7 @@ all_tell run asked task done (input ∷ inputs) after of are =
     All-cons (TellsAt (TellsMet run asked) task) input inputs (found_tells asked input of (done, inputs ++ after, are))
     (all_tell run asked task (done ++ input ∷ []) inputs after of (are ∙ sym (append_assoc done (input ∷ []) (inputs ++ after))))
 
--- what each step of it does
+-- What each step of a run does.
 
 call_live : {work : Work} {opening : Needs} {most : ℕ} {content : Content} {call : Step} → IsLiving work
     → IsCall work opening most content call → AreLive call.high.files
@@ -354,7 +354,7 @@ step_live {before} living live (heading content headed leaves) = search rules
 step_live {before} living live (call_step content call is leaves) =
     grind (arith, common_steps, live_both, live, no_live, call_live)
 
--- The outputs of a part, beside any standard error
+-- The outputs of a part, with any standard error.
 
 abbrev pub outputs_of : Part → Slot → List Slot
 outputs_of part error = adds part.out standard_output ∷ error ∷ map slot_of part.files
@@ -375,7 +375,7 @@ outputs_live part error (suc zero) live differs = absurd (differs refl)
 outputs_live part error (suc (suc place)) live differs =
     let one = live_at (map slot_of part.files) place (All-map IsLive slot_of part.files live) in (one.0, λ within. one.1 (omega (arith, within)))
 
--- Outputs that are at a part
+-- Outputs that have a part.
 
 slots_again : (since : List Slot) → map slot_of (map file_of since) ≡ since
 slots_again [] = refl
@@ -389,7 +389,7 @@ pub slots_at : {part : Part} {error : Slot} {now : List Slot} → OutputsAt true
     → now ≡ outputs_of part error
 slots_at {part} at = grind (arith, common_steps, slots_again, told_again)
 
--- What becomes of an output where files are removed, or stay
+-- What becomes of an output if files are removed, or stay.
 
 failing_file : {place : ℕ} (which : State) → has_file which ≡ true → failing place which ≡ Write place
 failing_file state.Removed has = absurd (cc)
@@ -442,7 +442,7 @@ swept_count : (sweeps : Bool) (old new : List Slot) → Swept sweeps 2 old new �
 swept_count false old new swept = ap length swept
 swept_count true old new swept = swept.size
 
--- What a run leaves by its outcome
+-- What a run leaves, by its outcome.
 
 pub record IsLeft (which : Speaker) (made : Outcome) (new : List Slot) (status : ℕ) : Type 0 where
   pub error : Slot
@@ -472,9 +472,9 @@ pub left_whole : {Line : Message → Type 0} {which : Speaker} {clears : Bool} {
     {status : ℕ} → Fits Line clears made → IsLeft which made new status → status ≡ 0 → IsWhole made new
 left_whole {made} fits left well = grind (arith, common_steps, unfailed)
 
--- `tee` where no output broke and all of the input was copied
+-- `tee`, if no output broke and all of the input was copied.
 
--- a file with these bytes, which was closed
+-- a closed file with these bytes
 abbrev pub copy : Mode → List ℕ → List ℕ → Slot
 copy mode bytes name = closes (adds bytes (opened name mode))
 
@@ -545,7 +545,7 @@ tee_left {asked} {content} (tee.copied pieces fault first broke output error fil
     }
 tee_left (tee.no_room error says unread slots is) copied = absurd copied
 
--- a text about a tool
+-- A text about a tool.
 
 abbrev pub text_made : List ℕ → Outcome
 text_made text = record { part = only_out text; messages = []; failed = false; sweeps = false }
@@ -563,15 +563,15 @@ text_left (text_whole slots is) well = grind (arith, common_steps)
 text_left (text_cut n short why error says slots is) well = absurd (status_some (Write 0) _ why (sym is ∙ well))
 text_left (no_text error says slots is) well = absurd (omega (arith, is, well))
 
--- All tools
+-- All tools.
 
--- what is asked for makes this of its inputs
+-- what is asked for makes this outcome of these inputs
 abbrev pub Makes : Settings → List Input → Outcome → Type 0
 Makes (Tee asked) inputs made = (content : Content) × (inputs ≡ standard_input content ∷ []) × (made ≡ tee_made asked content)
 Makes (About which topic) inputs made = made ≡ text_made (text_about which topic)
 Makes asked inputs made = (task : Task) × IsTask Cutters asked task × (made ≡ made_by task inputs)
 
--- with each task that is asked for
+-- what is asked for makes the same by each of its tasks
 pub makes_task : (asked : Settings) (task : Task) (inputs : List Input) {made : Outcome} → IsTask Cutters asked task
     → Makes asked inputs made → made ≡ made_by task inputs
 makes_task (Tee asked) task inputs of makes = absurd of
@@ -583,14 +583,14 @@ pub same_content : {content other : Content} {inputs : List Input} → inputs �
     → inputs ≡ standard_input other ∷ [] → content ≡ other
 same_content {content} {other} one two = grind (arith, common_steps)
 
--- what a run left that did what is asked for
+-- what a run left if it did what is asked for
 pub record LeftBy (run : Run) (asked : Settings) : Type 0 where
   pub made : Outcome
   pub of : Makes asked (inputs_at run.world (names_of asked)) made
   pub fits : Fits (TellsMet run asked) (removes_files asked) made
   pub left : IsLeft (speaker_of run.calling asked) made run.outputs run.status
 
--- what each tool does with its inputs is so
+-- the works of each tool have live files, and remove files exactly if `removes_files` says so
 pub task_lives : (calling : Calling) (asked : Settings) (task : Task) → IsTask calling asked task
     → AreLiving task.work (removes_files asked)
 task_lives calling (Head asked) task is = grind (arith, common_steps, head_makes)
@@ -617,7 +617,7 @@ ends_left {run} {asked} {task} of makes (as_defined error reached says outputs s
     }
 ends_left of makes ends unstopped = absurd unstopped
 
--- it did so, over what it found
+-- the run did what is asked for, over the inputs that it found
 abbrev pub Did : Run → Settings → Type 0
 Did run asked =
     DoesAsked run.calling true true asked (inputs_at run.world (names_of asked)) run.inputs run.outputs run.status
@@ -648,7 +648,7 @@ does_left run asked does unstopped = ends_left {asked = asked} refl (_, refl, re
 pub completes_left : {run : Run} {asked : Settings} → Completes run asked → LeftBy run asked
 completes_left {run} {asked} whole = does_left run asked whole.does whole.unstopped
 
--- what the words of a run ask for was done, over what the run found, or its operands were refused
+-- What the words of a run ask for was done, over what the run found, or its operands were refused.
 
 not_refused : {A B C : Type 0} → A ⊎ (B × C) → A ⊎ C
 not_refused (inl did) = inl did
@@ -658,9 +658,9 @@ pub ran_over : {run : Run} {asked : Settings} → Ran run asked
     → Did run asked ⊎ RefusesOperands run.calling true run.words asked run.outputs run.status
 ran_over ran = grind (arith, common_steps, not_refused)
 
--- Two runs that were asked for the same, over the same inputs
+-- Two runs that were asked for the same, over inputs that are alike.
 
--- `tee` makes the same of inputs that give the same
+-- `tee` makes the same of inputs that give the same bytes
 given_whole : {asked : TeeAsked} {shown : Option (List ℕ)} {content : Content} {bytes : List ℕ}
     → Gives (Tee asked) shown content bytes → (content.bytes ≡ bytes) × (content.breaks_off ≡ false)
 given_whole (in_full all ends steady) = (all, ends)
@@ -677,7 +677,7 @@ tee_alike : (asked : TeeAsked) (content other : Content)
 tee_alike asked content other (are_same is) = grind (arith, common_steps, same_content)
 tee_alike asked content other (give_same bytes named gives gives_too) = grind (arith, common_steps, given_content)
 
--- what each tool makes of an input that gives these bytes is the same, whether it shows them or not
+-- each tool makes the same of an input that gives these bytes, whether the input shows them or not
 pub task_knows : (calling : Calling) (asked : Settings) (task : Task) → IsTask calling asked task
     → KnowsNoMore asked task.work
 task_knows calling (Head asked) task is =
@@ -688,7 +688,7 @@ task_knows calling (Split asked) task is = rw is (split_knows asked (filing_of a
 task_knows calling (Csplit asked) task (operands, asks, is) = rw is (shows_none (Csplit asked) _ refl)
 task_knows calling asked task is = absurd is
 
--- what is made of inputs is what is made of others that are alike
+-- what is asked for makes the same of inputs that are alike
 alike_makes : (asked : Settings) (ones others : List Input) {made made_too : Outcome} → AllAlike asked ones others
     → Makes asked ones made → Makes asked others made_too → made_too ≡ made
 alike_makes (Tee asked) ones others alike (content, only, is) (content_too, only_too, is_too) =
@@ -697,7 +697,7 @@ alike_makes (About which topic) ones others alike is is_too = is_too ∙ sym is
 alike_makes asked ones others alike (task, of, is) makes_too = makes_task asked task others of makes_too
     ∙ sym (is ∙ all_made_alike asked task (task_knows Cutters asked task of) true ones others alike)
 
--- what the one made is what the other does
+-- two runs that were asked for the same, over inputs that are alike, make the same
 pub same_made : (one other : Run) {asked : Settings} {made made_too : Outcome}
     → settings_of one.calling one.words ≡ Ok asked → settings_of other.calling other.words ≡ Ok asked
     → FindAlike asked one other

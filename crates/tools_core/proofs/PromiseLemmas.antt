@@ -1,5 +1,6 @@
--- What a run that met no fault leaves: just its part, as its definition says, and nothing on standard error; so what `head`, `tail` and
--- `tee` leave of one input, and that what any run leaves is a beginning of it.
+-- Lemmas on what a run leaves if it met no fault: exactly its part, as its definition says, and nothing on standard
+-- error. Also on what `head`, `tail` and `tee` leave of one input; and what any run leaves is a beginning of what its
+-- inputs make.
 use Rattle.std.proofs.{
   lemmas.{Grind.common_steps, List.Elements.All-map},
   Common.{◌≡◌, ℕ, Bool, true, false, if◌then◌else◌, List, [], ◌∷◌, Option, Some, None, inl, inr, refl, sym, ◌∙◌, ap},
@@ -58,20 +59,20 @@ leave_same one other asked does does_too same =
     )
     (sym (left_whole there.fits there.left does_too.well).slots)
 
--- One input, which ends
+-- One input, which ends.
 
 lies_there : (world : World) (name : List ℕ) (dash : Bool)
     → (input_of world false 1 name dash).content ≡ (if dash then Some world.standard else world.laid 1 name)
 lies_there world name true = refl
 lies_there world name false = refl
 
--- it shows what lies there
+-- the input shows what lies at its name
 shows_all : (world : World) (name : List ℕ) (dash : Bool)
     → (input_of world false 1 name dash).shown ≡ shown_of (input_of world false 1 name dash).content
 shows_all world name true = refl
 shows_all world name false = refl
 
--- what was made of it
+-- what was made of the only input of a run
 pub record DidOne (run : Run) (asked : Settings) (bytes : List ℕ) : Type 0 where
   pub input : Input
   pub gives : GivesBytes asked input bytes
@@ -102,7 +103,7 @@ did_one {run} {asked} {bytes} does has =
       slots = whole.slots;
     }
 
--- as much as if it showed nothing
+-- what was made of the only input is what is made of it if it shows nothing
 pub record IsMade (task : Task) (name bytes : List ℕ) (new : List Slot) : Type 0 where
   pub unjudged : (task.work None).verdict bytes ≡ None
   pub slots : new ≡ slots_of (part_of task name bytes)
@@ -117,7 +118,7 @@ one_made {asked} {bytes} one task of =
 
 -- What `head` and `tail` leave of one input.
 
--- what is on standard output, where no header is written
+-- what standard output has if no header is written
 bare_output : (task : Task) (name input : List ℕ) (work : Work) {new : List Slot} → task.with_header ≡ false
     → task.work None ≡ work → new ≡ slots_of (part_of task name input)
     → (slot_at new 0).written ≡ (work.whole input).out
@@ -143,7 +144,7 @@ tail_output options {sign} {n} {input} bare (looks, pause, process, does) has =
     bare_output task one.input.name input (tail_work options.delim options.unit (is_plus sign) n) bare
     (tail_in-None options.delim options.unit (is_plus sign) n) made.slots
 
--- lines alone have a delimiter
+-- the delimiter matters only for lines
 tail_of-alike : (unit : Counted) (one other : ℕ) (from_nth : Bool) (n : ℕ) (x : List ℕ) → (unit ≡ Lines → one ≡ other)
     → tail_of one unit from_nth n x ≡ tail_of other unit from_nth n x
 tail_of-alike Lines one other from_nth n x delim = rw (delim refl)

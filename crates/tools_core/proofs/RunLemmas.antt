@@ -1,4 +1,4 @@
--- How a run ends, by its words.
+-- Lemmas on how a run ends, by its words.
 use Rattle.std.{
   specs.Option.unwrap_or,
   proofs.Common.{◌≡◌, ℕ, List, [], ◌∷◌, Option, Some, None, option_map, Result, Ok, Err, refl, ◌∙◌, ap, subst},
@@ -58,7 +58,7 @@ use Rattle.ports_core.specs.declared.tool.Tool.TheVariants as tool
 use Rattle.tee_core.specs.Run as copies
 use Rattle.operand_core.specs.declared.operand_fault.OperandFaultKind.TheVariants as kind
 
--- The tool that runs is the one that the words name.
+-- The tool that runs is the tool that the words name.
 
 by_check : {A : Type 0} (which : Tool) (make : A → Settings) (checked : Result A Fault) {settings : Settings}
     → ((asked : A) → which ≡ tool_of (make asked)) → then_check checked (λ asked. Ok (make asked)) ≡ Ok settings
@@ -86,7 +86,7 @@ by_topic : (topic : Option Topic) {settings : Settings} → program_asked topic 
 by_topic (Some topic) {settings} is = let same : About tool.Cutters topic ≡ settings = cc in rw (← same) (refl, tt)
 by_topic None is = absurd (cc)
 
--- and what the words ask for can be done
+-- What the words ask for can be done.
 
 by_given : (calling : Calling) (name : List ℕ) {row : ToolRow} (words : List (List ℕ)) {settings : Settings}
     (given : Result Given Fault) → Some row ≡ row_named tools name → given_by calling row words ≡ given
@@ -109,7 +109,7 @@ pub by_words : (calling : Calling) (words : List (List ℕ)) {settings : Setting
 by_words calling [] is = absurd (cc)
 by_words calling (name ∷ words) is = by_row calling name words (row_named tools name) refl is
 
--- Lemmas on how a run ends, by its words.
+-- How a run over inputs ends, by its words.
 
 -- the names that a run reads are those of its settings
 pub ends_names : {asked : EndsAsked} {unit : Counted} {count : Count} {headers : Headers} {delim : ℕ}
@@ -125,9 +125,9 @@ pub ends_names : {asked : EndsAsked} {unit : Counted} {count : Count} {headers :
     → map (λ (name : Bor (List ℕ)). name.now) now ≡ asked.names
 ends_names same is = cc (same, is)
 
--- `tee` over what is there
+-- `tee` over standard input.
 
--- the name that it reads finds standard input
+-- the name that `tee` reads leads to standard input
 pub finds_standard : {told : Bool} {laid : ℕ → List ℕ → Option Content} (sources : List Source) {content : Content}
     → (told ≡ true → content ≡ (source_at sources 0).left)
     → Finds told (world_of laid sources) (codes "-" ∷ []) (standard_input content ∷ [])
@@ -136,9 +136,9 @@ finds_standard {laid} sources {content} there = record {
   there = λ t. rw (there t);
 }
 
--- words that weren't read for want of memory, where they ask for this
+-- Words that weren't read, since there was no memory, by what they ask for.
 
--- an input that wasn't read, whether it tells its bytes or not
+-- an input that wasn't read, whether its bytes are visible or not
 unread_source : (told : Bool) {sources : List Source} → IsFresh sources
     → OfContent told (source_at sources 0).left (λ content. IsAsFound told content (source_at sources 0)
     × CameFrom told content (source_at sources 0))
@@ -159,7 +159,7 @@ unread_source false fresh =
 lacks_memory : (asked : CsplitAsked) → HasBadOperand asked Memory
 lacks_memory asked = (record { kind = kind.Memory; index = 0 }, no_memory 0, refl)
 
--- words that are refused, or weren't read for want of memory
+-- Words that are refused, or weren't read since there was no memory.
 
 refused_memory : {calling : Calling} {told : Bool} (words : List (List ℕ)) (fault : Fault) {new : List Slot}
     {status : ℕ}
@@ -172,7 +172,7 @@ refused_memory words fault refuses = record {
   failed = refuses.failed;
 }
 
--- the message that refuses words was said, and nothing else was done
+-- the message that refuses words was written, and nothing else was done
 pub refused_by_line : {calling : Calling} {told : Bool} {words : List (List ℕ)} (fault : Fault) {old new : List Slot}
     → old ≡ streams → SaysOn told (refuser calling words) Other (refusal calling words fault) old new
     → RefusesFor calling told words fault new 1
@@ -187,14 +187,14 @@ pub refused_usage : {calling : Calling} {told : Bool} {words : List (List ℕ)} 
     → RefusesFor calling told words (Usage kind place) new 1
 refused_usage kind place is fresh says = refused_by_line (Usage kind place) fresh (rw is at says)
 
--- a fault that is none of words has the message of any fault
+-- a fault that isn't about words is refused with its own message
 pub plain_refusal : (calling : Calling) (words : List (List ℕ)) (fault : Fault)
     → ((kind : UsageKind) (place : ℕ) → fault ≡ Usage kind place → ⊥)
     → message_of fault [] ≡ refusal calling words fault
 plain_refusal calling words (Usage kind place) none = absurd (none kind place refl)
 plain_refusal calling words fault none = refl
 
--- what is said of the words is said by the tool that they ask for
+-- the tool that writes a message is the tool that the words ask for
 pub worded_by : {told : Bool} {message : Message} (calling : Calling) {which tool : Tool} {old new : Slot}
     → which ≡ tool → Says told (by calling which) message old new → Says told (by calling tool) message old new
 worded_by calling is says = rw is at says
@@ -208,7 +208,7 @@ says_as calling words is refuses =
 module _ (calling : Calling) (told_in told : Bool) (words : List (List ℕ))
     (laid : ℕ → List ℕ → Option Content) (sources : List Source) (new : List Slot) (status : ℕ)
     (fresh : IsFresh sources) where
-  -- no input was touched by a run of words that mean this
+  -- how a run ends that touches no input, if its words mean this
   abbrev pub EndsUnread : Result Settings Fault → Type 0
   EndsUnread meant = RunsOver told_in (world_of laid sources) (names_at meant)
       (λ found. RunEndsAt calling told_in told words found sources sources new status meant)
@@ -254,9 +254,9 @@ module _ (calling : Calling) (told_in told : Bool) (words : List (List ℕ))
   refused_or_memory {fault} (inr (inr (settings, is, bad))) refuses = rw is (operands_refused settings fault bad refuses)
   refused_or_memory (inl is) refuses = unread_for (settings_of calling words) refl (rw is at refuses)
 
--- Lemmas on how a run that follows ends, by its words.
+-- How a run that follows ends, by its words.
 
--- how soon looks begin doesn't depend on what becomes of names
+-- how names are followed changes nothing about how soon looks begin
 pub shows_by-waiting : (calling : Calling) (how : Method) (milliseconds : ℕ) (shows : ℕ → Snapshot)
     → shows_by calling how (λ n. waiting milliseconds (shows n))
     ≡ (λ n. waiting milliseconds (shows_by calling how shows n))
@@ -272,7 +272,7 @@ shows_by-waiting Cutters FirstFile milliseconds shows = refl
 module _ (calling : Calling) (told_in told : Bool) (words : List (List ℕ)) (looks : ℕ)
     (shows : ℕ → Snapshot) (seen : List Snapshot) (watched : List Watched) (new : List Slot) (status : ℕ)
     (unseen : seen ≡ []) (unwatched : watched ≡ []) where
-  -- words that weren't read for want of memory
+  -- Words that weren't read, since there was no memory.
 
   unread_tail : (asked : TailSettings) (followed : Option Followed) → speaker words ≡ tool.Tail
       → RefusesFor calling told words Memory new status
@@ -310,9 +310,9 @@ module _ (calling : Calling) (told_in told : Bool) (words : List (List ℕ)) (lo
   refused_words {fault} (inr (inr (settings, is, bad))) refuses = rw is (operands_unread settings fault bad refuses)
   refused_words (inl is) refuses = unread_files (settings_of calling words) refl (rw is at refuses)
 
--- Which of both runs the words ask for.
+-- Which of the two kinds of runs the words ask for.
 
--- what words leave that are refused, whichever run they ask for
+-- how a run ends if its words are refused, whichever kind of run they ask for
 pub program_refuses : (calling : Calling) (told_in told_watched : Bool) {told : Bool}
     (words : List (List ℕ)) (laid : ℕ → List ℕ → Option Content) {sources : List Source} (shows : ℕ → Snapshot)
     {seen : List Snapshot} {watched : List Watched} {fault : Fault} {new : List Slot} {status : ℕ} → IsFresh sources

@@ -1,4 +1,4 @@
--- Lemmas on inputs that give what they show before they are read: what is made of them is what is made of those that show nothing.
+-- Lemmas on inputs that give what they showed: what is made of them is what is made of inputs that show nothing.
 use Rattle.std.proofs.{
   Common.{◌≡◌, ◌⊎◌, ℕ, ◌&&◌, Bool, true, false, not, List, [], ◌∷◌, ◌++◌, Option, Some, None, inl, inr, refl, sym, ◌∙◌, ap, length},
   Common.option_map,
@@ -30,20 +30,20 @@ use Rattle.tools_core.specs.{
 }
 use Rattle.seg_core.specs.declared.cut.Way.TheVariants as way
 
--- A work makes the same of each text, whether its input shows it first or shows nothing. What an input shows is no matter
--- where the tool doesn't look.
+-- A work makes the same of each text, whether its input shows the text first or shows nothing. If the tool doesn't look
+-- at inputs, what an input shows doesn't matter.
 pub record KnowsNoMore (asked : Settings) (work : Option (List ℕ) → Work) : Type 0 where
   pub blind : (shown : Option (List ℕ)) → looks asked ≡ false → work shown ≡ work None
   pub whole : (text : List ℕ) → (work (Some text)).whole text ≡ (work None).whole text
   pub verdict : (text : List ℕ) → (work (Some text)).verdict text ≡ (work None).verdict text
   pub clears : (text : List ℕ) → (work (Some text)).clears ≡ (work None).clears
-  -- whatever comes after the text, where the tool looks for its end
+  -- if the tool looks for the end of the text, what comes after it doesn't matter
   pub enough : (text more : List ℕ) → looks_for_ends asked ≡ true
       → ((work (Some text)).is_complete (text ++ more) ≡ true)
       × ((work (Some text)).whole (text ++ more) ≡ (work None).whole text)
       × ((work (Some text)).verdict (text ++ more) ≡ (work None).verdict text)
 
--- one that is the same whatever is shown
+-- a work that is the same whatever is shown
 pub shows_none : (asked : Settings) (work : Work) → looks_for_ends asked ≡ false → KnowsNoMore asked (λ shown. work)
 shows_none asked work none = record {
   blind = λ shown is. refl;
@@ -53,7 +53,7 @@ shows_none asked work none = record {
   enough = λ text more is. absurd (cc);
 }
 
--- where nothing is shown, they know nothing
+-- The works of `head` and `tail` if nothing is shown.
 
 pub head_in-None : (delim : ℕ) (unit : Counted) (but_last : Bool) (n : ℕ)
     → head_in delim unit but_last n None ≡ head_work delim unit but_last n
@@ -65,7 +65,7 @@ pub tail_in-None : (delim : ℕ) (unit : Counted) (from_nth : Bool) (n : ℕ)
 tail_in-None delim unit true n = refl
 tail_in-None delim unit false n = refl
 
--- the works of `head` and `tail` are lawful, whatever is shown
+-- The works of `head` and `tail` are lawful, whatever is shown.
 
 pub head_in_lawful : (delim : ℕ) (unit : Counted) (but_last : Bool) (n : ℕ) (shown : Option (List ℕ))
     → IsLawful (head_in delim unit but_last n shown)
@@ -118,7 +118,7 @@ pub tail_knows : (asked : TailSettings)
     (tail_in asked.ends.delim asked.ends.unit (is_plus asked.ends.count.sign) asked.ends.count.amount)
 tail_knows asked = tail_knows_by asked (is_plus asked.ends.count.sign) refl
 
--- the length of the text that was shown is that of what came
+-- a text has the length that it showed
 said_so : (text : List ℕ) → is_as_said (Some (length text)) text ≡ true
 said_so text = eq-eqb (length text) (length text) refl
 
@@ -152,7 +152,7 @@ of_fields task work is_first name bytes breaks_off =
 
 module _ (asked : Settings) (task : Task) (knows : KnowsNoMore asked task.work) (is_first : Bool)
     (name bytes : List ℕ) where
-  -- the tool looks or not
+  -- a text that was shown and came in full makes the same as if nothing was shown, whether the tool looks or not
   shown_too : (shown : Option (List ℕ)) (does : Bool) → looks asked ≡ does
       → (does ≡ true → (shown ≡ None) ⊎ (shown ≡ Some bytes))
       → of_fields task (task.work shown) is_first name bytes false
@@ -164,7 +164,7 @@ module _ (asked : Settings) (task : Task) (knows : KnowsNoMore asked task.work) 
     | inr all ↦ rw (all, knows.whole bytes, knows.verdict bytes, knows.clears bytes) refl
   ]
 
-  -- what comes after the bytes that are shown is no matter where the tool looks for their end
+  -- what comes after the bytes that were shown doesn't matter if the tool looks for their end
   shown_first : (more : List ℕ) (breaks_off : Bool) → looks_for_ends asked ≡ true
       → of_fields task (task.work (Some bytes)) is_first name (bytes ++ more) breaks_off
       ≡ of_fields task (task.work None) is_first name bytes false
@@ -180,12 +180,12 @@ module _ (asked : Settings) (task : Task) (knows : KnowsNoMore asked task.work) 
   given shown content (in_full all ends steady) = rw (all, ends) (shown_too shown (looks asked) refl steady)
   given shown content (at_first more all looks shows) = rw (shows, all) (shown_first more content.breaks_off looks)
 
-  -- what is made of an input that gives these bytes
+  -- what is made of an input that gives these bytes, as if it showed nothing
   pub steady_made : (input : Input) → input.name ≡ name → GivesBytes asked input bytes
       → of_input task is_first input ≡ of_content task (task.work None) is_first name (Some (unshown bytes))
   steady_made input named gives = rw (named, gives.is) (given input.shown gives.content gives.gives)
 
--- both are missing, or none is
+-- of two inputs that are alike, both are missing or none is
 missing_alike : (asked : Settings) (one other : Input) → AreAlike asked one other
     → is_missing one.content ≡ is_missing other.content
 missing_alike asked one other (are_same is) = rw is
@@ -199,7 +199,7 @@ alike_made asked task knows is_first one other (give_same bytes named gives give
     steady_made asked task knows is_first other.name bytes one named gives
     ∙ sym (steady_made asked task knows is_first other.name bytes other refl gives_too)
 
--- so what is made of alike inputs is the same
+-- what is made of inputs that are alike is the same
 pub all_made_alike : (asked : Settings) (task : Task) → KnowsNoMore asked task.work → (is_first : Bool)
     (ones others : List Input) → AllAlike asked ones others
     → of_inputs task is_first ones ≡ of_inputs task is_first others
@@ -211,7 +211,7 @@ all_made_alike asked task knows is_first (one ∷ ones) (other ∷ others) alike
     ∙ ap (joined (of_input task is_first other)) (rw (missing_alike asked one other alike.0)
     (all_made_alike asked task knows (is_first && is_missing other.content) ones others alike.1))
 
--- inputs are as themselves
+-- inputs are like themselves
 pub all_alike : (asked : Settings) (inputs : List Input) → AllAlike asked inputs inputs
 all_alike asked [] = tt
 all_alike asked (input ∷ inputs) = (are_same refl, all_alike asked inputs)

@@ -1,5 +1,5 @@
--- What `split` leaves of its input, also where that gives fewer or more bytes than it showed before, and that names by places are in
--- order.
+-- Lemmas on what `split` leaves of its input, whether or not it has the length that it showed; and on the order of
+-- names.
 use Rattle.std.proofs.{
   lemmas.Grind.common_steps,
   lemmas.Bool.{cases_lt, cond_both},
@@ -90,16 +90,16 @@ by_places : (names : List (List ℕ))
 by_places (name ∷ next ∷ names) each = (each 0 (omega arith), by_places (next ∷ names) (λ k within. each (suc k) (omega (arith, within))))
 by_places names each = tt
 
--- files that are named by their places
+-- files that are named by their places are in order, if these names are
 pub order_by : (name : ℕ → List ℕ) (files : List Slot)
     → ((place : ℕ) → place < length files → text_at (map (λ (file : Slot). file.name) files) place ≡ name place)
     → ((k : ℕ) → suc k < length files → slice_cmp nat_cmp (name k) (name (suc k)) ≡ Less)
     → AreInOrder (map (λ (file : Slot). file.name) files)
 order_by name files named less = grind (arith, common_steps, by_places, length-map)
 
--- The pieces, and their files
+-- The pieces, and their files.
 
--- a name for each
+-- if no verdict says that names ran out, there are enough names
 pub not_short : (has : Bool) → cond (not has) (Some Suffixes) None ≡ None → has ≡ true
 not_short true well = refl
 not_short false well = absurd (cc)
@@ -119,9 +119,9 @@ all_named filing {pieces} are = rw (
   each_named filing.names pieces (ap (are_named filing.names) (sym (length-map pieces (share Closed))) ∙ are),
 )
 
--- Their names
+-- The names of the files.
 
--- the files have these names from this place on
+-- the files have the names of the numbers from `start` on
 abbrev pub AreNamed : (ℕ → List ℕ) → ℕ → List File → Type 0
 AreNamed name start files = (k : ℕ) → k < length (map slot_of files) → text_at
     (map (λ (file : Slot). file.name) (map slot_of files)) k ≡ name (start + k)
@@ -139,7 +139,7 @@ named_from manner start (one ∷ shares) k within = cond_both (manner.has_name s
     (named_from manner (start + 1) shares))
     (λ lacks k within. absurd (omega (arith, within))) k within
 
--- the files that are made of shares, all of which ended
+-- the files are named by their places, and are sound
 pub record AreMade (manner : Manner) (files : List Slot) : Type 0 where
   pub named : (place : ℕ) → place < length files
       → text_at (map (λ (file : Slot). file.name) files) place ≡ manner.name place
@@ -153,7 +153,7 @@ are_made manner shares ended = record {
       (each_made (λ (file : File). IsSound Fresh (slot_of file)) manner 0 shares (λ k one within place. (refl, ended k one within, refl)));
 }
 
--- What standard output is told of them
+-- The lines about files on standard output.
 
 told_lines : (verbose : Bool) (files : List File)
     → told_of_files (output_by verbose) files ≡ cond verbose (lines_telling (map slot_of files)) []
@@ -161,26 +161,26 @@ told_lines false files = refl
 told_lines true [] = refl
 told_lines true (file ∷ files) = rw (told_lines true files)
 
--- What a run leaves
+-- What a run leaves.
 
--- what the files have
+-- what each file has
 abbrev pub pieces_by : Way → Bool → List ℕ → List (List ℕ)
 pieces_by (way.Cut cut) elide x = pieces_of cut elide x
 pieces_by (way.Chunks chunks) elide x = kept elide (chunks_in chunks x)
 pieces_by way elide x = []
 
--- and what standard output has, where it gets what one file would have
+-- what standard output has if it gets what one file would have
 abbrev pub alone_by : Way → List ℕ → List ℕ
 alone_by (way.Chunk place chunks) x = get_or (chunks_in chunks x) place []
 alone_by (way.Turn place n delim) x = share_of delim n x place
 alone_by way x = []
 
--- in the end a text is cut up into its chunks, and nothing is left
+-- at the end a text is cut up into its chunks, and nothing is left
 ends_cut : (chunks : Chunks) (said : Option ℕ) (x : List ℕ) → 0 < chunks.count → size_by said x ≡ length x
     → in_the_end chunks said x ≡ record { full = chunks_in chunks x; rest = [] }
 ends_cut chunks said x some long = rw (long, rest_none chunks (length x) x some (omega arith))
 
--- what the work makes of the whole
+-- what the work makes of the whole text
 module _ (asked : SplitAsked) (x : List ℕ) where
   whole_is : (way : Way) → IsInLimits way → makes_files way ≡ true
       → (way_work way asked.elide (filing_of asked) None).whole x
@@ -283,12 +283,12 @@ is_split {run} {asked} {input} does has = by (makes_files asked.way) refl where
         alone = λ is. rw left;
       }
 
--- Pieces of n lines or bytes
+-- Pieces of n lines or bytes.
 
 up_to : (i count n : ℕ) → i < count → i * n + n ≤ count * n
 up_to i count n less = grind (arith, common_steps)
 
--- this many runs of n members have all that there are, and one run less has not
+-- this many runs of n members have all members, and one run less doesn't
 abbrev AreFew : ℕ → ℕ → ℕ → Type 0
 AreFew count n all = (all ≤ count * n) × (count * n < all + n)
 
@@ -312,7 +312,7 @@ line_pieces delim {n} {x} some =
     run_pieces (line_count delim) some (joined_parts (limit.Lines n delim) x) (lines_count delim n x some)
     (λ i. rw (part_lines delim n i x some) (run_size n i (lines_of delim x)))
 
--- as many lines as there are delimiters end with one
+-- the first k lines of a text with k delimiters or more end with the delimiter
 lines_end : (delim : ℕ) {k : ℕ} (bytes : List ℕ) (ends : Bool) → 0 < k → k ≤ delimiters delim bytes
     → ends_with delim (first_lines delim k bytes) ≡ ends → ends ≡ true
 lines_end delim bytes true some enough is = refl
@@ -326,7 +326,7 @@ lines_end delim {k} bytes false some enough is =
     line_count-open delim (first_lines delim k bytes) (omega (arith, all, long, some)) is in
     absurd (omega (arith, all, count, one_more))
 
--- the lines from this place on hold a run of n lines and more
+-- at the beginning of a run that isn't the last, more than n members are left
 more_lines : {n : ℕ} (i : ℕ) {count : ℕ} (all : ℕ) → count * n < all + n → i + 1 < count → n < all - i * n
 more_lines {n} i {count} all few next = grind (arith, common_steps)
 
@@ -349,7 +349,7 @@ byte_pieces {n} {x} some =
     run_pieces length some (joined_parts (limit.Bytes n) x) (bytes_count n x some)
     (λ i. rw (part_bytes n i x some) (run_size n i x))
 
--- Pieces of whole lines within n bytes
+-- Pieces of whole lines within n bytes.
 
 ends_line : (delim : ℕ) {n : ℕ} (bytes : List ℕ) → length bytes ≡ n → EndsLine delim n (whole_lines delim bytes)
 ends_line delim bytes long = grind (arith, common_steps, cases_lt, whole_of_lines, lines_end, whole_of_none)
@@ -360,13 +360,13 @@ uncut delim n _ _ (piece.more x pieces enough past) zero next = ends_line delim 
 uncut delim n _ _ (piece.more x pieces enough past) (suc place) next = uncut delim n _ pieces past place (omega (arith, next))
 uncut delim n x pieces are place next = search rules
 
--- each piece has as many lines as fit
+-- Each piece has as many lines as fit.
 
 some_line : (delim : ℕ) (text : List ℕ) → 0 < length text → 0 < length (first_lines delim 1 text)
 some_line delim [] some = search rules
 some_line delim (byte ∷ text) some = grind (arith, common_steps)
 
--- the line after the complete ones of a front, which is completed
+-- the line after the complete lines of a front, with a delimiter after the rest
 line_after : (delim : ℕ) (front rest : List ℕ) {k : ℕ} → k ≡ delimiters delim front
     → length (first_lines delim (k + 1) ((front ++ rest) ++ delim ∷ []))
     ≡ length front + length (first_lines delim 1 (rest ++ delim ∷ []))
@@ -404,7 +404,7 @@ same_line delim next rest some = rw (
   first_lines-full delim 1 next (delim ∷ []) (omega (arith, some)),
 )
 
--- the next piece has the next line, or n bytes of it
+-- a part that has no room for the next line of the rest has no room for the first line of the next piece
 filled_by : (delim : ℕ) {n : ℕ} (part rest : List ℕ) → n ≤ length rest → IsFilled delim n part rest
     → IsFilled delim n part (whole_lines delim (take n rest))
 filled_by delim {n} part rest enough filled =
@@ -437,7 +437,7 @@ each_filled {delim} {n} (piece.more x pieces enough past) zero next =
 each_filled (piece.more x pieces enough past) (suc place) next = each_filled past place (omega (arith, next))
 each_filled are place next = search rules
 
--- a line that is open after others has room for its delimiter
+-- a piece that has complete lines and ends with an open line has room for the delimiter of this line
 rooms : (delim n : ℕ) {x : List ℕ} {pieces : List (List ℕ)} → AreLineByteParts delim n x pieces → (place : ℕ)
     → place < length pieces → 0 < delimiters delim (text_at pieces place)
     → ends_with delim (text_at pieces place) ≡ false → length (text_at pieces place) < n
@@ -458,7 +458,7 @@ line_byte_pieces {delim} {n} {x} some =
       room = rooms delim n are;
     }
 
--- There is just one list of such pieces.
+-- There is exactly one list of such pieces.
 
 -- no delimiter stands before the end of the first line
 before_end : (delim m : ℕ) (text : List ℕ) → m < length (first_lines delim 1 (text ++ delim ∷ []))
@@ -472,7 +472,7 @@ before_end delim m text less = elim (cases_lt 0 (delimiters delim (take m text))
       absurd (omega (arith, less, ap length same, short, length-take m text))
 ]
 
--- a piece that is the whole lines of the first n bytes
+-- a piece that is the whole lines of the first n bytes can stand before the pieces of the rest
 piece_before : {delim n : ℕ} (one rest : List ℕ) {pieces : List (List ℕ)} → n ≤ length (one ++ rest)
     → whole_lines delim (take n (one ++ rest)) ≡ one → AreLineByteParts delim n rest pieces
     → AreLineByteParts delim n (one ++ rest) (one ∷ pieces)
@@ -549,7 +549,7 @@ one_line_list delim n input some other positive these those =
     line_bytes_once positive (rw these.all at (pieces_are_parts delim n some these))
     (rw those.all at (pieces_are_parts delim n other those))
 
--- Lines dealt in turn
+-- Lines dealt in turn.
 
 -- a file that is left out has no line
 dealt_at : (delim : ℕ) {n : ℕ} (elide : Bool) (x : List ℕ) {file : ℕ} → file < n
@@ -573,7 +573,7 @@ dealt_lines {delim} {n} {elide} {x} some = record {
   left_out = λ is. rw is (all_some (round_robin delim n x));
 }
 
--- Chunks
+-- Chunks.
 
 -- empty files have no lines
 pub whole_line_files : (chunks : Chunks) (elide : Bool) (x : List ℕ) → 0 < chunks.count → chunks.unit ≡ Lines
@@ -586,9 +586,9 @@ whole_line_files chunks elide x some unit = lines_kept elide (chunks_in chunks x
   lines_kept true ([] ∷ pieces) = lines_kept true pieces
   lines_kept true ((byte ∷ bytes) ∷ pieces) = rw (lines_kept true pieces)
 
--- By the way to split
+-- Files by the way to split.
 
--- what is true of the pieces, where they are within limits, is true of the files
+-- what is true of the pieces of a way within its limits is true of the files
 pub by_way : {run : Run} {asked : SplitAsked} {way : Way} {input : List ℕ} (P : List (List ℕ) → Type 0)
     → (IsInLimits way → P (pieces_by way asked.elide input)) → Does run (Split asked) → HasInput run input
     → asked.way ≡ way → P (contents_of run)
@@ -596,20 +596,20 @@ by_way {asked} {way} {input} P holds does has is =
     let split = is_split does has in
     rw (split.contents, is) (holds (rw is at split.can.way))
 
--- what a run wrote to standard output alone
+-- what a run wrote that writes to standard output alone
 pub wrote_alone : {run : Run} {asked : SplitAsked} {way : Way} {input : List ℕ} → Splits run asked way input
     → makes_files way ≡ false → output_of run ≡ alone_by way input
 wrote_alone {input = input} splits makes =
     rw splits.is at ((is_split splits.does splits.has).alone (rw splits.is makes))
 
--- One file alone
+-- One file alone.
 
 module _ {one : Run} {asked : SplitAsked} {place n delim : ℕ} {input : List ℕ}
     (splits : Splits one asked (way.Turn place n delim) input) where
   can_turn : IsInLimits (way.Turn place n delim)
   can_turn = rw splits.is at (is_split splits.does splits.has).can.way
 
-  -- it is one of those that all files have
+  -- what one file would have is what it has if all files are written
   pub turn_is : output_of one ≡ text_at (round_robin delim n input) place
   turn_is = wrote_alone splits refl
       ∙ sym (get_or-map-range_with_len (share_of delim n input) 0 n place place [] can_turn.1 (omega arith))
@@ -623,9 +623,9 @@ flat_alike f g start zero same = refl
 flat_alike f g start (suc n) same =
     rw (same start (omega arith), flat_alike f g (start + 1) n (λ place within. same place (omega (arith, within))))
 
--- Of an input that gives fewer or more bytes than it showed before
+-- An input that gives fewer or more bytes than it showed.
 
--- what is made of an input that ends, where its work has this whole and this verdict
+-- what is made of an input that ends, if its work has this whole and this verdict
 abbrev made_at : Task → List ℕ → Part → Option Verdict → Outcome
 made_at task name whole verdict = record {
   part = whole;
@@ -634,7 +634,7 @@ made_at task name whole verdict = record {
   sweeps = false;
 }
 
--- so it is of one input without a header, where files stay
+-- one input without a header makes this outcome, if files stay
 judged_made : (task : Task) (work : Work) (name : List ℕ) (content : Content) (verdict : Option Verdict)
     → content.breaks_off ≡ false → work.verdict content.bytes ≡ verdict → work.clears ≡ false → task.with_header ≡ false
     → both_made (of_content task work true name (Some content)) no_outcome
@@ -647,12 +647,12 @@ module _ {split : Run} {asked : SplitAsked} {input : Input} {shown bytes : List 
   abbrev task : Task
   task = split_task Cutters asked
 
-  -- the run left this, of which each line tells what it met
+  -- the run left this outcome, and each of its lines reports what it met
   abbrev LeftSo : Outcome → Type 0
   LeftSo made = Fits (TellsMet split (Split asked)) (removes_files (Split asked)) made
       × IsLeft (speaker_of split.calling (Split asked)) made split.outputs split.status
 
-  -- it left what its work makes of what came
+  -- the run left what its work makes of the bytes that came
   left_so : (work : Work) (verdict : Option Verdict)
       → way_work asked.way asked.elide (filing_of asked) (Some (length shown)) ≡ work → work.clears ≡ false
       → work.verdict bytes ≡ verdict → LeftSo (made_at task input.name (work.whole bytes) verdict)
@@ -671,7 +671,7 @@ module _ {split : Run} {asked : SplitAsked} {input : Input} {shown bytes : List 
         (made_by task) only ∙ rw (gives.showed, gives.gave, is)
         (judged_made task work input.name content verdict refl judged stay refl)
 
-  -- by the way that was asked for
+  -- the work is that of the way that was asked for
   way_is : {way : Way} → asked.way ≡ way → way_work asked.way asked.elide (filing_of asked) (Some (length shown))
       ≡ way_work way asked.elide (filing_of asked) (Some (length shown))
   way_is is = rw is

@@ -1,4 +1,4 @@
--- A run that a fault stopped told it, and which outputs are broken then.
+-- Lemmas: a run that a fault stopped reported the fault; and which outputs are broken then.
 use Rattle.std.{
   proofs.lemmas.{Grind.common_steps, Bool.{cases_Bool, false≢true}, List.{Elements.{All-append, All-nil}}},
   proofs.Common.{All, None, ◌≡◌, ℕ, ◌^◌, ◌≤◌, suc, Bool, true, false, cond, is_none, subst, List, [], not, ◌||◌, map, ◌∷◌},
@@ -66,7 +66,7 @@ use Rattle.ports_core.specs.declared.reason.Reason.TheVariants as reason
 use Rattle.ports_core.specs.declared.slot.State.TheVariants as state
 use Rattle.tee_core.specs.Run as tee
 
--- What was read of an input is a beginning of it.
+-- If a step read 2^63 bytes or more, its input is that long.
 
 call_long : {work : Work} {opening : Needs} {most : ℕ} {content : Content} {call : Step}
     → IsCall work opening most content call → 2 ^ 63 ≤ length call.read → 2 ^ 63 ≤ length content.bytes
@@ -84,7 +84,7 @@ step_long : {task : Task} {shown : Option (List ℕ)} {most : ℕ} {so_far : Par
 step_long (call_step content call is leaves) long = (content, refl, call_long is long)
 step_long at long = search rules
 
--- Of a run over inputs: the output that the fault marked is the one that its line names.
+-- In a run over inputs, the output that the fault marked is the output that its line names.
 
 record IsBlamed (fault : Fault) (place : ℕ) (old new : Slot) : Type 0 where
   pub is : failing place new.state ≡ fault
@@ -97,7 +97,7 @@ blamed (Write slot) place before sound (here, there, (why, is)) = grind (arith, 
 blamed (Open slot) place before sound (here, (kept, why, is)) = grind (arith, common_steps)
 blamed fault place before sound marked = absurd marked
 
--- that fault stops the run
+-- the fault that stopped a step stops the run
 stops_run : (run : Run) (asked : Settings) (fault : Fault) (step : Step) {output : Output} {error : Slot}
     {low high : Part} {reached : List Slot}
     → (between : StoppedBetween output true (streams_with error) low high fault reached)
@@ -111,13 +111,13 @@ stops_run run asked Memory step between long stops broke = tt
 stops_run run asked TooLong step between long stops broke = long stops
 stops_run run asked fault step between long stops broke = absurd stops
 
--- that fault is none of words
+-- the fault that stopped a step isn't about words
 plain_message : (run : Run) (fault : Fault) (step : Step) (name : List ℕ) (reached : List Slot)
     → Stops step reached fault → message_of fault name ≡ message_by run fault name
 plain_message run (Usage kind place) step name reached stops = absurd stops
 plain_message run fault step name reached stops = refl
 
--- Why an output is broken: it was told by its name, or the output was to be removed.
+-- Why an output is broken: its fault was reported with its name, or the output was to be removed.
 
 abbrev IsToldIn : Run → Settings → List Slot → ℕ → Type 0
 IsToldIn run asked slots place = (name : List ℕ) × IsCalled (slot_at slots place) name
@@ -139,7 +139,7 @@ record IsStop (clears : Bool) (run : Run) (asked : Settings) : Type 0 where
   pub broke : (place : ℕ) → (place ≡ 1 → ⊥) → (slot_at run.outputs place).is_broken ≡ true
       → IsToldOf run asked place ⊎ IsStuck clears run.outputs place
 
--- it stopped before anything was written
+-- The run stopped before anything was written.
 
 streams_sound : (place : ℕ) (error : Slot) → (place ≡ 1 → ⊥) → (slot_at (streams_with error) place).is_broken ≡ false
 streams_sound (suc zero) error differs = absurd (differs refl)
@@ -159,7 +159,7 @@ stop_early {run = run} {asked = asked} fault name {error} stops says slots is = 
   broke = grind (arith, common_steps, streams_sound);
 }
 
--- what a run leaves that a fault stopped
+-- what a run leaves if a fault stopped it
 module _ (run : Run) (asked : Settings) (clears : Bool) {output : Output} {error : Slot} {low high : Part}
     {fault : Fault} {reached : List Slot} (live : AreLive high.files)
     (between : StoppedBetween output true (streams_with error) low high fault reached)
@@ -168,7 +168,7 @@ module _ (run : Run) (asked : Settings) (clears : Bool) {output : Output} {error
   stopped_error : slot_at run.outputs 1 ≡ error
   stopped_error = grind (arith, common_steps)
 
-  -- what was there before the fault is sound, so what is broken then was marked
+  -- the outputs before the fault are sound, so an output that is broken after it was marked by it
   blamed_at : (place : ℕ) → (place ≡ 1 → ⊥) → (slot_at reached place).is_broken ≡ true
       → IsBlamed fault place (slot_at between.reached place) (slot_at reached place)
   blamed_at place differs broken =
@@ -185,13 +185,13 @@ module _ (run : Run) (asked : Settings) (clears : Bool) {output : Output} {error
       let kept = swept_kept clears reached run.outputs swept place in
       (differs, inl refl, kept.still broken, grind (arith, common_steps, blamed_at))
 
--- nothing is said by a tool's own name alone
+-- a fault goes unreported only if the tool was called by its own name
 quiet_own : (fault : Fault) (calling : Calling) (why : Reason) → is_quiet fault calling why ≡ true → calling ≡ OwnName
 quiet_own fault OwnName why is = refl
 quiet_own (Write slot) Cutters why is = absurd (cc)
 quiet_own fault Cutters why is = absurd (cc)
 
--- of a reader that is gone
+-- A reader that is gone.
 
 gone_reason : (fault : Fault) (calling : Calling) (why : Reason) → is_quiet fault calling why ≡ true
     → why ≡ reason.Gone
@@ -207,20 +207,20 @@ quiet_gone run asked name (Write slot) calling is (differs, called, broken, fail
     grind (arith, common_steps, gone_reason)
 quiet_gone run asked name fault calling is stops = absurd (cc)
 
--- a run that ended by a reader that is gone, and said nothing of it
+-- a run ended since a reader is gone, and didn't report that
 silent_by : (run : Run) (task : Task) (asked : Settings) → IsTask run.calling asked task
     → task.speaker.calling ≡ OwnName → HasGone run → run.status ≡ 141 → IsSilent run asked
 silent_by run task (Tee asked) of own gone is = absurd of
 silent_by run task (About which topic) of own gone is = absurd of
 silent_by run task asked of own gone is = (grind (arith, common_steps), gone, is)
 
--- nothing is said of a reader that is gone, and which outputs are broken then
+-- a reader that is gone isn't reported; and which outputs are broken then
 record IsQuietly (run : Run) (asked : Settings) : Type 0 where
   pub silent : IsSilent run asked
   pub broke : (place : ℕ) → (place ≡ 1 → ⊥) → (slot_at run.outputs place).is_broken ≡ true
       → LostReader run place ⊎ (IsToldOf run asked place ⊎ IsStuck (removes_files asked) run.outputs place)
 
--- nothing stopped it, or something did, or nothing is said
+-- no fault stopped the run, or a fault did, or a reader is gone and that isn't reported
 abbrev Unless : Run → Settings → Type 0 → Type 0
 Unless run asked Whole = Whole ⊎ IsStop (removes_files asked) run asked ⊎ IsQuietly run asked
 
@@ -282,7 +282,7 @@ ends_or {run} {asked} {task} of
 ends_or {run} {asked} {task} of (no_room error says slots untouched count is) =
     inr (inl (stop_early Memory [] tt (rw (speaker_is run.calling asked task of) at says) slots is))
 
--- `tee`
+-- `tee`.
 
 read_or : {content : Content} (Leaves : List ℕ → Type 0) {is_vain : Bool} {x : List ℕ} {fault : Option Fault}
     → is_vain ≡ false → IsRead content Leaves is_vain x fault
@@ -292,7 +292,7 @@ read_or Leaves left (tee.to_break x is breaks leaves) = inl (sym is)
 read_or Leaves left (tee.to_limit x piece rest is many within leaves) = grind (arith, common_steps)
 read_or Leaves left (tee.to_broken_output x rest is leaves) = absurd (cc)
 
--- what is told of the input was met
+-- what is reported about the input was met
 input_tells : (run : Run) (asked : TeeAsked) {content : Content} (Leaves : List ℕ → Type 0) {is_vain : Bool}
     {x : List ℕ} {fault : Option Fault} → inputs_at run.world (names_of (Tee asked)) ≡ standard_input content ∷ []
     → IsRead content Leaves is_vain x fault → All (TellsMet run (Tee asked)) (said_of_input fault)
@@ -309,7 +309,7 @@ input_tells run asked {content} Leaves only (tee.to_limit x piece rest is many w
     )
 input_tells run asked Leaves only reads = All-nil (TellsMet run (Tee asked))
 
--- where nothing is kept back, the status is that of any fault
+-- if nothing is kept back and an output broke, the status is 1
 loud_status : (on_broken : OnBroken) (broke : List (Option Break)) (fault : Option Fault) → IsLoud on_broken broke
     → are_sound broke ≡ false → tee.status_of on_broken broke fault ≡ 1
 loud_status on_broken broke fault loud unsound = by (tee.any_is Gone (map tee.standing_of broke))
@@ -380,7 +380,7 @@ tee_or {run} asked {names = names} {content} only (tee.copied pieces fault first
       ]
 tee_or asked only (tee.no_room error says unread slots is) = inr (inl (stop_early Memory [] tt says slots is))
 
--- a text about a tool
+-- A text about a tool.
 
 about_or : {run : Run} {which : Tool} {topic : Topic}
     → TellsText true (by run.calling which) (text_about which topic) run.outputs run.status
@@ -404,7 +404,7 @@ about_or {run} {which} {topic} (text_cut n short why error tells slots is) = eli
   only line (suc (suc place)) differs broken = absurd (false≢true (rw slots at broken))
 about_or (no_text error says slots is) = inr (inl (stop_early Memory [] tt (error, says, refl) slots is))
 
--- All tools
+-- All tools.
 
 does_or : {run : Run} (asked : Settings) (does : Did run asked) → Unless run asked (DidUnstopped run asked does)
 does_or (Csplit asked) does = ends_or {asked = Csplit asked} (does.operands, does.asks, refl) does.ends
@@ -412,9 +412,9 @@ does_or (Tee asked) does = tee_or asked does.input does.ends
 does_or (About which topic) does = about_or does
 does_or asked does = ends_or {asked = asked} refl does
 
--- operands that are wrong
+-- Operands that are wrong.
 
--- the word that a fault of words speaks of
+-- the word about which a fault of words is
 abbrev word_of : List (List ℕ) → Fault → List ℕ
 word_of words (Usage kind place) = word_at words place
 word_of words fault = []
@@ -443,7 +443,7 @@ ran_so {run} {asked} ran = elim (ran_over ran) [
       (refuses.error, refused_by run asked fault bad (by_words run.calling run.words ran.read).0 refuses.says, refl) refuses.slots refuses.failed))
 ]
 
--- a `tee` that met no fault has copied all, where nothing is said of what is gone
+-- A `tee` with status 0 copied all, if its outputs are sound or its mode doesn't forgive.
 
 whole_copied : (run : Run) (asked : TeeAsked) {content : Content} {source : Source}
     (ends : tee.EndsAs true true run.calling asked.mode asked.on_broken asked.names content source
@@ -471,7 +471,7 @@ has_failed : (failed : Bool) {status : ℕ} → status ≡ cond failed 1 0 → s
 has_failed true is one = refl
 has_failed false is one = cc
 
--- one of the lines tells a fault that the run met
+-- one of the lines reports a fault that the run met
 told_one : {run : Run} {asked : Settings} {line : Message} {lines : List Message} → SaysLines run asked lines
     → HasLine line lines → SaysWhy run asked
 told_one {run} {asked} {line} {lines} says (before, after, is) =
@@ -481,7 +481,7 @@ told_one {run} {asked} {line} {lines} says (before, after, is) =
     (says.are (length before) line (omega (arith, ap length is, length-append before (line ∷ after)))) in
     (fault, name, met, says_line (rw same at has) says)
 
--- a `tee` that keeps back what is gone tells what else failed
+-- if a `tee` doesn't report readers that are gone and has the status 1, it reports what else failed
 tee_why : (run : Run) (asked : TeeAsked) {mode : Mode} {names : List (List ℕ)} {content : Content} {source : Source}
     → inputs_at run.world (names_of (Tee asked)) ≡ standard_input content ∷ [] → tee.is_quiet asked.on_broken ≡ true
     → tee.EndsAs true true run.calling mode asked.on_broken names content source run.outputs run.status
@@ -528,7 +528,7 @@ why_broken : {run : Run} {asked : Settings} {place : ℕ}
 why_broken (inl (name, called, line)) = named name called line
 why_broken (inr (removes, closed, gone)) = search rules
 
--- where no fault stopped the run, only files that were to be removed are broken
+-- each broken output has a reason and the status is 1, or the run doesn't report readers that are gone
 pub is_broken : (run : Run) (asked : Settings) (place : ℕ) → Ran run asked → (place ≡ 1 → ⊥)
     → (slot_at run.outputs place).is_broken ≡ true → ((run.status ≡ 1) × WhyBroken run asked place)
     ⊎ (IsSilent run asked × (LostReader run place ⊎ WhyBroken run asked place))

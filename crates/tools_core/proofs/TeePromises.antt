@@ -1,4 +1,4 @@
--- What a run of `tee` leaves and tells of its outputs, and what ended it.
+-- Lemmas on what a run of `tee` leaves and reports of its outputs, and on what ended it.
 use Rattle.std.proofs.{
   Common.{◌≡◌, ◌⊎◌, ℕ, ◌≤◌, ◌<◌, ◌^◌, get_or, map, zero, suc, Bool, true, false, List, [], ◌∷◌, ◌++◌, length},
   Common.{take, Option, None, Some, cond, nat_lt, inl, inr, refl, sym, ◌∙◌, ap, arith, append-nil, append_assoc, All},
@@ -52,7 +52,7 @@ use Rattle.ports_core.specs.declared.slot.State.TheVariants as state
 use Rattle.ports_core.specs.declared.reason.Reason.TheVariants as reason
 use Rattle.tee_core.specs.Run as tee
 
--- Standard output and the files, numbered without standard error, which is the slot after the first
+-- Standard output and the files, numbered without standard error, which is the slot after the first.
 
 abbrev pub number_of : ℕ → ℕ
 number_of zero = zero
@@ -66,7 +66,7 @@ each_number P each (suc number) = each (suc (suc number)) (λ is. omega (arith, 
 abbrev pub broke_at : List (Option Break) → ℕ → Option Break
 broke_at broke number = get_or broke number None
 
--- Each line is such a line, where those are that tell of outputs that broke, each in its call, and of the input.
+-- `Line` is true of each line, if it is true of the lines about outputs, each in its call, and about the input.
 
 module _ (Line : Message → Type 0) (on_broken : OnBroken) where
   abbrev TellEach : List (List ℕ) → List (Option Break) → Type 0
@@ -88,9 +88,9 @@ module _ (Line : Message → Type 0) (on_broken : OnBroken) where
   before_are (suc call) names broke tell =
       grind (arith, common_steps, in_call_are, (before_are call names broke tell))
 
--- An output that broke has its line, after the call in which it did.
+-- An output that broke has its line, after the call in which it broke.
 
--- no fault of an output is one of words
+-- a fault of an output isn't about words
 failing_message : (run : Run) (place : ℕ) (which : State) (name : List ℕ)
     → message_of (failing place which) name ≡ message_by run (failing place which) name
 failing_message run place state.Unopened name = refl
@@ -98,7 +98,7 @@ failing_message run place state.Open name = refl
 failing_message run place state.Closed name = refl
 failing_message run place state.Removed name = refl
 
--- how it was left
+-- how an output that broke was left
 record HasBroken (last : ℕ) (name : List ℕ) (output : Slot) (one : Break) : Type 0 where
   pub within : one.call ≤ last
   pub called : IsCalled output name
@@ -164,13 +164,13 @@ call_line {line} on_broken names broke {pieces} {call} fault within has = elim (
       (subst (λ those. HasLine line (said_in on_broken those (output_names names) broke)) same has)
 ]
 
--- so has the fault that ended the reading
+-- the fault that ended the reading has its line, too
 pub input_line : (on_broken : OnBroken) (names : List (List ℕ)) (broke : List (Option Break)) (pieces : ℕ)
     (fault : Fault)
     → HasLine (message_of fault (codes "standard input")) (messages_of on_broken names broke pieces (Some fault))
 input_line on_broken names broke pieces fault = has_before _ (has_after _ ([], [], refl))
 
--- some output stands so, or none does
+-- Some output passes a test, or no output does.
 
 one_of : (test : Standing → Bool) (by : Option Break → Standing) (broke : List (Option Break))
     → list_any test (map by broke) ≡ true → (number : ℕ) × (test (by (broke_at broke number)) ≡ true)
@@ -202,14 +202,14 @@ unsound_at [] sound = absurd (cc)
 unsound_at (None ∷ broke) sound = let (number, one, is) = unsound_at broke sound in (suc number, one, is)
 unsound_at (Some one ∷ broke) sound = (0, one, refl)
 
--- which outputs are told: those that are gone only where nothing is kept back
+-- Which outputs are reported: outputs whose readers are gone only if nothing is kept back.
 
 told_broken : (on_broken : OnBroken) (why : Reason) → is_same (lost_for why) Broken ≡ true
     → tee.is_told on_broken (lost_for why) ≡ true
 told_broken on_broken reason.Gone is = absurd (cc)
 told_broken on_broken why is = refl
 
--- nothing is kept back: in no mode, or since no output is gone
+-- nothing is kept back: the mode doesn't allow it, or no reader is gone
 abbrev pub IsLoud : OnBroken → List (Option Break) → Type 0
 IsLoud on_broken broke = (tee.is_quiet on_broken ≡ false) ⊎ (any_is Gone (map standing_of broke) ≡ false)
 
@@ -229,7 +229,7 @@ pub failing_stops : (run : Run) (asked : Settings) {name : List ℕ} {place : �
 failing_stops run asked state.Open broke = broke
 failing_stops run asked which broke = broke
 
--- a run whose outputs were left so
+-- a run whose outputs were left in this way
 module _ (run : Run) (asked : TeeAsked) {mode : Mode} {pieces names : List (List ℕ)} {first : Option Break}
     {broke : List (Option Break)} {output error : Slot} {files : List Slot} (fault : Option Fault)
     (slots : run.outputs ≡ output ∷ error ∷ files) (left : OutputLeft true pieces first output)
@@ -237,7 +237,7 @@ module _ (run : Run) (asked : TeeAsked) {mode : Mode} {pieces names : List (List
   abbrev lines : List Message
   lines = messages_of asked.on_broken names (first ∷ broke) (length pieces) fault
 
-  -- the output at this place, what messages call it, and how it broke, if it did
+  -- the output at this place, its name in messages, and how it broke, if it did
   abbrev At : ℕ → (List ℕ → Slot → Option Break → Type 0) → Type 0
   At place P = P (get_or (output_names names) (number_of place) []) (slot_at run.outputs place)
       (broke_at (first ∷ broke) (number_of place))
@@ -259,7 +259,7 @@ module _ (run : Run) (asked : TeeAsked) {mode : Mode} {pieces names : List (List
       rw (here.same place ∙ failing_message run place _ _) at (call_line asked.on_broken names (first ∷ broke) fault here.within
       (said_at asked.on_broken _ _ one.call (number_of place) rest (rw (is, eq-eqb one.call one.call refl) told)))
 
-  -- all lines of such a run, where that on the input is one
+  -- each line of such a run reports what it met, if the line about the input does
   pub tee_lines : All (TellsMet run (Tee asked)) (said_of_input fault)
       → SaysAll true (speaker_of run.calling (Tee asked)) lines standard_error error → SaysLines run (Tee asked) lines
   tee_lines of_input says =
@@ -283,7 +283,7 @@ module _ (run : Run) (asked : TeeAsked) {mode : Mode} {pieces names : List (List
   IsToldAt place = At place (λ name output when. IsCalled output name
       × HasLine (message_by run (failing place output.state) name) lines)
 
-  -- an output that is broken lost its reader, or was told
+  -- an output that is broken lost its reader, or was reported
   pub tee_broke : (place : ℕ) → (place ≡ 1 → ⊥) → (slot_at run.outputs place).is_broken ≡ true
       → LostReader run place ⊎ IsToldAt place
   tee_broke place differs broken = by (broke_at (first ∷ broke) (number_of place)) refl where
@@ -297,7 +297,7 @@ module _ (run : Run) (asked : TeeAsked) {mode : Mode} {pieces names : List (List
           | inr other ↦ inr (here.called, has_line place differs is (told_loud asked.on_broken one.why (inr other)))
         ]
 
-  -- it was told, where nothing is kept back
+  -- an output that is broken was reported, if nothing is kept back
   pub tee_told : IsLoud asked.on_broken (first ∷ broke) → (place : ℕ) → (place ≡ 1 → ⊥)
       → (slot_at run.outputs place).is_broken ≡ true → IsToldAt place
   tee_told loud place differs broken = by (broke_at (first ∷ broke) (number_of place)) refl where
@@ -319,7 +319,7 @@ module _ (run : Run) (asked : TeeAsked) {mode : Mode} {pieces names : List (List
       ((slot_at run.outputs place).is_broken ≡ true))
       (λ place differs is. (place, differs, (has_broken place differs is).broken)) number is
 
-  -- one that stands so
+  -- an output whose standing passes the test
   abbrev Stands : (Standing → Bool) → Type 0
   Stands test = (place : ℕ) × (place ≡ 1 → ⊥) × (one : Break) × (broke_at (first ∷ broke) (number_of place) ≡ Some one)
       × (test (lost_for one.why) ≡ true)
@@ -341,19 +341,19 @@ module _ (run : Run) (asked : TeeAsked) {mode : Mode} {pieces names : List (List
       (sym (any_tests one (map standing_of (first ∷ broke))) ∙ any) in
       stands (λ standing. is_same standing one) lost number is
 
-  -- one that is gone broke for that reason
+  -- an output whose reader is gone broke for that reason
   pub any_gone : any_is Gone (map standing_of (first ∷ broke)) ≡ true → HasGone run
   any_gone any =
       let (place, differs, one, at, is) = any_stands Gone refl any in
       let here = has_broken place differs at in (place, differs, here.broken, here.why ∙ gone_why one.why is)
 
-  -- one that broke, and isn't gone, has its line in any mode
+  -- an output that broke although it still has a reader has its line in any mode
   pub broken_tells : any_is Broken (map standing_of (first ∷ broke)) ≡ true → (line : Message) × HasLine line lines
   broken_tells any =
       let (place, differs, one, at, is) = any_stands Broken refl any in
       (_, has_line place differs at (told_broken asked.on_broken one.why is))
 
--- which outputs end the run that broke before a call
+-- Which outputs that broke before a call end the run.
 
 abbrev Ends : OnBroken → ℕ → Option Break → Bool
 Ends on_broken call when = ends_run (standing_before call when) on_broken
@@ -361,13 +361,13 @@ Ends on_broken call when = ends_run (standing_before call when) on_broken
 abbrev some_end : OnBroken → ℕ → List (Option Break) → Bool
 some_end on_broken call broke = list_any (λ standing. ends_run standing on_broken) (standings_before call broke)
 
--- one that ends it in the last call, and no sooner
+-- an output that ends the run, and didn't before this call, broke in this call or later
 ends_now : (on_broken : OnBroken) (call at : ℕ) (why : Reason)
     → Ends on_broken call (Some (record { call = at; why = why })) ≡ false
     → ends_run (lost_for why) on_broken ≡ true → nat_lt at call ≡ false
 ends_now on_broken call at why late ends = grind (arith, common_steps)
 
--- one that ended it does so as it stands in the end
+-- an output that ended the run before a call ends it by how it stands at the end, too
 ends_still : (on_broken : OnBroken) (call : ℕ) (when : Option Break) → Ends on_broken call when ≡ true
     → ends_run (standing_of when) on_broken ≡ true
 ends_still on_broken call None ends = absurd (cc)
@@ -377,13 +377,13 @@ never_sound : (why : Reason) → lost_for why ≡ Sound → ⊥
 never_sound reason.Gone is = cc
 never_sound why is = cc
 
--- one that is sound in the end was so before
+-- an output that is sound at the end was sound before
 sound_before : (call : ℕ) (when : Option Break) → standing_of when ≡ Sound
     → is_same (standing_before call when) Sound ≡ true
 sound_before call None is = refl
 sound_before call (Some one) is = absurd (never_sound one.why is)
 
--- all pieces but the last, and the last
+-- All pieces but the last, and the last.
 
 abbrev front_of : List (List ℕ) → List ℕ
 front_of [] = []
@@ -415,7 +415,7 @@ last_small (piece ∷ next ∷ pieces) sizes = last_small (next ∷ pieces) (λ 
 
 -- Each output has a beginning of the input.
 
--- all that was copied is one
+-- all that was copied is a beginning of the input
 read_begins : {content : Content} (Leaves : List ℕ → Type 0) {is_vain : Bool} {x : List ℕ} {fault : Option Fault}
     → IsRead content Leaves is_vain x fault → IsBeginning x content.bytes
 read_begins Leaves (tee.to_end x is ends leaves) = rw is (begins_itself x)
@@ -423,7 +423,7 @@ read_begins Leaves (tee.to_break x is breaks leaves) = rw is (begins_itself x)
 read_begins Leaves (tee.to_limit x piece rest is long short leaves) = grind (arith, common_steps)
 read_begins Leaves (tee.to_broken_output x rest is leaves) = (rest, is)
 
--- so is what came before an output broke in a piece
+-- what came before an output broke within a piece is a beginning of all pieces
 cut_begins : {pieces : List (List ℕ)} (before : List (List ℕ)) (piece : List ℕ) (after : List (List ℕ)) (n : ℕ)
     → pieces ≡ before ++ piece ∷ after → IsBeginning (concat before ++ take n piece) (concat pieces)
 cut_begins before piece after n is =
@@ -464,14 +464,14 @@ tee_begins {asked} {content} place differs (tee.copied _ _ _ _ output error file
       at (suc zero) differs = absurd (differs refl)
       at (suc (suc place)) differs = files_begin (read_begins _ came.read) rest place
 
--- how outputs are left
+-- How outputs are left.
 
--- in the last call of a run over these pieces
+-- how outputs are left after the last call of a run over these pieces
 module _ (run : Run) (on_broken : OnBroken) (pieces : List (List ℕ)) where
   abbrev IsUpTo : Standing → Slot → Type 0
   IsUpTo = HasUpTo run on_broken (front_of pieces) (last_of pieces)
 
-  -- where one ended the run before a piece came, nothing was read
+  -- if an output ended the run before a piece came, nothing was read
   abbrev NoneRead : Bool → Type 0
   NoneRead ends = ends ≡ true → pieces ≡ [] → (source_at run.inputs 0).reads ≡ 0
 
@@ -532,7 +532,7 @@ module _ (run : Run) (on_broken : OnBroken) (pieces : List (List ℕ)) where
   files_up_to (suc place) late none (tee.one_file name names when broke file files left rest) within =
       files_up_to place (or_parts _ _ late).1 (λ ends. none (rw ends (or-true _))) rest (omega arith)
 
--- what was read, and what is left
+-- What was read, and what is left.
 
 read_up_to : {content : Content} (source : Source) {is_vain : Bool} {x : List ℕ} {fault : Option Fault}
     → length content.bytes < 2 ^ 63 → IsRead content (LeavesOf true source) is_vain x fault
@@ -542,7 +542,7 @@ read_up_to source few (tee.to_break x is breaks leaves) = ([], is ∙ sym (appen
 read_up_to source few (tee.to_limit x piece rest is many within leaves) = grind (arith, common_steps)
 read_up_to source few (tee.to_broken_output x rest is leaves) = (rest, is, leaves refl, inr refl)
 
--- there are as many
+-- Each output has a record of whether and how it broke.
 
 broken_within : (slots : List Slot) (place : ℕ) → (slot_at slots place).is_broken ≡ true → place < length slots
 broken_within [] place broken = absurd (cc)

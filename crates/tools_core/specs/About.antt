@@ -8,8 +8,8 @@ use Rattle.ports_core.specs.{
   declared.{fault.Fault.TheVariants.{Memory, Write}, calling.Speaker.Speaker, reason.Reason.Reason},
 }
 
--- Standard output got the text; or a beginning of it, and broke, which is told, but of a reader that is gone where
--- nothing is said; or there was no memory for the text, which is told.
+-- Standard output got the text. Or it got a beginning of the text and broke; that is reported, unless its reader is
+-- gone and the tool was called by its own name. Or there was no memory for the text, and that is reported.
 pub data TellsText (told : Bool) (speaker : Speaker) (text : List ℕ) (new : List Slot) (status : ℕ) : Type 0 where
   text_whole : new ≡ adds (told_of told text) standard_output ∷ standard_error ∷ [] → status ≡ 0
       → TellsText told speaker text new status

@@ -30,7 +30,7 @@ use Rattle.words_core.specs.{
 use Rattle.tools_core.specs.{About.TellsText, Tasks.{by, csplit_task, head_task, tail_task, split_task, names_of}}
 use Rattle.ports_core.specs.declared.tool.Tool.TheVariants as tool
 
--- who refuses words: their tool, or the program where they name none
+-- who refuses words: the tool that they name, or the program if they name no tool
 abbrev pub speaker : List (List ℕ) → Tool
 speaker [] = tool.Cutters
 speaker (name ∷ words) = unwrap_or (tool_named name) tool.Cutters
@@ -44,14 +44,14 @@ refusal calling words (Usage kind place) =
     refusal_of (refuser calling words) kind (word_at words place) (detail_of calling words kind place)
 refusal calling words fault = message_of fault []
 
--- `csplit` over its input, which was cut at the operands that its words ask for
+-- a run of `csplit` over its input, which was cut at the operands that its words ask for
 pub record CsplitEndsAs (calling : Calling) (told_in told : Bool)
     (asked : CsplitAsked) (inputs : List Input) (sources : List Source) (new : List Slot) (status : ℕ) : Type 0 where
   pub operands : List Operand
   pub asks : Asks asked.calling asked.operands operands
   pub ends : EndsAs told_in told (csplit_task calling asked operands) inputs sources new status
 
--- `tee` over its inputs, which are standard input alone
+-- a run of `tee` over its only input, standard input
 pub record TeeEndsAs (calling : Calling) (told_in told : Bool) (asked : TeeAsked)
     (inputs : List Input) (sources : List Source) (new : List Slot) (status : ℕ) : Type 0 where
   pub content : Content
@@ -59,7 +59,7 @@ pub record TeeEndsAs (calling : Calling) (told_in told : Bool) (asked : TeeAsked
   pub ends : TeeCopies told_in told calling asked.mode asked.on_broken asked.names content
       (source_at sources 0) new status
   pub came : CameFrom told_in content (source_at sources 0)
-  -- where nothing broke: standard output and every file have the input's bytes
+  -- if nothing broke and bytes are visible, standard output and every file have the input's bytes
   pub whole : told_in ≡ true → status ≡ 0 → (forgives asked.on_broken ≡ true → AreSound new)
       → new ≡ all_copied told asked.mode asked.names content.bytes
 
@@ -79,7 +79,7 @@ DoesAsked calling told_in told (Tee asked) inputs sources new status =
 DoesAsked calling told_in told (About tool topic) inputs sources new status =
     TellsText told (by calling tool) (text_about tool topic) new status
 
--- the words are refused for this fault: a message, status 1, and nothing else
+-- the words are refused for this fault: there is a message, and the status is 1; nothing else happens
 pub record RefusesFor (calling : Calling) (told : Bool) (words : List (List ℕ)) (fault : Fault) (new : List Slot)
     (status : ℕ) : Type 0 where
   pub error : Slot
@@ -87,14 +87,12 @@ pub record RefusesFor (calling : Calling) (told : Bool) (words : List (List ℕ)
   pub slots : new ≡ streams_with error
   pub failed : status ≡ 1
 
--- what is asked for has operands that can't be read, or there was no memory for them, and the words are refused for
--- that
+-- the settings have operands that can't be read, or there was no memory for them, and the words are refused for that
 abbrev pub RefusesOperands : Calling → Bool → List (List ℕ) → Settings → List Slot → ℕ → Type 0
 RefusesOperands calling told words settings new status = (fault : Fault) × HasBadOperands settings fault
     × RefusesFor calling told words fault new status
 
--- A run did what was asked for; or it refused its operands, or the words: then no input was opened or read, and all are
--- as they were.
+-- A run did what was asked for. Or it refused operands or words; then all inputs are as they were.
 abbrev pub RunEndsAt : Calling → Bool → Bool → List (List ℕ) → List Input
     → (old sources : List Source) → List Slot → ℕ → Result Settings Fault → Type 0
 RunEndsAt calling told_in told words inputs old sources new status (Ok settings) =
@@ -103,13 +101,13 @@ RunEndsAt calling told_in told words inputs old sources new status (Ok settings)
 RunEndsAt calling told_in told words inputs old sources new status (Err fault) = (sources ≡ old)
     × RefusesFor calling told words fault new status
 
--- a run of these words, called so, on these inputs left inputs and outputs so, and returned this status
+-- what a run of these words left of these inputs and of the outputs, and its status, by how the program was called
 abbrev pub RunEnds : Calling → Bool → Bool → List (List ℕ) → List Input
     → (old sources : List Source) → List Slot → ℕ → Type 0
 RunEnds calling told_in told words inputs old sources new status =
     RunEndsAt calling told_in told words inputs old sources new status (settings_of calling words)
 
--- the names that these words read; words that are refused read none
+-- the names of the inputs that these words ask for; words that are refused ask for none
 abbrev pub names_at : Result Settings Fault → List (List ℕ)
 names_at (Ok settings) = names_of settings
 names_at (Err fault) = []

@@ -1,5 +1,5 @@
--- What each tool does with its inputs, where words ask for it: POSIX.1-2017, XCU head, tail, split and csplit; several
--- files for tail, headers and their options, bytes, and all but the last are GNU's, and so is what split does where an
+-- What each tool does with its inputs, if words ask for it: POSIX.1-2017, XCU head, tail, split and csplit. Several
+-- files for `tail`, headers and their options, bytes, and all but the last are GNU's; so is what `split` does if an
 -- input breaks off.
 use Rattle.std.specs.{
   Option.unwrap_or,
@@ -40,26 +40,26 @@ abbrev pub is_plus : Sign → Bool
 is_plus Plus = true
 is_plus sign = false
 
--- whether a header goes before each input: as an option says, and else where there are several
+-- whether a header goes before each input: as an option says, or without an option if there are several inputs
 abbrev pub has_headers : Headers → List (List ℕ) → Bool
 has_headers ForSeveral names = nat_lt 1 (length names)
 has_headers Never names = false
 has_headers Always names = true
 
--- a tool, called so
+-- a tool, and how it was called
 abbrev pub by : Calling → Tool → Speaker
 by calling tool = record { calling = calling; tool = tool }
 
--- a verdict that the input changed speaks of its name
+-- what the message of a verdict names: the input, if the input changed
 abbrev pub changed_of : Verdict → List ℕ → List ℕ
 changed_of Changed name = name
 changed_of verdict name = []
 
--- what has to wait takes memory, unless the input shows its bytes
+-- memory is needed for what waits, unless the input shows its bytes
 abbrev pub waits_unless : Option (List ℕ) → Bool → Needs
 waits_unless shown waits = record { memory = waits && is_none shown; files = false }
 
--- `head`: the first lines or bytes, and with `-` before the count all but the last
+-- the task of `head`: the first lines or bytes; with a `-` before the count, all but the last
 abbrev pub head_task : Calling → EndsAsked → Task
 head_task calling asked = record {
   speaker = by calling tool.Head;
@@ -69,7 +69,7 @@ head_task calling asked = record {
   with_header = has_headers asked.headers asked.names;
 }
 
--- `tail`: the last lines or bytes, with `+` before the count all from that one on
+-- the task of `tail`: the last lines or bytes; with a `+` before the count, all from this number on
 abbrev pub tail_task : Calling → EndsAsked → Task
 tail_task calling asked = record {
   speaker = by calling tool.Tail;
@@ -79,7 +79,7 @@ tail_task calling asked = record {
   with_header = has_headers asked.headers asked.names;
 }
 
--- the names of its files
+-- the names of the files of `split`
 abbrev pub naming_of : SplitAsked → Naming
 naming_of asked = record {
   prefix = asked.prefix;
@@ -87,11 +87,12 @@ naming_of asked = record {
   ending = asked.ending;
 }
 
--- how its files are made
+-- how the files of `split` are made
 abbrev pub filing_of : SplitAsked → Filing
 filing_of asked = record { names = naming_of asked; verbose = asked.verbose }
 
--- `split`: the input cut into files, or what one of them would have. It is told the length of what the input shows.
+-- The task of `split`: the input cut into files, or what one file would have. The work may depend on the length of what
+-- the input shows.
 abbrev pub split_task : Calling → SplitAsked → Task
 split_task calling asked = record {
   speaker = by calling tool.Split;
@@ -101,13 +102,13 @@ split_task calling asked = record {
   with_header = false;
 }
 
--- the word of the operand with which the work of `csplit` ends
+-- the operand that the message of a verdict names, as its word
 abbrev pub operand_of : List (List ℕ) → Verdict → List ℕ
 operand_of operands (NoMatch operand repetition) = slice_index_or operands operand []
 operand_of operands (Range operand repetition) = slice_index_or operands operand []
 operand_of operands verdict = []
 
--- `csplit`: the input cut into files where these operands, which its words ask for, find lines
+-- the task of `csplit`: the input cut into files at lines that these operands find, which its words ask for
 abbrev pub csplit_task : Calling → CsplitAsked → List Operand → Task
 csplit_task calling asked operands = record {
   speaker = by calling tool.Csplit;
@@ -117,8 +118,7 @@ csplit_task calling asked operands = record {
   with_header = false;
 }
 
--- The names of its inputs. `tee` reads standard input alone, whatever its files are called; help and the version read
--- none.
+-- The names of the inputs. `tee` reads only standard input. Help and the version read no input.
 abbrev pub names_of : Settings → List (List ℕ)
 names_of (Head asked) = asked.names
 names_of (Tail asked) = asked.ends.names
@@ -136,6 +136,6 @@ tool_of (Csplit asked) = tool.Csplit
 tool_of (Tee asked) = tool.Tee
 tool_of (About tool topic) = tool
 
--- who speaks in a run of them
+-- the tool from which messages of a run come, and how it was called
 abbrev pub speaker_of : Calling → Settings → Speaker
 speaker_of calling settings = by calling (tool_of settings)

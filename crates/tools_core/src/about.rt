@@ -9,10 +9,11 @@ use ports_core::{Calling, Fault, Outs, Speaker, Tool, tell, write_whole};
 use std::alloc::Global;
 use words_core::{Topic, text_about};
 
-/// The output of a text.
+/// The number of standard output among the outputs.
 const STANDARD_OUTPUT: usize = 0;
 
-/// Writes a text about this tool, or the program, to standard output, or says why it can't be written, and returns the status.
+/// Writes a text about this tool, or the program, to standard output, or reports why it can't be written, and returns
+/// the status.
 pub(crate) fn tell_about<O: Outs>(
     alloc: Global,
     calling: Calling,

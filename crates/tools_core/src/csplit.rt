@@ -11,11 +11,11 @@ use words_core::CsplitSettings;
 /// What a run knows of `csplit`.
 #[derive(Clone, Copy)]
 pub struct CsplitAdapter<'a, 'b> {
-    /// How it was called.
+    /// How the tool was called.
     pub calling: Calling,
     /// What the words ask of it.
     pub settings: &'a CsplitSettings<'b>,
-    /// The operands that they spell.
+    /// The operands that the words spell.
     pub operands: &'a Operands,
 }
 
@@ -32,7 +32,7 @@ impl<'a, 'b> Adapter for CsplitAdapter<'a, 'b> {
         false
     }
 
-    /// The word of the operand that finds no line.
+    /// The word of the operand that a verdict is about.
     fn subject<'c>(&'c self, verdict: &Verdict, name: &'c str) -> &'c str {
         let _ = name;
         match verdict {

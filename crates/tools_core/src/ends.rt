@@ -17,7 +17,7 @@ use words_core::{EndsSettings, Headers};
 /// What a run knows of `head`.
 #[derive(Clone, Copy)]
 pub struct HeadAdapter<'a, 'b> {
-    /// How it was called.
+    /// How the tool was called.
     pub calling: Calling,
     /// What the words ask of it.
     pub settings: &'a EndsSettings<'b>,
@@ -26,7 +26,7 @@ pub struct HeadAdapter<'a, 'b> {
 /// What a run knows of `tail`.
 #[derive(Clone, Copy)]
 pub struct TailAdapter<'a, 'b> {
-    /// How it was called.
+    /// How the tool was called.
     pub calling: Calling,
     /// What the words ask of it.
     pub settings: &'a EndsSettings<'b>,
@@ -108,7 +108,7 @@ impl<'a, 'b> Adapter for TailAdapter<'a, 'b> {
     }
 }
 
-/// Where the last lines or bytes begin of what a source shows, as many as are asked for.
+/// Where the last lines or bytes of what a source shows begin, as many as are asked for.
 fn last_in<I: Inputs>(
     settings: &EndsSettings<'_>,
     source: Option<usize>,
@@ -134,7 +134,7 @@ fn last_in<I: Inputs>(
     )
 }
 
-/// The name in the message for a verdict: the input's, where that changed.
+/// The name in the message for a verdict: the name of the input, if the input changed.
 pub(crate) fn changed_of<'a>(verdict: &Verdict, name: &'a str) -> &'a str
     ensures { result.now ≡ changed_of verdict.now name.now }
 {
@@ -144,7 +144,7 @@ pub(crate) fn changed_of<'a>(verdict: &Verdict, name: &'a str) -> &'a str
     }
 }
 
-/// Whether a header goes before each input: as an option says, and else where there are several.
+/// Whether a header goes before each input: as an option says, or without an option if there are several inputs.
 pub(crate) fn has_headers(settings: &EndsSettings<'_>) -> bool
     ensures { result ≡ has_headers settings.now.headers settings.now.names }
 {

@@ -1,6 +1,7 @@
-//! What people rest on, as laws of runs, with no code: each stands on the contract of a function whose body is empty. They
-//! speak of runs over inputs and outputs that tell their bytes, as those in memory do, and of what `run` and `run_follow` ensure of
-//! each; where nothing else is said, of runs whose status is 0. Of which runs of the program they speak, says `program_makes_these_runs`.
+//! What people rest on, as laws of runs, with no code: each law stands on the contract of a function whose body is
+//! empty. The laws speak of runs over inputs and outputs whose bytes are visible, as those in memory are, and of what
+//! `run` and `run_follow` ensure of each run. If nothing else is said, they speak of runs whose status is 0.
+//! `program_makes_these_runs` says of which runs of the program they speak.
 ghost use Rattle.std.specs.{
   Prelude.{◌≡◌, ◌<◌, ◌^◌, ◌⊎◌, ◌+◌, ◌*◌, ◌++◌, ◌∷◌, [], ℕ, List, Ok, true, false, length, map, if◌then◌else◌},
   List.{flat_map, range_with_len},
@@ -43,9 +44,10 @@ ghost use Rattle.words_core.specs.{
 ghost use Rattle.seg_core.specs.declared.cut.Way.TheVariants as way;
 ghost use Rattle.seg_core.specs.declared.unit.Unit.TheVariants as unit;
 
-/// The program makes runs of two kinds, and these laws speak of both. Where the words of a run of `run_words` ask for nothing to
-/// be followed, it ended as `run` ensures, and no file was watched. Where they ask `tail` to follow files, it ended as `run_follow`
-/// ensures, in as many looks as the words ask for, and no input was opened or read.
+/// The program makes runs of two kinds, and these laws speak of both. If the words of a run of `run_words` ask to
+/// follow nothing, it ended as `run` ensures, and no file was watched. If they ask `tail` to follow files, without
+/// `--pid`, and the status is 0, it ended as `run_follow` ensures, in as many looks as the words ask for, and no input
+/// was opened or read.
 pub fn program_makes_these_runs()
     ensures runs { (run : Run) (asked : Settings) → IsOfProgram run → settings_of run.calling run.words ≡ Ok asked
         → follows asked ≡ false → Ran run asked × (run.seen ≡ []) × (run.watched ≡ []) }
@@ -54,11 +56,11 @@ pub fn program_makes_these_runs()
         × (run.inputs ≡ source_of run.world.standard ∷ []) }
 {}
 
-/// Of one input, the first N lines and all from the line after them on, written one after another, are the input:
-/// `head -n N` and then `tail -n +M`, where M is N + 1. So are all but the last N and the last N: `head -n -N` and then
-/// `tail -n N`. The same holds of bytes (`-c`), and of lines that end with byte 0 (`-z`), where both runs have that option and
-/// neither writes a header. If an input shows a text before it is read, and gives that first, the last two speak of that text:
-/// a file may grow while they run.
+/// The first N lines of an input, and all lines from the next line on, written one after another, are the input:
+/// `head -n N` and then `tail -n +M`, where M is N + 1. All lines but the last N, and the last N lines, are the input,
+/// too: `head -n -N` and then `tail -n N`. The same is true of bytes (`-c`), and of lines that end with byte 0 (`-z`),
+/// if both runs have that option. Neither run may write a header. If an input shows a text before it is read, and gives
+/// this text first, the last two runs speak of this text: a file may grow while they run.
 pub fn head_and_tail_meet()
     ensures first { (head tail : Run) (first rest : EndsAsked) (n : ℕ) (input : List ℕ) → CountAlike first rest
         → IsHead head first Plain n → IsTail tail rest Plus (n + 1) → HasInput head input → HasInput tail input
@@ -68,12 +70,13 @@ pub fn head_and_tail_meet()
         → output_of head ++ output_of tail ≡ input }
 {}
 
-/// After `tee` standard output and each file that is named once have the input's bytes; with `-a` each file has them after
-/// those that it had. A run, whatever its status, leaves input unread only where an output ended it, where none was left, or
-/// where there was no memory, which is told. With `--output-error=exit` each output ends it that breaks, with `exit-nopipe` each
-/// but one whose reader is gone, and by the tool's own name, where nothing else is asked for, one whose reader is gone. Then each
-/// output that is sound has all that was read, each that ended the run all but a part of its last 65,536 bytes at most, and each
-/// other one a beginning. Nothing was read where there was no memory, or where a file that couldn't be opened ended the run.
+/// After `tee` standard output and each file that is named once have the input's bytes; with `-a` each file has them
+/// after the bytes that it had. A run, whatever its status, leaves input unread for three reasons alone: an output
+/// ended it, or no output was left, or there was no memory, which is reported. With `--output-error=exit` each output
+/// that breaks ends the run; with `exit-nopipe` an output that breaks although it still has a reader; and by the tool's
+/// own name, if no option says it, an output whose reader is gone. Then each sound output has all that was read. An
+/// output that ended the run lacks at most a part of its last 65,536 bytes. Each other output has a beginning of it.
+/// Nothing was read if there was no memory, or if a file that couldn't be opened ended the run.
 pub fn tee_copies()
     ensures output { (tee : Run) (asked : TeeAsked) (input : List ℕ) → Does tee (Tee asked) → HasInput tee input
         → output_of tee ≡ input }
@@ -83,14 +86,15 @@ pub fn tee_copies()
         → EndsWithBreak tee asked }
 {}
 
-/// How an input comes changes nothing: two runs that are asked for the same, over inputs of the same bytes, leave the same
-/// outputs, whether a read gives one byte or all of them. What lies at a name doesn't say how much a read gives. Where the
-/// status is 1 and no fault stopped them, as of an input that breaks off or a pattern that isn't found, they leave the same
-/// status too, and the same bytes under the same names, and say the same lines; but a file that was to be removed may stay in
-/// one of them. A fault that stops a run is told, as far as standard error takes lines, and the status is 1: no memory, too
-/// much input, operands of `csplit` that are wrong, or an output that broke, by its name. Where an output of `tee` breaks, it
-/// goes on with the others, or ends with that; then that is told, and this law says no more of that run. Of a reader that is
-/// gone nothing is said by a tool's own name, and the status is 141; nor by `tee` where its words or its own name ask for that.
+/// How an input comes changes nothing. Two runs that are asked for the same, over inputs of the same bytes, leave the
+/// same outputs, whether a read gives one byte or all of them. What lies at a name doesn't say how much a read gives.
+/// If the status is 1 and no fault stopped the runs, as for an input that breaks off or a pattern that isn't found,
+/// they leave the same status, too, and the same bytes under the same names, and report the same lines; but a file that
+/// was to be removed may stay in one of them. A fault that stops a run is reported, as far as standard error takes
+/// lines, and the status is 1: no memory, too much input, operands of `csplit` that are wrong, or an output that broke,
+/// by its name. If an output of `tee` breaks, the run goes on with the other outputs, or ends; then the break is
+/// reported, and this law says no more of that run. By a tool's own name a reader that is gone isn't reported, and the
+/// status is 141. `tee` doesn't report it if its words or its own name ask for that.
 pub fn cutting_changes_nothing()
     ensures same { (one other : Run) (asked : Settings) → Does one asked → Does other asked → FindAlike asked one other
         → one.outputs ≡ other.outputs }
@@ -100,19 +104,21 @@ pub fn cutting_changes_nothing()
         → FindAlike asked one other → LeaveAlike asked one other }
 {}
 
-/// `split` loses nothing. Its files have the names that were asked for, and come in the order of these, byte by byte. With
-/// `-l N` and `-b N` they are joined the input, and each but the last has N lines or bytes; `-l` cuts no line. With `-C N`
-/// they are joined the input, each has as many lines as fit into N bytes, where an open last line counts with its delimiter,
-/// and a line is cut only where it is longer than that; an input has just one such list of pieces. With `-n r/N` each line is
-/// in just one file, in turn. With `-n N` and `-n l/N` the input is N pieces, and each has its file, or with `-e` each that has
-/// a byte; joined they are the input, and `-n l/N` cuts no line. With `-n N` each piece has as many bytes as any other, or one
-/// more, the first ones; and with `-n l/N` each line is in the piece in whose chunk its first byte is. Standard output has
-/// nothing; with `--verbose` it has a line for each file, in their order. With K there is no file, and standard output has
-/// piece K, or with `-n r/K/N` what file K has without `-e`: the lines from the Kth on, each N lines after the one before. So
-/// `split -n K/N`, for K from 1 to N, writes the input, and `-n r/K/N` each of its lines once.
-/// Where an input gives fewer or more bytes than it showed before it was read, the files of `-n N` and `-n l/N` have those that
-/// came, up to the length that was shown and as its chunks are; it is told by its name that it changed, and the status is 1.
-/// With K standard output has what came of that chunk; the same is told unless it got all that goes with it.
+/// `split` loses nothing. Its files have the names that were asked for, and come in the order of these names, byte by
+/// byte. With `-l N` and `-b N` the files joined are the input, and each but the last has N lines or bytes; `-l` cuts
+/// no line. With `-C N` the files joined are the input, each has as many lines as fit into N bytes, and a line is cut
+/// only if it is longer than that; an open last line counts with a delimiter. Each input has exactly one such list of
+/// pieces. With `-n r/N` each line is in exactly one file, in turn. With `-n N` and `-n l/N` the input is N pieces, and
+/// each piece has its file, or with `-e` each piece that has a byte. The pieces joined are the input, and `-n l/N` cuts
+/// no line. With `-n N` any two pieces have equally many bytes, or the earlier piece has one byte more. With `-n l/N`
+/// each line is in the piece in whose chunk its first byte is. Standard output has nothing; with `--verbose` it has a
+/// line for each file, in their order. With K there is no file, and standard output has piece K. With `-n r/K/N` it has
+/// what file K has without `-e`: the lines from the Kth on, each N lines after the line before it. So `split -n K/N`,
+/// for K from 1 to N, writes the input, and `-n r/K/N` writes each of its lines once. If an input gives fewer or more
+/// bytes than it showed before it was read, the files of `-n N` and `-n l/N` have the bytes that came, up to the length
+/// that was shown, as the chunks of this length are. That the input changed is reported with its name, and the status
+/// is 1. With K standard output has what came of that chunk, and the change is reported unless the chunk got all that
+/// goes with it.
 pub fn split_loses_nothing()
     ensures listed { (split : Run) (asked : SplitAsked) (input : List ℕ) → Does split (Split asked)
         → HasInput split input → AreListed asked (files_of split) }
@@ -170,11 +176,12 @@ pub fn split_loses_nothing()
         → asked.way ≡ way.Chunk place chunks → IsChunkAsShown one asked place chunks input.name shown bytes }
 {}
 
-/// `csplit` loses nothing. Its files are numbered in their order, and no two have one name. Their order is that of their names,
-/// byte by byte, while no number has more digits than its precision says (`-n`), or a width that zeros fill, and no `#` marks
-/// them. Where no section is skipped (`%`) and no line is left out at a cut (`--suppress-matched`), they are joined the input. In
-/// any case each line is in just one section, in the order of the input, or is left out at a cut, and the files have just the
-/// sections that are kept; with `-z` an empty one has no file.
+/// `csplit` loses nothing. Its files are numbered in their order, and no two have the same name. They come in the order
+/// of their names, byte by byte, as long as no number has more digits than its precision says (`-n`), or than a width
+/// that zeros fill, and no `#` marks numbers. If no section is skipped (`%`) and no line is left out at a cut
+/// (`--suppress-matched`), the files joined are the input. In any case each line is in exactly one section, in the
+/// order of the input, or is left out at a cut. The files have exactly the sections that are kept; with `-z` an empty
+/// section has no file.
 pub fn csplit_loses_nothing()
     ensures numbered { (csplit : Run) (asked : CsplitAsked) (input : List ℕ) → Does csplit (Csplit asked)
         → HasInput csplit input → AreNumbered asked.style (files_of csplit) }
@@ -186,14 +193,15 @@ pub fn csplit_loses_nothing()
         × AreSections asked.style operands input (contents_of csplit) }
 {}
 
-/// Nothing after a fault but a beginning. Whatever a run met over its inputs, standard output and each file have a beginning of
-/// what they have after a run that no fault stopped, which is asked for the same, over the same inputs. There is such a run,
-/// unless operands of `csplit` are wrong or an input has more than any tool takes. A run whose status is 1 told a fault that it
-/// met, as far as standard error takes lines, and each line tells one. So it did where standard output or a file broke: its
-/// status is 1, and a line with the output's name says that it can't be opened or written. Where the run may be silent on a
-/// gone reader, the status may be another, and an output need not be told that lost its reader; any other is told all the
-/// same. That a file of `csplit` couldn't be removed need not be told, nor then what broke it before; each other file of that
-/// run is gone, or broken too.
+/// A fault leaves nothing but a beginning. Whatever a run met over its inputs, standard output and each file have a
+/// beginning of what they have after a run that is asked for the same, over the same inputs, and that no fault stopped.
+/// There is such a run, unless operands of `csplit` are wrong or an input has more than any tool takes. A run whose
+/// status is 1 reported a fault that it met, as far as standard error takes lines, and each line reports such a fault.
+/// If standard output or a file broke, the status is 1, and a line with the name of the output says that it can't be
+/// opened or written. If the run may be silent about a reader that is gone, the status may be another, and an output
+/// that lost its reader may go unreported; any other output that broke is reported. A file of `csplit` that couldn't be
+/// removed may go unreported, and so may what broke it before; then each other file of that run is gone, or broken,
+/// too.
 pub fn faults_leave_a_beginning()
     ensures begins { (run well : Run) (asked : Settings) → Ran run asked → Completes well asked
         → FindAlike asked run well → BeginsEach run well }
@@ -205,12 +213,13 @@ pub fn faults_leave_a_beginning()
         ⊎ (IsSilent run asked × (LostReader run place ⊎ WhyBroken run asked place)) }
 {}
 
-/// `tail -f` tells all, once. Of one file that only grows, where no header is written, it writes the last lines or bytes that
-/// the file has at the first look, or all from the Nth on, and then all that came by the last look, in order, and nothing
-/// twice. It does so in as many looks as it is asked for, by descriptor and by name. Of a file that is truncated or replaced
-/// too, where one that is not seen shorter has kept its bytes, it writes the text of its name: that of each stretch of looks in
-/// which it only grew, and from the second stretch on all that it came to have. What the file is at looks that were not made is
-/// no matter. Where it was called by its own name and follows names, one that can't be read at a look is missing then.
+/// `tail -f` writes all, once. Of one file that only grows, if no header is written, it writes the last lines or bytes
+/// that the file has at the first look, or all from the Nth on, and then all that came by the last look, in order, and
+/// nothing twice. It does so in as many looks as it is asked for, by descriptor and by name. If the file is truncated
+/// or replaced, and a file that isn't seen shorter has kept its bytes, `tail` writes the text of its name: the text of
+/// each stretch of looks in which the file only grew, and from the second stretch on all that the file came to have.
+/// What the file has between looks doesn't matter. If `tail` was called by its own name and follows names, a name that
+/// can't be read at a look is missing then.
 pub fn tail_follows()
     ensures grows { (run : Run) (options : EndsAsked) (followed : Followed) (name came : List ℕ) (file n : ℕ)
         → Follows run (n + 1) options followed → IsBare options → options.names ≡ name ∷ []

@@ -25,12 +25,14 @@ use std::alloc::Global;
 use tee_core::run_tee;
 use words_core::{Settings, detail_of, find_tool, read_words};
 
-/// Runs the tool that the words name, the first being the tool's name. It reads the inputs that they name, writes
-/// what the tool makes of them, and says what went wrong on standard error. Words that ask for help or the version read
-/// none: that text is written. It returns the status: 0, or 1 where there was any fault. It takes memory for what the words
-/// ask for, for a buffer of 64 KiB, and for what the tool's engine, headers and messages need.
+/// Runs the tool that the words name; the first word is the tool's name. It reads the inputs that the words name,
+/// writes what the tool makes of them, and reports on standard error what went wrong. If the words ask for help or the
+/// version, it writes that text and reads no input. It returns the status: 0, or 1 if there was any fault. It takes
+/// memory for what the words ask for, for a buffer of 64 KiB, and for what the tool's engine, headers and messages
+/// need.
 ///
-/// This is how the program runs them where it is called `cutters`; `run_words` is told how it was called.
+/// The program runs words in this way if it is called `cutters` and they ask to follow nothing. `run_words` gets to
+/// know how it was called.
 pub fn run<I: Inputs, O: Outs>(alloc: Global, words: &[&str], inputs: &mut I, outs: &mut O) -> u8
     requires inputs { IsFresh (I.sources inputs.old) }
     requires outputs { O.slots outs.old ≡ streams }
@@ -52,7 +54,7 @@ pub fn run<I: Inputs, O: Outs>(alloc: Global, words: &[&str], inputs: &mut I, ou
     }
 }
 
-/// Says what is wrong with the words, as the program was called, and returns the status.
+/// Reports what is wrong with the words, by how the program was called, and returns the status.
 pub(crate) fn refuse_words<O: Outs>(
     alloc: Global,
     calling: Calling,
@@ -78,7 +80,7 @@ pub(crate) fn refuse_words<O: Outs>(
 ///
 /// # Errors
 ///
-/// `Memory` where there is no room for it.
+/// `Memory` if there is no room for it.
 fn refusal(
     alloc: Global,
     speaker: Speaker,
@@ -94,8 +96,8 @@ fn refusal(
     refusal_for(alloc, speaker, kind, word_at(words, place), &detail)
 }
 
-/// Does what the settings ask for, over the inputs that they name, or tells what they ask about. `tail` takes what is there of
-/// each, and follows nothing.
+/// Does what the settings ask for, over the inputs that they name, or writes the text that they ask for. `tail` takes
+/// what each input has, and follows nothing.
 pub(crate) fn run_tool<I: Inputs, O: Outs>(
     alloc: Global,
     calling: Calling,
@@ -166,21 +168,21 @@ pub(crate) fn run_tool<I: Inputs, O: Outs>(
     }
 }
 
-/// A tool, called so.
+/// A tool, and how it was called.
 pub(crate) fn by(calling: Calling, tool: Tool) -> Speaker
     ensures { result ≡ by calling tool }
 {
     Speaker { calling, tool }
 }
 
-/// Who speaks where words are refused.
+/// The tool that refuses words, and how it was called.
 fn refuser(calling: Calling, words: &[&str]) -> Speaker
     ensures { result ≡ refuser calling (map (λ word. word.now) words.now) }
 {
     by(calling, speaker(words))
 }
 
-/// Who refuses words: the tool that they name, or the program where they name none.
+/// The tool that refuses words: the tool that they name, or the program if they name no tool.
 fn speaker(words: &[&str]) -> Tool
     ensures { result ≡ speaker (map (λ word. word.now) words.now) }
 {
@@ -190,7 +192,7 @@ fn speaker(words: &[&str]) -> Tool
     }
 }
 
-/// The word at this place, empty where there is none.
+/// The word at this place, empty if there is none.
 fn word_at<'a>(words: &[&'a str], place: usize) -> &'a str
     ensures { result.now ≡ word_at (map (λ word. word.now) words.now) place }
 {

@@ -19,7 +19,7 @@ use words_core::SplitSettings;
 /// What a run knows of `split`.
 #[derive(Clone, Copy)]
 pub struct SplitAdapter<'a, 'b> {
-    /// How it was called.
+    /// How the tool was called.
     pub calling: Calling,
     /// What the words ask of it.
     pub settings: &'a SplitSettings<'b>,
@@ -68,7 +68,7 @@ impl<'a, 'b> Adapter for SplitAdapter<'a, 'b> {
     }
 }
 
-/// How many bytes a source shows, where that matters and it shows them.
+/// How many bytes a source shows, if that matters and it shows them.
 fn said_by<I: Inputs>(way: &Way, source: Option<usize>, inputs: &mut I) -> Option<u64>
     requires input { IfSome source (λ slot. IsTrue (is_readable (I.sources inputs.old) slot)) }
     ensures said { (shown : Option (List ℕ)) × IsShown I.told source (I.sources inputs.old) shown
@@ -87,7 +87,7 @@ fn said_by<I: Inputs>(way: &Way, source: Option<usize>, inputs: &mut I) -> Optio
     }
 }
 
-/// How many bytes an input shows. Where it shows none, a device without an end isn't waited for.
+/// How many bytes an input shows. If it shows none, a device without an end isn't waited for.
 fn shown_or_limited<I: Inputs>(slot: usize, inputs: &mut I) -> Option<u64>
     requires { IsTrue (is_readable (I.sources inputs.old) slot) }
     ensures some { IfSome result (λ size. 0 < size) }
@@ -102,7 +102,7 @@ fn shown_or_limited<I: Inputs>(slot: usize, inputs: &mut I) -> Option<u64>
     size
 }
 
-/// What standard output is told of its files.
+/// Which lines standard output gets about the files.
 fn tells_for(verbose: bool) -> Tells
     ensures { result ≡ tells_by verbose }
 {
@@ -112,7 +112,7 @@ fn tells_for(verbose: bool) -> Tells
     Tells::Nothing
 }
 
-/// The names of its files.
+/// The names of the files.
 fn naming_for(alloc: Global, settings: &SplitSettings<'_>) -> Result<Naming, Fault>
     requires { IsWidth settings.now.width }
     ensures ok { IfOk result (λ naming. naming ≡ naming_of settings.now) }

@@ -1,4 +1,4 @@
--- A watch over real files, where one of its names changes.
+-- Lemmas on a watch over real files, if one of its names changes.
 use Rattle.std.proofs.{
   Common.{◌≡◌, ℕ, zero, suc, refl, replicate, Bool, true, false, IsTrue, List, ap, subst, get_or, set, is_some, ◌⊎◌, inl, inr},
   Common.{not, sym, ◌∙◌, Option, Some, None, option_map},
@@ -35,7 +35,7 @@ finds_any Clinging within (suc zero) name finding there = refl
 finds_any Insisting within (suc zero) name finding there = ap not (there refl)
 finds_any manner within (suc (suc n)) name finding there = finds_any manner within (suc n) name finding there
 
--- one that leads to a file or nowhere, where the watch forgives
+-- What calls find if the watch forgives or clings.
 
 abbrev pub Forgives : Manner → Type 0
 Forgives manner = (manner ≡ Forgiving) ⊎ (manner ≡ Clinging)
@@ -53,7 +53,7 @@ pub forgives_now : {watch : DirWatchState} {names : List Watched} {turns : ℕ} 
     → Forgives manner → Forgives watch.manner
 forgives_now is forgives = subst (λ (those : DirWatchState). Forgives those.manner) is forgives
 
--- or what is there
+-- What calls find if the watch insists: a file is there.
 
 pub insists_now : {watch : DirWatchState} {names : List Watched} {turns : ℕ} {manner : Manner} {within rested : ℕ}
     → record { turns = turns; watched = names; manner = manner; within = within; rested = rested } ≡ watch
@@ -69,7 +69,7 @@ pub opens_there : (file : Option ℕ) → is_some file ≡ true → is_nowhere (
 opens_there None is = absurd (false≢true is)
 opens_there (Some file) is = refl
 
--- and any may have failed, where that isn't forgiven
+-- a call on any name can fail; if the watch forgives, only on a name with a byte 0
 breaks_any : (manner : Manner) (name : List ℕ) (within n : ℕ)
     → (manner ≡ Forgiving → has_zero name ≡ true)
     → (latest (replicate n (files_by manner within))).breaks name ≡ true
@@ -80,7 +80,7 @@ breaks_any Clinging name within (suc zero) is = refl
 breaks_any Insisting name within (suc zero) is = refl
 breaks_any manner name within (suc (suc n)) is = breaks_any manner name within (suc n) is
 
--- what looks show from now on
+-- What looks show from now on.
 
 pub forgives_all : (manner : Manner) (within : ℕ)
     → ◌≡◌ {A = ℕ → Snapshot} (λ n. files_by Forgiving within) (λ n. forgiving (files_by manner within))
@@ -115,14 +115,14 @@ pub may_break : {watch : DirWatchState} {names : List Watched} {turns : ℕ} {ma
 may_break {turns} {manner} name is unforgiven =
     subst (λ (those : DirWatchState). (latest (seen those)).breaks name ≡ true) is (breaks_any manner name _ turns unforgiven)
 
--- where it doesn't forgive
+-- if the watch doesn't forgive, a call on any name can fail
 pub unforgiven : {watch : DirWatchState} {names : List Watched} {turns : ℕ} {manner : Manner} {within rested : ℕ}
     {forgives : Bool} (name : List ℕ)
     → record { turns = turns; watched = names; manner = manner; within = within; rested = rested } ≡ watch
     → (manner ≡ Forgiving → IsTrue forgives) → forgives ≡ false → (latest (seen watch)).breaks name ≡ true
 unforgiven name is must none = may_break name is (λ (forgiving : _ ≡ Forgiving). absurd (false≢true (sym none ∙ must forgiving)))
 
--- nor is it of a name that no file can have
+-- a call can fail on a name with a byte 0
 pub zero_breaks : {watch : DirWatchState} {names : List Watched} {manner : Manner} {within rested : ℕ} (turns place : ℕ)
     {item : Watched} {zero_in : Bool}
     → record { turns = turns; watched = names; manner = manner; within = within; rested = rested } ≡ watch
@@ -134,7 +134,7 @@ zero_breaks {watch} {names} turns place {item} {zero_in} is can at zero_is some 
     ∙ ap (λ all. watched_at all place) those in
     may_break _ is (λ (forgives : _ ≡ Forgiving). ap (λ (those : Watched). has_zero those.name) (sym found) ∙ sym zero_is ∙ not-false zero_in some)
 
--- what was opened is not told
+-- nothing is said about which file was opened
 pub opened_some : {watch : DirWatchState} {snapshot : Snapshot} {names : List Watched} {manner : Manner}
     {within rested : ℕ} (turns : ℕ) {place : ℕ} {item new : Watched} {is_there : Bool}
     → record { turns = turns; watched = names; manner = manner; within = within; rested = rested } ≡ watch

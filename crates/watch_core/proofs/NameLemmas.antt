@@ -1,4 +1,4 @@
--- The names that are watched, where one of them changes.
+-- Lemmas on the names that are watched, if one of them changes.
 use Rattle.std.proofs.{
   Common.{◌≡◌, ℕ, ◌<◌, zero, suc, Bool, true, false, ◌&&◌, IsTrue, List, [], ◌∷◌, ◌++◌, length, refl, sym, ◌∙◌, ap},
   Common.{subst, arith, get_or, set, is_some, Option},
@@ -40,13 +40,13 @@ pub names_within : (names now : List Watched) (place : ℕ) → names ≡ now �
     → place < length names
 names_within names now place is can = watchable_within names place (subst (λ those. is_watchable those place ≡ true) (sym is) can)
 
--- the last of some looks and one more
+-- after one more look, that look is the last
 pub latest-last : (snapshots : List Snapshot) (snapshot : Snapshot) → latest (snapshots ++ snapshot ∷ []) ≡ snapshot
 latest-last [] snapshot = refl
 latest-last (one ∷ []) snapshot = refl
 latest-last (one ∷ two ∷ snapshots) snapshot = latest-last (two ∷ snapshots) snapshot
 
--- as a name broke while this file was open
+-- a name breaks as it does with the file that was open
 pub broke_so : (why : Reason) (names : List Watched) (place : ℕ) (how : Option ℕ → Broken) {file : Option ℕ}
     → file ≡ (watched_at names place).opened
     → changed_at place (breaks why (λ other. how file)) names ≡ changed_at place (breaks why how) names

@@ -1,4 +1,4 @@
--- What edits do to the files.
+-- Lemmas on what edits do to the files.
 use Rattle.std.proofs.{
   Common.{◌≡◌, ℕ, ◌<◌, ◌≤◌, zero, suc, Bool, true, false, List, [], ◌∷◌, ◌++◌, length, Option, Some, None, refl, sym, ◌∙◌, ap, arith},
   Common.{◌⊎◌, inl, inr, slice_index_or, get_or, set},
@@ -6,7 +6,7 @@ use Rattle.std.proofs.{
 use Rattle.ports_core.{proofs.SlotLemmas.set-changed, specs.Slot.changed_at}
 use Rattle.watch_core.specs.Edits.{append, Bar, Link, World, led_to, with_file, edited, seen_in, shown}
 
--- no name leads elsewhere where links and bars stay
+-- if links and bars stay, each name leads where it led
 pub same_leads : (forgives : Bool) (old new : World) (name : List ℕ) → new.links ≡ old.links → new.bars ≡ old.bars
     → (shown forgives new).leads name ≡ (shown forgives old).leads name
 same_leads false old new name links bars = ap (λ those. led_to those name) links
@@ -34,7 +34,7 @@ grown_at (held ∷ files) (suc place) (suc file) bytes = elim (grown_at files pl
   | inr both ↦ inr (ap suc both.0, both.1)
 ]
 
--- an append with_file no file but the one that the name leads to, and that one grows
+-- an append changes no file but the one to which the name leads, and this file grows
 pub append_grows : (world : World) (name bytes : List ℕ) (file : ℕ)
     → ((seen_in (edited (append name bytes) world)).holds file ≡ (seen_in world).holds file)
     ⊎ ((led_to world.links name ≡ Some file)
@@ -50,7 +50,7 @@ append_grows world name bytes file = by (led_to world.links name) refl where
     | inr both ↦ inr (ap Some both.0, both.1)
   ]
 
--- nothing is changed where there is no such file
+-- nothing changes if there is no such file
 changed_nowhere : {X : Type 0} (xs : List X) (place : ℕ) (change : X → X) → length xs ≤ place
     → changed_at place change xs ≡ xs
 changed_nowhere [] place change beyond = refl
@@ -61,7 +61,7 @@ pub file_stays : (world : World) (led : Option ℕ) (file : ℕ) (change : List 
     → length world.files ≤ file → world ≡ with_file led change world
 file_stays world led file change is beyond = rw is (ap (λ files. record world { files = files }) (sym (changed_nowhere world.files file change beyond)))
 
--- a file is replaced by its change
+-- to set a file to its changed bytes is to change it
 pub file_changed : (world : World) (links : List Link) (files : List (List ℕ)) (ended : List ℕ) (bars : List Bar)
     (led : Option ℕ) (file : ℕ) (change : List ℕ → List ℕ) (held new : List ℕ)
     → record { links = links; files = files; ended = ended; bars = bars } ≡ world → led ≡ Some file

@@ -1,5 +1,6 @@
--- Files under edits, and processes that end. Of a name that leads nowhere only a replacement does anything, and it makes a file that was not
--- there before; whether a name can be read doesn't depend on where it leads. A file to which no name leads any more keeps what it holds.
+-- Files that are edited, and processes that end. If a name leads nowhere, appending, cutting and removing change
+-- nothing. A replacement always makes a new file. Whether a name can be read doesn't depend on where it leads. A file
+-- to which no name leads any more keeps its bytes.
 use Rattle.std.specs.{
   Prelude.{ℕ, ◌==◌, ◌||◌, Bool, true, false, List, [], ◌∷◌, ◌++◌, length, map, take, Option, Some, None},
   Prelude.{slice_index_or, bytes_eq, if◌then◌else◌},
@@ -8,17 +9,17 @@ use Rattle.ports_core.specs.Slot.{changed_at}
 use Rattle.watch_core.specs.Snapshot.{Snapshot, forgiving}
 
 pub data Edit : Type 0 where
-  -- bytes come to the end of the name's file
+  -- bytes are appended to the file to which the name leads
   append : List ℕ → List ℕ → Edit
-  -- of the name's file the first n bytes are left, or all where it has no more
+  -- the file to which the name leads keeps its first n bytes, or all if it has fewer
   truncate : List ℕ → ℕ → Edit
-  -- the name leads to a new file, which holds these bytes
+  -- from now on the name leads to a new file with these bytes
   replace : List ℕ → List ℕ → Edit
-  -- the name leads nowhere
+  -- from now on the name leads nowhere
   remove : List ℕ → Edit
   -- the process of this number ends
   end : ℕ → Edit
-  -- from now on the name can't be opened or read, where this is true, and it can again where it is false
+  -- from now on the name can't be opened or read if the flag is true, and can if it is false
   bar : List ℕ → Bool → Edit
 
 pub record Link : Type 0 where
@@ -30,8 +31,8 @@ pub record Bar : Type 0 where
   pub name : List ℕ
   pub is_barred : Bool
 
--- the files, each at its identity, and where the names lead: of one name the first link counts; the processes that
--- ended; and which names can't be read: of one name the first bar counts
+-- The files, each at its identity; where names lead; the processes that ended; and which names can't be read. If there
+-- are several links or bars for a name, the first counts.
 pub record World : Type 0 where
   pub links : List Link
   pub files : List (List ℕ)
@@ -45,7 +46,7 @@ abbrev pub led_to : List Link → List ℕ → Option ℕ
 led_to [] name = None
 led_to (link ∷ links) name = if bytes_eq link.name name then link.file else led_to links name
 
--- this name can't be opened or read
+-- whether this name can't be opened or read
 abbrev pub is_barred_in : List Bar → List ℕ → Bool
 is_barred_in [] name = false
 is_barred_in (one ∷ bars) name = if bytes_eq one.name name then one.is_barred else is_barred_in bars name
@@ -54,7 +55,7 @@ is_barred_in (one ∷ bars) name = if bytes_eq one.name name then one.is_barred 
 abbrev pub held_in : List (List ℕ) → ℕ → List ℕ
 held_in files file = slice_index_or files file []
 
--- what this file holds is changed
+-- the world after a change of what this file holds; without a file, as it was
 abbrev pub with_file : Option ℕ → (List ℕ → List ℕ) → World → World
 with_file None change world = world
 with_file (Some file) change world = record world { files = changed_at file change world.files }
@@ -74,12 +75,12 @@ abbrev pub edited_by : List Edit → World → World
 edited_by [] world = world
 edited_by (edit ∷ edits) world = edited_by edits (edited edit world)
 
--- this process is one of these
+-- whether the process is one of these
 abbrev pub is_one : ℕ → List ℕ → Bool
 is_one process [] = false
 is_one process (other ∷ ended) = (process == other) || is_one process ended
 
--- what a look sees of these files, and before it of processes
+-- what a look sees of a world: its files, and the processes that ended before the look
 abbrev pub seen_in : World → Snapshot
 seen_in world = record {
   leads = led_to world.links;
@@ -92,11 +93,11 @@ seen_in world = record {
   within = 1000;
 }
 
--- the same, where it forgives if this is true
+-- what a look sees of a world, if it forgives or if it doesn't
 abbrev pub shown : (forgives : Bool) → World → Snapshot
 shown forgives world = if forgives then forgiving (seen_in world) else seen_in world
 
--- the files at each look, where a look comes after each of these lists of edits
+-- the world at each look, if one list of edits is made before each look
 abbrev pub worlds_from : World → List (List Edit) → List World
 worlds_from world [] = []
 worlds_from world (edits ∷ looks) = edited_by edits world ∷ worlds_from (edited_by edits world) looks

@@ -1,6 +1,6 @@
--- What one look can see: which file each name leads to, what each file holds, and which processes are gone; how it
--- is if a name that can't be read counts as missing, if a missing name fails, or if a name leads to the file to which it
--- led first; and how soon it begins.
+-- What one look can see: to which file each name leads, what each file holds, which processes are gone, and how soon
+-- the look begins. There are three other kinds of looks: a name that can't be read counts as missing; a call on a
+-- missing name fails; or a name leads to the file to which it led first.
 use Rattle.std.specs.{
   Prelude.{◌≡◌, ℕ, zero, suc, ◌==◌, Bool, true, false, not, ◌&&◌, List, [], ◌∷◌, Option, Some, None, if◌then◌else◌},
   List.list_any,
@@ -10,36 +10,36 @@ use Rattle.std.specs.{
 pub data Finding : Type 0 where
   -- the name leads to this file, or nowhere
   leads_to : Option ℕ → Finding
-  -- this file was opened, or there was none
+  -- this file was opened, or none was there
   opens_as : Option ℕ → Finding
-  -- the open file, which is this one, holds this number of bytes
+  -- this file, which is open, has this number of bytes
   holds_many : Option ℕ → ℕ → Finding
-  -- a read of it from a place on, with room for some, gave these bytes
+  -- a read of this open file from a place on, into a buffer with room, gave these bytes
   reads_as : Option ℕ → ℕ → List ℕ → Finding
 
--- this finds that a name leads nowhere
+-- whether the call found that a name leads nowhere
 abbrev pub is_nowhere : Finding → Bool
 is_nowhere (leads_to None) = true
 is_nowhere (opens_as None) = true
 is_nowhere finding = false
 
 pub record Snapshot : Type 0 where
-  -- the file that a name leads to, by its identity
+  -- the file to which a name leads, by its identity
   pub leads : List ℕ → Option ℕ
-  -- what a file holds; one to which no name leads any more still holds it
+  -- what a file holds, also if no name leads to it any more
   pub holds : ℕ → List ℕ
-  -- A call on this name can find this. Of any watch it is known of what its calls found, and of nothing else.
+  -- Whether a call on this name can find this. Contracts of a watch say so only of what its calls found.
   pub finds : List ℕ → Finding → Bool
-  -- this name is there, and can't be opened or read
+  -- whether this name can't be opened or read
   pub barred : List ℕ → Bool
-  -- a call on this name can fail in this look
+  -- whether a call on this name can fail in this look
   pub breaks : List ℕ → Bool
-  -- no call finds that a name leads nowhere: it fails
+  -- whether a call fails instead of finding that a name leads nowhere
   pub insists : Bool
-  -- Before the look it can be found that no process of this number runs. Of any watch it is known of those that were
-  -- found to be gone, and of no others.
+  -- Whether it can be found before the look that no process of this number runs. Contracts of a watch say so only of
+  -- processes that were found to be gone.
   pub lacks : ℕ → Bool
-  -- within how many milliseconds after the look before it begins where nothing is seen to change
+  -- the look begins at most this many milliseconds after the look before it, if no change is seen
   pub within : ℕ
 
 abbrev pub no_files : Snapshot
@@ -58,7 +58,7 @@ no_files = record {
 abbrev pub has_zero : List ℕ → Bool
 has_zero name = list_any (λ byte. byte == 0) name
 
--- this look where it forgives: a name that can't be read counts as missing, and no call fails on one that a file can have
+-- this look if it forgives: a name that can't be read counts as missing, and a call fails only on a name with a byte 0
 abbrev pub forgiving : Snapshot → Snapshot
 forgiving snapshot = record snapshot {
   leads = λ name. if snapshot.barred name then None else snapshot.leads name;
@@ -80,8 +80,8 @@ abbrev pub first_led : (ℕ → Option ℕ) → ℕ → Option ℕ
 first_led leads zero = None
 first_led leads (suc n) = or_else (first_led leads n) (leads n)
 
--- Looks that cling: a name leads to the first file to which it led at one of them. Before, one that can't be read counts
--- as missing. The length or the bytes of an open file can be refused, so a call on any name can fail.
+-- Look n if looks cling: a name leads to the first file to which it led at a look up to this one, and a name that can't
+-- be read counts as missing. The length or the bytes of an open file can be refused, so a call on any name can fail.
 abbrev pub clinging : (ℕ → Snapshot) → ℕ → Snapshot
 clinging shows n = record (forgiving (shows n)) {
   leads = λ name. first_led (λ look. (forgiving (shows look)).leads name) (suc n);
@@ -89,11 +89,11 @@ clinging shows n = record (forgiving (shows n)) {
   breaks = λ name. true;
 }
 
--- this look where it begins within this number of milliseconds
+-- this look if it begins within this number of milliseconds
 abbrev pub waiting : (milliseconds : ℕ) → Snapshot → Snapshot
 waiting milliseconds snapshot = record snapshot { within = milliseconds }
 
--- a call on this name found this, as it can in this look
+-- in this look a call on this name can find this
 abbrev pub Found : Snapshot → List ℕ → Finding → Type 0
 Found snapshot name finding = (snapshot.finds name finding && not (snapshot.insists && is_nowhere finding)) ≡ true
 

@@ -15,12 +15,12 @@ pub record Watched : Type 0 where
   pub name : List ℕ
   -- the file that is open, by its identity
   pub opened : Option ℕ
-  -- the call by which it broke, if it did: its first one that failed
+  -- the first call on the name that failed, if any did; the name is broken then
   pub failed : Option Broken
-  -- why that call failed; `Other` of a name that did not break
+  -- why that call failed; `Other` if no call failed
   pub reason : Reason
 
--- what stands at a place where no name was added
+-- what stands at a place if no name was added there
 abbrev pub no_name : Watched
 no_name = record { name = []; opened = None; failed = Some broken.Look; reason = Other }
 
@@ -31,15 +31,15 @@ watched_at names place = slice_index_or names place no_name
 abbrev pub added : List ℕ → Watched
 added name = record { name = name; opened = None; failed = None; reason = Other }
 
--- this file is open, or none
+-- the state of a name once this file of it is open, or none
 abbrev pub opens : Option ℕ → Watched → Watched
 opens file watched = record watched { opened = file }
 
--- it broke for this reason by a call, while this file was open, which is closed
+-- the name broke by this call and for this reason; the file that was open is closed
 abbrev pub breaks : Reason → (Option ℕ → Broken) → Watched → Watched
 breaks why how watched = record watched { opened = None; failed = Some (how watched.opened); reason = why }
 
--- the name at this place broke so, for some reason, and no other changed
+-- the name at this place broke by this call, for some reason, and no other name changed
 abbrev pub NameBreaks : (Option ℕ → Broken) → ℕ → List Watched → List Watched → Type 0
 NameBreaks how place old new = (why : Reason) × (new ≡ changed_at place (breaks why how) old)
 
@@ -47,30 +47,30 @@ NameBreaks how place old new = (why : Reason) × (new ≡ changed_at place (brea
 abbrev pub CanBreak : List Snapshot → List Watched → ℕ → Type 0
 CanBreak seen names place = (latest seen).breaks (watched_at names place).name ≡ true
 
--- there is such a name, and it is not broken
+-- whether there is a name at this place that isn't broken
 abbrev pub is_watchable : List Watched → ℕ → Bool
 is_watchable names place = is_none (watched_at names place).failed
 
--- and a file of it is open
+-- whether a file of the name at this place is open, and the name isn't broken
 abbrev pub is_readable : List Watched → ℕ → Bool
 is_readable names place = is_some (watched_at names place).opened && is_watchable names place
 
--- a file as a look tells it: its identity, and how much it holds
+-- a file as a look reports it: its identity, and how many bytes it holds
 abbrev pub file_seen : Snapshot → ℕ → Seen
 file_seen snapshot file = record { id = file; len = length (snapshot.holds file) }
 
--- this is what the name leads to
+-- `found` is the file to which the name leads, or none
 abbrev pub Finds : Snapshot → List ℕ → Option Seen → Type 0
 Finds snapshot name found = found ≡ option_map (file_seen snapshot) (snapshot.leads name)
 
--- what the open file holds
+-- what the open file holds; nothing if no file is open
 abbrev pub open_contents : Snapshot → Watched → List ℕ
 open_contents snapshot watched = elim watched.opened [
   | None ↦ []
   | Some file ↦ snapshot.holds file
 ]
 
--- what the name leads to was opened in place of the file that was open; where it leads nowhere, none is open
+-- the file to which the name leads was opened in place of the open file; if the name leads nowhere, no file is open
 pub record Reopens (told : Bool) (snapshot : Snapshot) (old new : List Watched) (place : ℕ)
     (is_there : Bool) : Type 0 where
   pub file : Option ℕ
@@ -79,6 +79,6 @@ pub record Reopens (told : Bool) (snapshot : Snapshot) (old new : List Watched) 
   pub leads : told ≡ true → file ≡ snapshot.leads (watched_at old place).name
   pub opens : Found snapshot (watched_at old place).name (opens_as file)
 
--- a read from a place of the file on: it gave none only from its end on, or into no room
+-- a read of the file from a place on gave these bytes; it gave none only at the end or past it, or into no room
 abbrev pub GaveFrom : List ℕ → ℕ → List ℕ → List ℕ → ℕ → Type 0
 GaveFrom contents from old new n = Gave (unshown (drop from contents)) old new n

@@ -1,4 +1,4 @@
--- How a program was called, by the arguments that it is given.
+-- Lemmas on how a program was called, by the arguments that it is given.
 use Rattle.std.proofs.{
   lemmas.{
     Grind.common_steps,
@@ -21,16 +21,16 @@ use Rattle.words_core.specs.{
   Words.{tool_named},
 }
 
--- the last part of a path, of which this is left, where it is this unless a `/` follows
+-- the last part of a path, by what is left of the path and the last part so far
 abbrev pub part_among : (part left : List ℕ) → List ℕ
 part_among part left = if has_slash left then last_part left else part
 
--- all of it, as long as nothing was looked at
+-- before a byte was looked at, all of the path is left
 pub whole_part : (path : List ℕ) → part_among path path ≡ last_part path
 whole_part [] = refl
 whole_part (byte ∷ rest) = grind (arith, common_steps)
 
--- no tool's name is other than text
+-- the name of each tool is a text
 
 abbrev AreTexts : List ToolRow → Type 0
 AreTexts [] = Unit {0}
@@ -64,7 +64,7 @@ no_tool name none =
 
 -- How an argument is read as a word.
 
--- UTF-8 is its own text
+-- an argument that is UTF-8 is read as its own text
 pub text_is : (tool : Option Tool) (argument : List ℕ) → IsUtf8 argument → argument ≡ word_of tool argument
 text_is tool argument text = own (reads_any tool) where
   own : (any : Bool) → argument ≡ (if any then text_of argument else argument)
@@ -75,13 +75,13 @@ no_text : (test : Bool) {argument : List ℕ} → (test ≡ true → IsUtf8 argu
 no_text true text none = absurd (none (text refl))
 no_text false text none = refl
 
--- and what isn't is marked, where it is read
+-- an argument that isn't UTF-8 is marked, if such arguments are read
 pub marked_is : (tool : Option Tool) (argument : List ℕ) {word : List ℕ} → reads_any tool ≡ true → (IsUtf8 argument → ⊥)
     → word ≡ utf8_lossy argument ++ 0 ∷ [] → word ≡ word_of tool argument
 marked_is tool argument any none is =
     rw (any, no_text (is_utf8 argument) (IsUtf8-from_is_utf8 argument) none) is
 
--- one more is read
+-- one more argument is read
 pub read_on : (tool : Option Tool) (argument : List ℕ) (first read : List (List ℕ)) {words more : List (List ℕ)}
     → words ≡ first ++ map (word_of tool) read → more ≡ words ++ word_of tool argument ∷ []
     → more ≡ first ++ map (word_of tool) (read ++ argument ∷ [])
@@ -89,7 +89,7 @@ read_on tool argument first read so_far is = is ∙ ap (λ words. words ++ word_
     ∙ append_assoc first (map (word_of tool) read) (word_of tool argument ∷ [])
     ∙ ap (λ rest. first ++ rest) (sym (map-append (word_of tool) read (argument ∷ [])))
 
--- Of a program whose own name is given, and calls this tool, the first words and those that follow are all its words.
+-- if a program's own name is given and calls this tool, the first words and those that follow are all its words
 pub all_words : (gives : ℕ → Option (List ℕ) → Type 0) {name : List ℕ} {tool : Option Tool} (first : Args)
     (result : Result Args ArgsFault)
     → gives 0 (Some name) → tool ≡ tool_called name
@@ -107,7 +107,7 @@ all_words gives {name} {tool} first (Ok args) given is words calling rest same =
 }
 all_words gives first (Err fault) given is words calling rest same = tt
 
--- where the arguments are one list, those from a place on are what it has from there on
+-- if the arguments are one list, the arguments from a place on are what the list has from there on
 pub one_list : (all : List (List ℕ)) (place : ℕ) (arguments : List (List ℕ))
     → AreGiven (λ place found. found ≡ slice_get all place) place arguments → arguments ≡ drop place all
 one_list all place [] none =

@@ -35,7 +35,7 @@ use Rattle.words_core.specs.{
 use Rattle.ports_core.specs.declared.tool.Tool.TheVariants as tool
 use Rattle.words_core.specs.declared.choice.Choice.TheVariants as choice
 
--- the first of these words says where `tail` begins
+-- whether the first of these words says where `tail` begins
 abbrev pub begin : List OptionRow → Letters → List (List ℕ) → Bool
 begin rows letters ((byte ∷ text) ∷ words) = byte == 43 && is_start OwnName rows letters text
 begin rows letters words = false
@@ -70,13 +70,13 @@ pub same_unknown : (name : List ℕ) (words : List (List ℕ)) (row : Option Too
 same_unknown name words None none = refl
 same_unknown name words (Some row) none = absurd (cc)
 
--- a word of a `+` is a name
+-- a word that begins with a `+` is read as an operand
 pub plus_is_name : (rows : List OptionRow) (place : ℕ) (text : List ℕ)
     → mixed rows place (43 ∷ text) ≡ reading (one_operand (43 ∷ text) place)
 plus_is_name rows place [] = refl
 plus_is_name rows place (byte ∷ text) = refl
 
--- what is done once an output is broken, said before the options, is so where none of them says it
+-- What is done once an output is broken: what is set before the options stays, if no option says it.
 
 abbrev pub with_broken : OnBroken → TeeAsked → TeeAsked
 with_broken on_broken asked = record asked { on_broken = on_broken }
@@ -119,7 +119,7 @@ same_tee (Ok given) is = rw (said given (says_so (has says_on_broken given.optio
   says_so false is = absurd (cc)
 same_tee (Err fault) is = refl
 
--- what is followed is the same, except where `cutters` refuses it
+-- What is followed is the same by both ways to call the program, except if `cutters` refuses it.
 
 own_follow : (followed : Option Followed) (retry : Bool) (names : List (List ℕ))
     → (followed_in followed retry OwnName names ≡ followed_in followed retry Cutters names)
@@ -158,7 +158,7 @@ pub own_tail : (meant : Result Given Fault)
 own_tail (Ok given) = tail_topic (topic_in given.options) (tail_asked OwnName given) (tail_asked Cutters given) (own_work given)
 own_tail (Err fault) = inl refl
 
--- `csplit` asks for the same, but for how it is called
+-- `csplit` asks for the same by both ways to call the program, except its calling and style.
 
 own_topic : (topic : Option Topic) (style : Style) (operands : List GivenOperand)
     → about_or tool.Csplit topic (then_check (asked_of OwnName style operands) (λ asked. Ok (Csplit asked)))

@@ -30,7 +30,7 @@ use Rattle.ports_core.specs.declared.tool.Tool.TheVariants as tool
 use Rattle.ports_core.specs.declared.slot.Mode.TheVariants as mode
 use Rattle.words_core.specs.declared.choice.Choice.TheVariants as choice
 
--- a part of what is asked for that some options set, whatever was asked before them, and that the others leave
+-- A part of what is asked for: options that pass the test set it, whatever was asked before, and the others leave it.
 
 abbrev pub Sets : {A C : Type 0} → (A → Choice → A) → (A → C) → (Choice → Bool) → Type 0
 Sets {A} by part test = (asked other : A) (choice : Choice) → part (by asked choice) ≡ (if test choice then part (by other choice) else part asked)
@@ -54,7 +54,7 @@ pub last_decides : {A C : Type 0} (by : A → Choice → A) (part : A → C) {te
     → (asked : A) → LastDecides test (λ options. part (asked_by by asked options)) (part asked)
 last_decides by part {test} sets asked = record { last = decided by part test sets asked asked; none = kept by part test sets asked }
 
--- What the options of each tool set. One without a value sets the same wherever it stands.
+-- What the options of each tool set. An option without a value sets the same wherever it stands.
 
 pub ends-sets : (asked other : EndsAsked) (choice : Choice)
     → (amount_of (ends_by asked choice) ≡ (if counts choice then amount_of (ends_by other choice) else amount_of asked))
@@ -78,13 +78,13 @@ pub retry-sets : (asked : Bool) (choice : Choice) → retry_by asked choice ≡ 
 retry-sets asked choice.Retry = refl
 retry-sets asked choice = refl
 
--- what `tail` is asked for of each input at first is what `head` is
+-- what `tail` writes of each input at first is set by the same options as for `head`
 pub tail_ends : (asked : TailSettings) (options : List Chosen)
     → (asked_by tail_by asked options).ends ≡ asked_by ends_by asked.ends options
 tail_ends asked [] = refl
 tail_ends asked (option ∷ options) = tail_ends (tail_by asked option.choice) options ∙ ap (λ ends. asked_by ends_by ends options) (tail-sets asked asked option.choice).4
 
--- and which inputs these are is so from the beginning on, whatever options ask
+-- The names of the inputs stay, whatever options ask for.
 
 abbrev pub of_these : List (List ℕ) → TailSettings → TailSettings
 of_these names asked = record asked { ends = record asked.ends { names = names } }
@@ -138,7 +138,7 @@ pub tee-sets : (asked other : TeeAsked) (choice : Choice)
 tee-sets asked other (choice.OnBroken on_broken) = (refl, refl)
 tee-sets asked other choice = (refl, refl)
 
--- one that changes nothing may be left out
+-- an option without effect may be left out
 module _ (before after : List Chosen) (word : ℕ) where
   abbrev it : Chosen
   it = record { choice = choice.NoEffect; word = word }
@@ -179,7 +179,7 @@ module _ (before after : List Chosen) (word : ℕ) where
       ap (λ topic. about_or which topic (work_for calling which (record { options = with_it; operands = operands }))) no_topic
       ∙ ap (about_or which (topic_in (before ++ after))) (no_work calling which operands)
 
--- what an option without a value asks is so where it is given
+-- What an option without a value asks for is asked for exactly if the option is given.
 
 either_fixed : {A : Type 0} (one rest : Bool) (fixed other : A)
     → (if rest then fixed else (if one then fixed else other)) ≡ (if one || rest then fixed else other)
@@ -205,14 +205,14 @@ pub append_is : (is : Bool) → ((if is then mode.Append else mode.Fresh) ≡ mo
 append_is true = (λ _. refl, λ _. refl)
 append_is false = search rules
 
--- at most one way to split
+-- There is at most one way to split.
 
 pub few_ways : (delim : ℕ) (ways : List Chosen)
     → (IsOk (only_way delim ways) → length ways ≤ 1) × (length ways ≤ 1 → IsOk (only_way delim ways))
 few_ways delim (way ∷ second ∷ more) = search rules
 few_ways delim ways = search rules
 
--- the ways among options, of which one is a way
+-- the ways among options, around an option that is a way
 ways_around : (before after : List Chosen) (option : Chosen) → is_way option ≡ true
     → filter is_way (before ++ option ∷ after) ≡ filter is_way before ++ option ∷ filter is_way after
 ways_around before after option is = grind (arith, common_steps)
@@ -224,7 +224,7 @@ way_among delim [] [] option cut is = cc
 way_among delim (way ∷ []) rest option cut is = absurd (cc)
 way_among delim front rest option cut is = absurd (cc)
 
--- whether an option is a way doesn't depend on the byte
+-- whether an option is a way doesn't depend on the byte that lines end with
 same_ways : (delim : ℕ) (choice : Choice) → is_some (way_in delim choice) ≡ is_some (way_in 10 choice)
 same_ways delim (choice.LinesEach size) = refl
 same_ways delim choice = refl
@@ -248,7 +248,7 @@ pub second_told : (before after : List Chosen) (option : Chosen) → length (fil
     → way_of (before ++ option ∷ after) ≡ Err (Usage TwoWays option.word)
 second_told before after option one is = grind (arith, common_steps, ways_around, second_among)
 
--- the way that is so far, if there is one, and ways after it
+-- the way to split, by the way so far, if there is one, and the ways that follow
 abbrev pub way_then : ℕ → Option Way → List Chosen → Result Way Fault
 way_then delim None ways = only_way delim ways
 way_then delim (Some way) [] = Ok way

@@ -12,14 +12,14 @@ use Rattle.words_core.specs.{
   Spelling.IsRefused,
 }
 
--- what these operands ask for, of which the first is the file
+-- what operands ask for, if the first is the file
 abbrev pub asked_first : Calling → Style → Operand → List Operand → CsplitAsked
 asked_first calling style none all =
     asked_with calling style (get_or all 0 none).text.now (map operand_seen (take (length all - 1) (drop 1 all)))
 
--- the first operand is the file
+-- The first operand is the file.
 
--- what a call returns for the style of these options and for these operands is what is asked, or why it is refused
+-- what a call returns for these options and operands is what is asked for, or the reason why it is refused
 pub settled : (calling : Calling) (given : Given) (options : List Chosen) (none : Operand) (all : List Operand)
     {style : Style}
     (result : Result CsplitAsked Fault)

@@ -1,4 +1,4 @@
--- What is read of a format.
+-- Lemmas on how a format is read.
 use Rattle.std.proofs.{
   lemmas.{
     Grind.common_steps,
@@ -25,7 +25,7 @@ use Rattle.words_core.specs.{
   inner.Format.{AfterLetter, without_percent},
 }
 
--- numbers above the limit are all alike
+-- Numbers above the limit are all treated alike.
 
 clipped : (n : ℕ)
     → (min n (2 ^ 64 - 1) ≡ n) ⊎ ((nat_le n 255 ≡ false) × (nat_le (min n (2 ^ 64 - 1)) 255 ≡ false))
@@ -57,7 +57,7 @@ pub letter_clipped : (flags : List ℕ) (width : ℕ) (precision : Option ℕ) (
 letter_clipped flags width precision [] = refl
 letter_clipped flags width precision (letter ∷ rest) = ap (λ form. with_rest form rest) (form_clipped flags width precision (base_of letter))
 
--- what follows a letter
+-- What follows a letter.
 
 pub after_drop : (n : ℕ) (text : List ℕ) {rest : List ℕ} → AfterLetter (drop n text) rest → AfterLetter text rest
 after_drop n text (front, letter, ascii, is) = (
@@ -87,7 +87,7 @@ letter_ends {text} {rest} utf8 (front, letter, ascii, is) =
     let place : length text - length rest ≡ length front + 1 = omega arith in
     (omega arith, rw place (IsCharBoundary-after_ascii text (length front) utf8 (omega arith) (omega arith)))
 
--- in words of slices
+-- Texts as slices.
 
 -- a text is its first byte and what follows it
 pub first_and_rest : (text : List ℕ) → 1 ≤ length text → text ≡ get_or text 0 0 ∷ take (length text - 1) (drop 1 text)
@@ -103,7 +103,7 @@ pub some_too : {T : Type 0} {P Q : T → Type 0} (found : Option T) → ((value 
 some_too (Some value) goes is = goes value is
 some_too None goes is = tt
 
--- what is left of a text is its end, and begins with a `%` or is nothing
+-- What `after_text` leaves is an end of the text, and is empty or begins with a `%`.
 
 abbrev IsPercentOrEnd : List ℕ → Type 0
 IsPercentOrEnd [] = Unit {0}
@@ -148,7 +148,7 @@ conversion_begins text =
     let place : length text - length (after_text text) ≡ length front = omega arith in
     (omega arith, rw place (boundary_at text front (after_text text) is begins))
 
--- what was read is the format of a text
+-- What follows the conversion is an end of the text.
 
 letter_rest : {text rest : List ℕ} → AfterLetter text rest → drop (length text - length rest) text ≡ rest
 letter_rest {text} {rest} (front, letter, ascii, is) =
@@ -187,7 +187,7 @@ is_format text {bytes} {conversion} {rest} {front} {back} {form} same is ends re
     ∙ ap (λ n. drop n text) (let n : length bytes - length rest ≡ length text - length rest = omega arith in n) ∙ ends.2 in
     rw (before, after, ← conv, ← read, none) refl
 
--- pieces of a text, without the second `%` of two
+-- A text in which two `%` are one, piece by piece.
 
 abbrev pub is_percent : ℕ → Bool
 is_percent byte = byte == 37

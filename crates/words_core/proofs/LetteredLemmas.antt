@@ -1,4 +1,4 @@
--- Lemmas on a first word of a hyphen, digits and letters.
+-- Lemmas on a first word that is a number with letters: a hyphen or a `+`, digits and letters.
 use Rattle.std.proofs.{
   lemmas.{Grind.common_steps, Bool.{and_parts, lt-ltb, Decides.nat_tests}, List.Elements.recursion_from_All},
   Math.Seq.{drop-append_seam, take-append_seam},
@@ -40,7 +40,7 @@ adds_both : (old one more : Given) (new : Given) (result : Result State Fault)
 adds_both old one more new (Ok next) is = grind (arith, common_steps)
 adds_both old one more new (Err fault) is = search rules
 
--- the count was added, and then the options
+-- a call added the count and then the options
 pub adds_count : (rows : List OptionRow) (sign : Sign) (place : ℕ) (text : List ℕ) (unit : Measured × ℕ)
     (counted : Result Count UsageKind) {count : Count} (old mid new : Given) (result : Result State Fault)
     → unit ≡ unit_in (after_digits text) → counted ≡ times sign (leading_digits text) unit.1 → counted ≡ Ok count
@@ -51,7 +51,7 @@ adds_count rows sign place text unit counted {count} old mid new result which ma
     let told : times sign (leading_digits text) (unit_in (after_digits text)).1 ≡ Ok count = rw (← which) (sym many ∙ is) in
     rw told (rw (← which) (adds_both old (one_option (Amount unit.0 count) place) _ new result (rw met at adds)))
 
--- such a word means nothing else
+-- A word that is read as a number with letters means nothing else.
 
 unknown_first : (rows : List OptionRow) (place byte : ℕ) (rest : List ℕ) → option_lettered rows byte ≡ None
     → (byte == 45) ≡ false → mixed rows place (45 ∷ byte ∷ rest) ≡ Err (Usage UnknownOption place)
@@ -96,7 +96,7 @@ tail_letters text place is =
       | inr among ↦ begins_with_unit P without_digits text among (refl, (refl, (refl, (refl, tt))))
     ]
 
--- what the letters after digits ask
+-- What the letters after digits ask for.
 
 pub digits_in : (digits rest : List ℕ) → list_all is_ascii_digit digits ≡ true → prefix_len is_ascii_digit rest ≡ 0
     → prefix_len is_ascii_digit (digits ++ rest) ≡ length digits
@@ -113,7 +113,7 @@ not_empty (digit ∷ digits) is = grind (arith, nat_tests)
 unit_is_no_digit : (letter : ℕ) {unit : Measured × ℕ} → unit_of letter ≡ Some unit → is_ascii_digit letter ≡ false
 unit_is_no_digit letter is = search rules
 
--- the digits and the letters of such a text
+-- The digits and the letters of a number with letters.
 
 abbrev pub HasParts : (text digits letters : List ℕ) → Type 0
 HasParts text digits letters = (leading_digits text ≡ digits) × (after_digits text ≡ letters)
@@ -138,7 +138,7 @@ same_given : {one other : Given} → reading one ≡ reading other → one ≡ o
 same_given is = ap given_in is
 
 module _ (rows : List OptionRow) where
-  -- letters of options
+  -- Letters that name options, and are no digits and no units.
 
   abbrev pub IsOther : ℕ → Type 0
   IsOther letter = (unit_of letter ≡ None) × (is_ascii_digit letter ≡ false) × (choice : Choice) × IsSwitch rows letter choice
@@ -154,7 +154,7 @@ module _ (rows : List OptionRow) where
       let found : option_lettered rows letter ≡ Some switch.takes = rw (lt-ltb letter 128 switch.ascii) switch.named in
       rw (as_cluster place letters are.1, found, switch.named, are.0.0) (lettered_so place letters switch.takes (switches rows place letters) switch.alone)
 
-  -- letters of options, and perhaps one that says what is counted: this unit, and nothing else than the options alone
+  -- the letters are those of `options` and at most one for this unit, and ask for the same options
   abbrev pub Say : (letters options : List ℕ) → Measured × ℕ → ℕ → Type 0
   Say letters options unit units = (prefix_len is_ascii_digit letters ≡ 0) × (unit_in letters ≡ unit)
       × ((place : ℕ) → switches rows place letters ≡ switches rows place options)
@@ -186,7 +186,7 @@ module _ (rows : List OptionRow) where
       let say = say_unit before letter after says (rw options_are at others) in
       (others, before ++ letter ∷ after, 1, omega arith, rw is (parts digits (before ++ letter ∷ after) all say.0), rw options_are say)
 
-  -- what such a text asks
+  -- What a number with letters asks for.
 
   checked : (unit : Measured) (place : ℕ) (given : Given) (count : Result Count UsageKind)
       → counted_with unit place given count

@@ -1,4 +1,4 @@
--- Whatever words spell, sizes, counts of files and widths are within their limits, and files that lines are dealt to have names.
+-- Lemmas: sizes, counts of files and widths are within their limits, and files have the names that they need.
 use Rattle.std.{
   proofs.lemmas.{Grind.common_steps, Bool.{cond_both, Decides.nat_tests}},
   proofs.Common.{◌≡◌, ℕ, ◌+◌, ◌-◌, ◌^◌, ◌≤◌, false, arith, List, [], ◌∷◌, Option, Some, None, Result, Ok, Err, IfOk},
@@ -45,7 +45,7 @@ use Rattle.seg_core.specs.declared.cut.Cut.TheVariants as cut
 use Rattle.seg_core.specs.declared.cut.Way.TheVariants as way
 use Rattle.words_core.specs.declared.choice.Choice.TheVariants as choice
 
--- all words: their operands are some of them
+-- The operands of all words are some of the words.
 
 abbrev GivesAmong : List OptionRow → ℕ → List (List ℕ) → Result Given Fault → Type 0
 GivesAmong rows place words given = IfOk given (λ given. (AreSafe rows → AreSound given.options) × AreAmong given.operands place words)
@@ -80,7 +80,7 @@ pub gives : (rows : List OptionRow) (words : List (List ℕ)) (place : ℕ) (sta
     → (AreSafe rows → AreSound given.options) × AreAmong given.operands place words
 gives rows words place state given is = rw is at (spelled-gives rows words place state)
 
--- what each option keeps, all keep
+-- what each option keeps is kept by all options
 asked-keeps : {A : Type 0} (by : A → Choice → A) (P : A → Type 0)
     → ((asked : A) (choice : Choice) → P asked → IsSound choice → P (by asked choice))
     → (options : List Chosen) (asked : A) → P asked → AreSound options → P (asked_by by asked options)
@@ -88,7 +88,7 @@ asked-keeps by P keeps [] asked holds are = holds
 asked-keeps by P keeps (option ∷ options) asked holds are =
     asked-keeps by P keeps options (by asked option.choice) (keeps asked option.choice holds are.0) are.1
 
--- what the options of `split` ask for
+-- What the options of `split` ask for is within the limits.
 
 abbrev HasFew : SplitAsked → Type 0
 HasFew asked = (asked.width ≤ 255) × (first_number asked.from ≤ 2 ^ 63 - 1)
@@ -113,7 +113,7 @@ then_check-kept : {A B : Type 0} (P : A → Type 0) (Q : B → Type 0) (first : 
 then_check-kept P Q (Ok value) next is goes = goes value is
 then_check-kept P Q (Err fault) next is goes = tt
 
--- the names of files
+-- The width of names is enough.
 
 abbrev Serves : Way → Alphabet → Option ℕ → Suffix → Type 0
 Serves way alphabet from suffix = AreNamed way alphabet from suffix.width × IsWidth suffix.width
@@ -146,7 +146,7 @@ some_names alphabet width = power_positive alphabet width
 free-wide : (width : ℕ) → width ≤ 255 → IsWidth (free width).width
 free-wide width most = search rules
 
--- where the number of files is known
+-- a width is enough if the number of files is known
 all-can : (alphabet : Alphabet) (count width : ℕ) → count ≤ 10 ^ 20 → width ≤ 255
     → IfOk (for_all alphabet count width) (λ suffix. (count ≤ name_count alphabet suffix.width) × IsWidth suffix.width)
 all-can alphabet count width few most = grind (arith, common_steps, cond_both, least-can, wide_enough-can, some_if)
@@ -163,13 +163,13 @@ suffix-can (way.Cut (cut.Parts limit)) alphabet None width is most least =
 suffix-can (way.Chunk place chunks) alphabet from width is most least = search rules
 suffix-can (way.Turn place files delim) alphabet from width is most least = search rules
 
--- names whose first number an option gives don't widen
+-- Names don't widen if an option gives the number of the first file.
 
 pub never_widen : (given : Given) (asked : SplitAsked) (from : ℕ) → split_asked given ≡ Ok asked
     → asked.from ≡ Some from → asked.auto ≡ false
 never_widen given asked from is first = grind (arith, common_steps)
 
--- the line as a whole
+-- What all words together ask for is within the limits.
 
 asked-can : (given : Given) → AreSound given.options → IfOk (split_asked given) CanSplit
 asked-can given sound =
@@ -197,12 +197,12 @@ settled-can : (calling : Calling) (which : Tool) (given : Given) → AreSound gi
     → IfOk (settings_for calling which given) CanRun
 settled-can calling which given sound = about-can which (topic_in given.options) (work_for calling which given) (work-can calling which given sound)
 
--- what the tools' options ask for without a value is within the limits
+-- options without a value ask for nothing beyond the limits, in each tool's table
 tools-safe : (name : List ℕ) → IfSome (row_named tools name) (λ row. AreSafe row.options)
 unfolding tools
 tools-safe name = search rules
 
--- what was read of words can be done
+-- the settings that were read of words can be done
 pub read-can : (calling : Calling) (name : List ℕ) {rows : List ToolRow} {row : ToolRow} (words : List (List ℕ))
     {given : Given} (result : Result Settings Fault) → rows ≡ tools → Some row ≡ row_named rows name
     → given_by calling row words ≡ Ok given

@@ -1,4 +1,5 @@
--- What a word means: options whose values are within their limits, and no operand but the word itself; its fault stands at it.
+-- Lemmas on what one word means: options whose values are within their limits, and no operand but the word itself. If
+-- the word has a fault, it stands at this word or after it.
 use Rattle.std.{
   proofs.{
     lemmas.Grind.common_steps,
@@ -35,9 +36,9 @@ use Rattle.words_core.specs.declared.choice.Choice.TheVariants as choice
 use Rattle.words_core.specs.declared.choice.Kind.TheVariants as kind
 use Rattle.words_core.specs.declared.table.Takes.TheVariants as takes
 
--- a value, and all of them, within their limits
+-- The limits of the value of an option, and of all options.
 
--- the one that is asked for is one of this many
+-- the file that is asked for is one of this many
 abbrev pub IsAmong : ℕ → Option ℕ → Type 0
 IsAmong files None = ⊤
 IsAmong files (Some place) = place < files
@@ -55,7 +56,7 @@ abbrev pub AreSound : List Chosen → Type 0
 AreSound [] = ⊤
 AreSound (option ∷ options) = IsSound option.choice × AreSound options
 
--- a table whose rows ask for nothing beyond the limits without a value
+-- A table whose options ask for nothing beyond the limits if they have no value.
 
 abbrev pub IsSafe : Takes → Type 0
 IsSafe (takes.Nothing choice) = IsSound (seen choice)
@@ -95,7 +96,7 @@ pub sound-append : (front options : List Chosen) → AreSound front → AreSound
 sound-append [] options first rest = rest
 sound-append (option ∷ front) options first rest = (first.0, sound-append front options first.1 rest)
 
--- the values
+-- Values are within their limits.
 
 pub anything : {A E : Type 0} (value : Result A E) → IfOk value (λ _. ⊤)
 anything (Ok value) = tt
@@ -111,15 +112,15 @@ abbrev pub Tells : ℕ → Fault → Type 0
 Tells place (Usage kind word) = place ≤ word
 Tells place fault = ⊤
 
--- one word: options, within their limits where the table is, and no operand but the word itself; its fault stands at it, and so does
--- the option that then awaits a value
+-- One word gives options, within their limits if those of the table are, and no operand but itself. Its fault, or the
+-- option that awaits a value after it, stands at this word or after it.
 abbrev pub GivesItself : List OptionRow → ℕ → List ℕ → Result Meaning Fault → Type 0
 GivesItself rows place word (Ok meaning) = (AreSafe rows → AreSound meaning.given.options)
     × ((meaning.given.operands ≡ []) ⊎ (meaning.given.operands ≡ record { text = word; word = place } ∷ []))
     × Awaits place meaning.next
 GivesItself rows place word (Err fault) = Tells place fault
 
--- what `-n` says
+-- The value of `-n` is within its limits.
 
 all-sound : (dealing : Dealing) (files : List ℕ)
     → IfOk (all_in dealing files) (λ division. IsSound (choice.Divided division))
@@ -133,7 +134,7 @@ numbers-sound dealing front (byte ∷ rest) = grind (arith, common_steps)
 division-sound : (text : List ℕ) → IfOk (division_in text) (λ division. IsSound (choice.Divided division))
 division-sound text = grind (arith, common_steps, numbers-sound)
 
--- a value is within its limits
+-- a choice is within its limits if its value is
 as-sound : {A : Type 0} (make : A → Choice) (value : Result A UsageKind) → IfOk value (λ value. IsSound (make value))
     → IfOk (asking make value) IsSound
 as-sound make (Ok value) is = is
@@ -144,7 +145,7 @@ choice-sound kind.Divided text = as-sound (λ division. choice.Divided division)
 choice-sound which text = search rules
 
 module _ (rows : List OptionRow) (place : ℕ) where
-  -- a number with letters
+  -- A number with letters gives options within their limits.
 
   abbrev GivesSound : Given → Type 0
   GivesSound given = (AreSafe rows → AreSound given.options) × (given.operands ≡ [])
@@ -161,7 +162,7 @@ module _ (rows : List OptionRow) (place : ℕ) where
       either GivesSound (is_unit letter) _ _ (switches-give letters)
       (switched-gives _ (letter_named rows letter) (found-safe rows (45 ∷ letter ∷ [])) (switches-give letters))
 
-  -- options alone
+  -- A word of options gives no operand.
 
   module _ (word : List ℕ) where
     said-gives : (option : ℕ) (value : Result Choice UsageKind) → IfOk value IsSound

@@ -14,13 +14,13 @@ use Rattle.words_core.specs.{
   Spelling.{Meaning, given_before, onward, meaning_of, spelled},
 }
 
--- what is so of both is so of either
+-- what is true of both values is true of the one that a test picks
 pub either : {A : Type 0} (P : A → Type 0) (test : Bool) (one other : A) → P one → P other
     → P (if test then one else other)
 either P true one other first second = first
 either P false one other first second = second
 
--- a fault among the first words, whatever follows them
+-- A fault among the first words stays, whatever words follow.
 
 pub of_more : (given : Given) (meant : Result Given Fault) {fault : Fault} → given_before given meant ≡ Err fault
     → meant ≡ Err fault

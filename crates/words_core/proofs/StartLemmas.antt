@@ -29,7 +29,7 @@ with_unit text digits letters is number of_tail =
     let some = (and_parts (nat_lt 0 (length digits)) _ number).0 in
     rw (is.0, is.1, of_tail, some, or-true (is_number text)) refl
 
--- what these ask
+-- what digits and letters ask for
 asked_so : (sign : Sign) (text : List ℕ) {digits letters : List ℕ} (place amount : ℕ) → HasParts text digits letters
     → is_number digits ≡ true → value_of digits * (unit_in letters).1 ≡ amount
     → with_letters tail_table sign place text
@@ -43,7 +43,7 @@ sized_so sign amount most = grind (arith, nat_tests)
 pub sized_large : (amount : ℕ) → 2 ^ 63 - 1 < amount → sized Plus amount ≡ Err TooLarge
 sized_large amount large = grind (arith, nat_tests)
 
--- digits alone, and digits with letters of which one may say what is counted
+-- Digits alone, and digits with letters of which one may say what is counted.
 
 no_letters : (digits : List ℕ) → is_number digits ≡ true → HasParts digits digits []
 no_letters digits number =

@@ -17,7 +17,7 @@ use Rattle.words_core.specs.{
 use Rattle.ports_core.specs.declared.fault.UsageKind.{UsageKind}
 use Rattle.words_core.specs.declared.table.Takes.TheVariants as takes
 
--- a letter
+-- A value right after the letter of its option.
 
 pub value_attached : (rows : List OptionRow) (letter : ℕ) (kind : Kind) (value : List ℕ) (choice : Choice)
     (words : List (List ℕ)) (place : ℕ)
@@ -26,7 +26,7 @@ pub value_attached : (rows : List OptionRow) (letter : ℕ) (kind : Kind) (value
 value_attached rows letter kind [] choice words place is some reads = absurd (some refl)
 value_attached rows letter kind (byte ∷ value) choice words place is some reads = search rules
 
--- the next word
+-- A value in the word after its option.
 
 awaited : (rows : List OptionRow) (kind : Kind) (word value : List ℕ) {choice : Choice} (words : List (List ℕ))
     {place : ℕ}
@@ -40,7 +40,7 @@ pub value_after_letter : (rows : List OptionRow) (letter : ℕ) (kind : Kind) (v
     → Gives rows ((45 ∷ letter ∷ []) ∷ value ∷ words) place choice (spelled rows words (place + 1 + 1) Reading)
 value_after_letter rows letter kind value choice words place is reads = search rules
 
--- a long name
+-- A value after a long name.
 
 place_of_equals : (front rest : List ℕ) → list_any is_equals front ≡ false → position_or_len is_equals rest ≡ 0
     → position_or_len is_equals (front ++ rest) ≡ length front

@@ -1,4 +1,4 @@
--- The least width that writes as many numbers.
+-- Lemmas on the least width that writes a number of names.
 use Rattle.std.proofs.{
   Common.{◌≡◌, ℕ, ◌+◌, ◌-◌, ◌<◌, ◌≤◌, zero, suc, false, arith, refl, ◌∙◌, ap},
   lemmas.{Grind.common_steps, Bool.{cond_both, leb-true}},
@@ -6,14 +6,14 @@ use Rattle.std.proofs.{
 use Rattle.ports_core.specs.{declared.alphabet.Alphabet.Alphabet, Name.name_count}
 use Rattle.words_core.specs.SplitWords.{least_from, names_all}
 
--- where a width doesn't write them, the next one is tried
+-- if a width doesn't write all numbers, the next width is tried
 pub least_next : (alphabet : Alphabet) (count width : ℕ) → width < 23 → names_all alphabet count width ≡ false
     → least_from alphabet count (23 - width) width ≡ least_from alphabet count (23 - (width + 1)) (width + 1)
 least_next alphabet count width few not =
     let more : 23 - width ≡ suc (23 - (width + 1)) = omega arith in
     ap (λ more. least_from alphabet count more width) more ∙ rw not refl
 
--- what is found is from the first width on and at most the last, and writes them if that one does
+-- the width that is found is at least the first and at most the last
 pub least_within : (alphabet : Alphabet) (count more width : ℕ)
     → (width ≤ least_from alphabet count more width) × (least_from alphabet count more width ≤ width + more)
 least_within alphabet count zero width = (omega arith, omega arith)

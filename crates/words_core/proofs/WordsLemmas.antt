@@ -1,4 +1,4 @@
--- Lemmas on what all words ask for, the first of which names the tool.
+-- Lemmas on what all words ask for. The first word names the tool.
 use Rattle.std.proofs.{
   lemmas.Grind.common_steps,
   Common.{◌≡◌, ℕ, ◌-◌, ◌≤◌, Bor, get_or, take, drop, length, map, List, Some, Result, Ok, IfOk, IfErr, arith},
@@ -12,14 +12,14 @@ use Rattle.words_core.specs.{
   Words.{HasBadOperands, settings_for, settings_of},
 }
 
--- the words as texts, and those after the first
+-- the words as texts
 abbrev pub texts : List (Bor (List ℕ)) → List (List ℕ)
 texts words = map (λ word. word.now) words
 
 abbrev pub after_first : List (Bor (List ℕ)) → List (List ℕ)
 after_first words = texts (take (length words - 1) (drop 1 words))
 
--- what the words after it ask of the tool in this row
+-- What the words after the tool's name ask of the tool.
 
 pub returned : (calling : Calling) (words : List (Bor (List ℕ))) (none : Bor (List ℕ)) {rows : List ToolRow}
     {row : ToolRow} {given : Given} (result : Result Settings Fault)

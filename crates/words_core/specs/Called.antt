@@ -11,15 +11,15 @@ use Rattle.ports_core.specs.{
 }
 use Rattle.words_core.specs.Words.{tool_named}
 
--- Which tool a program's own name calls: the one whose name is its last part. One `-` before that doesn't count: it
--- says that a shell is a login shell.
+-- Which tool a program's own name calls: the tool whose name is the last part of it. A `-` at the front of this part
+-- doesn't count: it says that a shell is a login shell.
 
 -- whether a `/` is among these bytes
 abbrev pub has_slash : List ℕ → Bool
 has_slash [] = false
 has_slash (byte ∷ rest) = byte == 47 || has_slash rest
 
--- the last part of a path: as long as a `/` is there, that of what follows its first byte
+-- what follows the last `/` of a path, or all of it without a `/`
 abbrev pub last_part : List ℕ → List ℕ
 last_part [] = []
 last_part (byte ∷ rest) = if has_slash (byte ∷ rest) then last_part rest else byte ∷ rest
@@ -31,7 +31,7 @@ without_hyphen (byte ∷ rest) = if byte == 45 then rest else byte ∷ rest
 abbrev pub tool_called : List ℕ → Option Tool
 tool_called name = tool_named (without_hyphen (last_part name))
 
--- how it is called then, and the words before all others
+-- how the program is called if its own name calls this tool or none, and the words that come before its arguments
 
 abbrev pub called_by : Option Tool → Calling
 called_by (Some tool) = OwnName
@@ -41,10 +41,10 @@ abbrev pub words_called : Option Tool → List (List ℕ)
 words_called (Some tool) = tool_name tool ∷ []
 words_called None = []
 
--- How an argument is read as a word. Words are UTF-8, so an argument that isn't is no word; but by a tool's own name, other than
--- `csplit`, it is one, which no file can have as its name: its text, and then a byte 0.
+-- How an argument is read as a word. Words are UTF-8. If the own name calls a tool other than `csplit`, an argument
+-- that isn't UTF-8 is read as its text and then a byte 0, and no file can have this name.
 
--- the text of an argument: where it isn't UTF-8, U+FFFD stands for each part that isn't, and a byte 0 comes after it
+-- an argument, if it is UTF-8; otherwise its text, with U+FFFD for each part that isn't UTF-8, and then a byte 0
 abbrev pub text_of : List ℕ → List ℕ
 text_of argument = if is_utf8 argument then argument else utf8_lossy argument ++ 0 ∷ []
 
@@ -57,8 +57,8 @@ reads_any (Some tool) = true
 abbrev pub word_of : Option Tool → List ℕ → List ℕ
 word_of tool argument = if reads_any tool then text_of argument else argument
 
--- What a program was started with: of the arguments the first is its own name, and the words are all others, after a
--- tool's name where the own name calls one.
+-- What a program was started with. The first argument is its own name. The words are the other arguments; if the own
+-- name calls a tool, the name of this tool stands before them.
 
 abbrev pub calling_of : List (List ℕ) → Calling
 calling_of [] = Cutters
@@ -68,18 +68,18 @@ abbrev pub words_of : List (List ℕ) → List (List ℕ)
 words_of [] = []
 words_of (name ∷ arguments) = words_called (tool_called name) ++ map (word_of (tool_called name)) arguments
 
--- The arguments from this place on: each is one that may be given there, and past the last one none may.
+-- the arguments from a place on may be these: each may be given at its place, and there may be none after the last
 abbrev pub AreGiven : (ℕ → Option (List ℕ) → Type 0) → ℕ → List (List ℕ) → Type 0
 AreGiven gives place [] = gives place None
 AreGiven gives place (argument ∷ arguments) = gives place (Some argument) × AreGiven gives (place + 1) arguments
 
--- what a call says of an argument, and leaves in the buffer: the argument, of this length, or that there is none
+-- what a call says about an argument may be so: its length, and the buffer begins with it; or that there is none
 abbrev pub Tells : (Option (List ℕ) → Type 0) → List ℕ → Result ℕ FillError → Type 0
 Tells gives buffer (Ok len) = gives (Some (take len buffer))
 Tells gives buffer (Err NotPresent) = gives None
 Tells gives buffer (Err TooLong) = ⊤
 
--- A program that may be given such arguments was called so, with these words.
+-- arguments that may be given call the program in this way, with these words
 pub record IsCalled (gives : ℕ → Option (List ℕ) → Type 0) (calling : Calling) (words : List (List ℕ)) : Type 0 where
   pub arguments : List (List ℕ)
   pub given : AreGiven gives 0 arguments

@@ -29,7 +29,7 @@ use Rattle.words_core.specs.declared.choice.Choice.TheVariants as choice
 
 -- what words ask of `csplit`
 pub record CsplitAsked : Type 0 where
-  -- how the program is called, which says how patterns may be spelled
+  -- how the program is called; that decides how patterns may be spelled
   pub calling : Calling
   -- how files are made
   pub style : Style
@@ -39,8 +39,8 @@ pub record CsplitAsked : Type 0 where
   pub operands : List (List ℕ)
   pub places : List ℕ
 
--- what is asked for without options: names begin with `xx` and have two digits, and nothing is kept, dropped or left
--- out
+-- what is asked for without options: names begin with `xx` and have two digits, sizes are printed, empty files are
+-- made, no line is left out, and no file stays after a fault
 abbrev pub plain : CsplitOptions
 plain = record {
   prefix = text (codes "xx");
@@ -52,7 +52,7 @@ plain = record {
   suppress = false;
 }
 
--- with one more option: the last prefix decides, and so do the last number of digits and the last format
+-- what is asked for with one more option; the last prefix, the last number of digits and the last format decide
 
 abbrev pub csplit_by : CsplitOptions → Choice → CsplitOptions
 csplit_by asked (choice.Prefix prefix) = record asked { prefix = prefix }
@@ -67,12 +67,12 @@ csplit_by asked choice = asked
 abbrev pub chosen_by : List Chosen → CsplitOptions
 chosen_by options = asked_by csplit_by plain options
 
--- where there is a format, the number of digits has no effect
+-- the format of names; without a format, a decimal number with this many digits at least
 abbrev pub format_or : ℕ → Option Written → Format
 format_or digits None = record { before = []; form = decimal_form digits; after = [] }
 format_or digits (Some format) = format_of format
 
--- how files are made
+-- how files are made, by options and the format of names
 abbrev pub style_with : CsplitOptions → Format → Style
 style_with asked format = record {
   prefix = asked.prefix.now ++ format.before;
@@ -91,7 +91,7 @@ style_by asked = style_with asked (format_or asked.digits asked.format)
 abbrev pub style_of : List Chosen → Style
 style_of options = style_by (chosen_by options)
 
--- The style of this call: by the tool's own name the cut of a pattern may stand one line past the last.
+-- the style, by how the program is called: by the own name the cut of a pattern may stand one line past the last
 abbrev pub style_in : Calling → Style → Style
 style_in Cutters style = style
 style_in OwnName style = record style { one_past = true }
@@ -105,7 +105,7 @@ asked_with calling style input rest = record {
   places = places_of rest;
 }
 
--- the file and at least one operand
+-- what the operands ask for: the first is the file, and at least one more has to follow
 abbrev pub asked_of : Calling → Style → List GivenOperand → Result CsplitAsked Fault
 asked_of calling style [] = Err (Usage MissingOperand 0)
 asked_of calling style (file ∷ []) = Err (Usage MissingOperand 0)
@@ -114,8 +114,8 @@ asked_of calling style (file ∷ operand ∷ operands) = Ok (asked_with calling 
 abbrev pub csplit_asked : Calling → Given → Result CsplitAsked Fault
 csplit_asked calling given = asked_of calling (style_of given.options) given.operands
 
--- What tells that operands are refused: the number of the rule that is broken, and for a pattern its rule and the place
--- in it. A pattern that is too large has no such place.
+-- How a fault of operands is reported: by the number of the rule that is broken, and for a pattern also by the place in
+-- it. A pattern that is too large has no such place.
 
 abbrev pub pattern_kind : ℕ → Option ℕ → UsageKind
 pattern_kind number (Some offset) = BadPattern number offset
@@ -126,7 +126,7 @@ fault_in word kind.Memory = Memory
 fault_in word (kind.Bre fault) = Usage (pattern_kind (number_of fault) (offset_of fault)) word
 fault_in word kind = Usage (BadOperand (number_of_kind kind)) word
 
--- a fault of operands whose words stand at these places
+-- the fault that is reported, if the words of the operands stand at these places
 abbrev pub operand_fault : List ℕ → OperandFault → Fault
 operand_fault places fault = fault_in (slice_index_or places fault.index 0) fault.kind
 
@@ -134,7 +134,7 @@ operand_fault places fault = fault_in (slice_index_or places fault.index 0) faul
 abbrev pub HasRead : CsplitAsked → Type 0
 HasRead asked = (operands : List Operand) × Asks asked.calling asked.operands operands
 
--- The operands can't be read, and this fault tells the first that is wrong. It may also be want of memory.
+-- the operands can't be read, and this fault reports the first that is wrong; or memory was refused
 abbrev pub HasBadOperand : CsplitAsked → Fault → Type 0
 HasBadOperand asked fault = (found : OperandFault) × IsFault asked.calling asked.operands found
     × (fault ≡ operand_fault asked.places found)

@@ -14,18 +14,18 @@ use Rattle.words_core.specs.{
 use Rattle.seg_core.specs.declared.cut.Way.TheVariants as way
 use Rattle.seg_core.specs.declared.unit.Unit.TheVariants as unit
 
--- the number of all files, 1 to 65,535
+-- a division among all files, 1 to 65,535 of them
 abbrev pub all_in : Dealing → List ℕ → Result Division UsageKind
 all_in dealing files = then_check (then_check (up_to 65535 (digits_of files)) not_zero) (λ n.
     Ok (record { dealing = dealing; files = n; only = None }))
 
--- the number of one, which words count from 1, and of all; it is told that it is larger than that before either is 0
+-- one file of a division, counted from 1; a number that is greater than that of all files is reported before 0
 abbrev pub one_in : Dealing → List ℕ → List ℕ → Result Division UsageKind
 one_in dealing number files = then_check (up_to 65535 (digits_of files)) (λ n.
     then_check (then_check (up_to n (digits_of number)) not_zero) (λ k.
     Ok (record { dealing = dealing; files = n; only = Some (k - 1) })))
 
--- `N` or `K/N` (47 is `/`): first the leading digits, then what stands after them
+-- what `N` or `K/N` says: `front` has the leading digits, and the other list what follows them; 47 is `/`
 abbrev pub numbers_in : Dealing → List ℕ → List ℕ → Result Division UsageKind
 numbers_in dealing front [] = all_in dealing front
 numbers_in dealing front (byte ∷ rest) =
@@ -34,14 +34,14 @@ numbers_in dealing front (byte ∷ rest) =
 abbrev pub divided_in : Dealing → List ℕ → Result Division UsageKind
 divided_in dealing text = numbers_in dealing (leading_digits text) (after_digits text)
 
--- with `l/` (108, 47) before it, `r/` (114, 47), or nothing
+-- what `N` or `K/N` says, with `l/` (108, 47), `r/` (114, 47) or nothing before it
 abbrev pub division_in : List ℕ → Result Division UsageKind
 division_in (byte ∷ next ∷ text) =
     if byte == 108 && next == 47 then divided_in Lines text
     else (if byte == 114 && next == 47 then divided_in Turns text else divided_in Bytes (byte ∷ next ∷ text))
 division_in text = divided_in Bytes text
 
--- what becomes of the input, whose lines end with this byte
+-- the way to split by a division, if lines end with this byte
 abbrev pub dealt_by : ℕ → Dealing → ℕ → Option ℕ → Way
 dealt_by delim Bytes n None = way.Chunks (record { count = n; unit = unit.Bytes; delim = delim })
 dealt_by delim Bytes n (Some place) = way.Chunk place (record { count = n; unit = unit.Bytes; delim = delim })

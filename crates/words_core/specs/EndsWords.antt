@@ -20,7 +20,7 @@ pub record EndsAsked : Type 0 where
   -- the names of the inputs
   pub names : List (List ℕ)
 
--- without options: ten lines of these inputs, which end with the newline, and headers where there are several inputs
+-- what is asked for without options: ten lines that end with the newline, and headers if there are several inputs
 abbrev pub ten_lines : List (List ℕ) → EndsAsked
 ten_lines names = record {
   unit = Lines;
@@ -30,7 +30,7 @@ ten_lines names = record {
   names = names;
 }
 
--- with one more option: the last count decides, and so does the last option for headers
+-- what is asked for with one more option; the last count decides, and so does the last option for headers
 
 abbrev pub ends_by : EndsAsked → Choice → EndsAsked
 ends_by asked (choice.Amount unit count) = record asked { unit = unit; count = count }
@@ -38,7 +38,7 @@ ends_by asked (choice.Headers headers) = record asked { headers = headers }
 ends_by asked choice.ZeroTerminated = record asked { delim = 0 }
 ends_by asked choice = asked
 
--- the names of the inputs: the operands, or standard input where there is none
+-- the names of the inputs: the operands, or standard input if there is no operand
 
 abbrev pub or_dash : List (List ℕ) → List (List ℕ)
 or_dash [] = codes "-" ∷ []
@@ -47,7 +47,7 @@ or_dash (name ∷ names) = name ∷ names
 abbrev pub names_asked : List GivenOperand → List (List ℕ)
 names_asked operands = or_dash (texts_of operands)
 
--- what options ask, of these inputs
+-- what options ask for, for these inputs
 abbrev pub ends_of : List (List ℕ) → List Chosen → EndsAsked
 ends_of names options = asked_by ends_by (ten_lines names) options
 

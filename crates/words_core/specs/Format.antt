@@ -1,5 +1,6 @@
 -- The format of names that `csplit -b` takes: a text with one conversion of C's `printf`, which says how a number is
--- written (GNU coreutils manual, csplit; C standard and POSIX, `fprintf`). Before and after it stand texts, where two `%` are one.
+-- written (GNU coreutils manual, csplit; C standard and POSIX, `fprintf`). Texts stand before and after the conversion,
+-- and in these two `%` stand for one.
 use Rattle.std.specs.{
   Prelude.{ℕ, ◌-◌, ◌==◌, ◌&&◌, ◌||◌, Bool, not, nat_le, List, [], ◌∷◌, length, take, drop, Option, Some, None},
   Prelude.if◌then◌else◌,
@@ -14,33 +15,33 @@ use Rattle.ports_core.specs.declared.form.{
 }
 use Rattle.words_core.specs.declared.format.Format.{Format as Written}
 
--- a text, a number in a form, and a text
+-- a format: a text, the form of a number, and a text
 pub record Format : Type 0 where
   pub before : List ℕ
   pub form : Form
   pub after : List ℕ
 
--- Texts; 37 is `%`.
+-- The texts of a format. 37 is `%`.
 
--- what stands from the conversion on: from the first `%` that is left where pairs are passed over from the left
+-- the text from the conversion on: from the first `%` that is left, if pairs of `%` are passed over from the left
 abbrev pub after_text : List ℕ → List ℕ
 after_text [] = []
 after_text (byte ∷ []) = if byte == 37 then byte ∷ [] else []
 after_text (byte ∷ next ∷ rest) =
     if byte == 37 then (if next == 37 then after_text rest else byte ∷ next ∷ rest) else after_text (next ∷ rest)
 
--- and what stands before it
+-- the text before the conversion
 abbrev pub before_it : List ℕ → List ℕ
 before_it text = take (length text - length (after_text text)) text
 
--- the text with one `%` for each two
+-- the text with one `%` in the place of each two
 abbrev pub plain_text : List ℕ → List ℕ
 plain_text [] = []
 plain_text (byte ∷ []) = byte ∷ []
 plain_text (byte ∷ next ∷ rest) =
     if byte == 37 && next == 37 then 37 ∷ plain_text rest else byte ∷ plain_text (next ∷ rest)
 
--- what a spelled format says
+-- the format that a spelled format stands for, with one `%` in the place of each two
 abbrev pub format_seen : Written → Format
 format_seen format = record {
   before = plain_text format.before.now;
@@ -50,36 +51,37 @@ format_seen format = record {
 
 -- The conversion: a `%`, flags, digits of the width, a `.` and digits of the precision, and a letter.
 
--- the flags are `-` (45), `0` (48), `#` (35) and `'` (39)
+-- the flags: `-` (45), `0` (48), `#` (35) and `'` (39)
 abbrev pub is_flag : ℕ → Bool
 is_flag byte = byte == 45 || byte == 48 || byte == 35 || byte == 39
 
--- the letters are d (100), i (105), u (117), o (111), x (120) and X (88)
+-- the base by its letter: d (100), i (105), u (117), o (111), x (120) or X (88)
 abbrev pub base_of : ℕ → Option Base
 base_of letter = if letter == 100 || letter == 105 || letter == 117 then Some Decimal
     else (if letter == 111 then Some Octal else (if letter == 120 then Some Hex
     else (if letter == 88 then Some Capitals else None)))
 
--- this flag is among them
+-- whether this flag is among the flags
 abbrev pub has_flag : ℕ → List ℕ → Bool
 has_flag flag flags = list_any (λ byte. byte == flag) flags
 
--- `#` goes with octal and hexadecimal numbers, `'` with decimal ones, which it doesn't change
+-- whether flags go with a base: `#` with octal and hexadecimal numbers, `'` with decimal numbers, which it doesn't
+-- change
 abbrev pub go_with : Base → List ℕ → Bool
 go_with Decimal flags = not (has_flag 35 flags)
 go_with base flags = not (has_flag 39 flags)
 
--- `-` has blanks follow the number; zeros stand before it only where there is no precision
+-- what fills a number to its width: with `-` blanks after it; otherwise, before it, zeros (`0`, no precision) or blanks
 abbrev pub filling_by : List ℕ → Option ℕ → Filling
 filling_by flags (Some digits) = if has_flag 45 flags then BlanksAfter else BlanksBefore
 filling_by flags None = if has_flag 45 flags then BlanksAfter
     else (if has_flag 48 flags then Zeros else BlanksBefore)
 
--- without a precision there is at least one digit
+-- the least number of digits: the precision, or 1 without a precision
 abbrev pub digits_by : Option ℕ → ℕ
 digits_by precision = unwrap_or precision 1
 
--- what they say together; the width and the precision are at most 255
+-- the form that flags, width, precision and base give together; the width and the precision are at most 255
 abbrev pub form_of : List ℕ → ℕ → Option ℕ → Option Base → Option Form
 form_of flags width precision None = None
 form_of flags width precision (Some base) =
@@ -92,7 +94,7 @@ form_of flags width precision (Some base) =
       precision = digits_by precision;
     }) else None
 
--- the precision that stands after a `.` (46), and what follows it
+-- the precision after a `.` (46), and what follows it
 abbrev pub precision_in : List ℕ → Option ℕ
 precision_in [] = None
 precision_in (byte ∷ text) = if byte == 46 then Some (value_of (leading_digits text)) else None
@@ -110,7 +112,7 @@ abbrev pub with_letter : List ℕ → ℕ → Option ℕ → List ℕ → Option
 with_letter flags width precision [] = None
 with_letter flags width precision (letter ∷ rest) = with_rest (form_of flags width precision (base_of letter)) rest
 
--- the conversion after the flags, and after the width
+-- the conversion from its precision on, and from its width on
 
 abbrev pub with_precision : List ℕ → ℕ → List ℕ → Option (Form × List ℕ)
 with_precision flags width text = with_letter flags width (precision_in text) (after_precision text)
@@ -123,7 +125,7 @@ abbrev pub conversion_in : List ℕ → Option (Form × List ℕ)
 conversion_in [] = None
 conversion_in (percent ∷ text) = with_width (take (prefix_len is_flag text) text) (drop (prefix_len is_flag text) text)
 
--- a text, a conversion, and a text to the end
+-- a whole format: a text, a conversion, and a text without a further conversion
 abbrev pub around : List ℕ → Option (Form × List ℕ) → Option Format
 around before None = None
 around before (Some (form, rest)) = if length (after_text rest) == 0

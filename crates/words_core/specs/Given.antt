@@ -17,7 +17,7 @@ option_seen option = record { choice = seen option.choice; word = option.word }
 abbrev pub operand_seen : Operand → GivenOperand
 operand_seen operand = record { text = operand.text.now; word = operand.word }
 
--- what options ask for, one after another, by what each changes
+-- what is asked for after all options, one after another; `change` says what each of them changes
 abbrev pub asked_by : {A : Type 0} → (A → Choice → A) → A → List Chosen → A
 asked_by change asked options = fold (λ asked option. change asked option.choice) asked options
 
@@ -35,13 +35,13 @@ nothing = record { options = []; operands = [] }
 abbrev pub one_option : Choice → ℕ → Given
 one_option choice word = record { options = record { choice = choice; word = word } ∷ []; operands = [] }
 
--- one that the table has, without a value
+-- an option that the table has, without a value
 abbrev pub bare : Choice → ℕ → Given
 bare choice word = one_option (seen choice) word
 
 abbrev pub one_operand : List ℕ → ℕ → Given
 one_operand text word = record { options = []; operands = record { text = text; word = word } ∷ [] }
 
--- what is given first, and what is given after it
+-- what is given first, with what is given after it
 abbrev pub joined : Given → Given → Given
 joined first more = record { options = first.options ++ more.options; operands = first.operands ++ more.operands }

@@ -1,5 +1,5 @@
--- The texts of help and of the version. Each line of help has at most 80 characters: two blanks, what is typed, and from
--- column 33 on what it does.
+-- The texts of help and of the version. A line of help has at most 80 characters. For an option or a tool it has two
+-- blanks, what is typed, and from column 33 on what that does.
 use Rattle.std.specs.Prelude.{ℕ, List, [], ◌∷◌, ◌++◌, codes, drop, length, Option, Some, None}
 use Rattle.ports_core.specs.{Text.tool_name, declared.tool.Tool.{Tool, TheVariants.Cutters}}
 use Rattle.words_core.specs.{
@@ -8,7 +8,7 @@ use Rattle.words_core.specs.{
 }
 use Rattle.words_core.specs.declared.table.Takes.TheVariants as takes
 
--- what is typed, filled with blanks up to the column of what it does
+-- what is typed, filled with blanks to 30 characters
 abbrev pub filled : List ℕ → List ℕ
 filled typed = typed ++ drop (length typed) (codes "                              ")
 
@@ -36,7 +36,7 @@ abbrev pub tool_lines : List ToolRow → List ℕ
 tool_lines [] = []
 tool_lines (row ∷ rows) = line row.name row.does ++ tool_lines rows
 
--- the help of the tool in this row, or of the program
+-- the help of a tool, by its row, and of the program
 
 abbrev pub tool_help : ToolRow → List ℕ
 tool_help row =
@@ -56,7 +56,7 @@ help_by (Some row) = tool_help row
 abbrev pub help_of : Tool → List ℕ
 help_of tool = help_by (row_named tools (tool_name tool))
 
--- the version
+-- the text of the version
 
 abbrev pub after_name : Tool → List ℕ
 after_name Cutters = codes " "

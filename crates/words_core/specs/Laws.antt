@@ -1,4 +1,4 @@
--- The words of the laws: which options ask for what, and the operands among words.
+-- Definitions for the laws: which options ask for what, and the operands among words.
 use Rattle.std.specs.{
   Prelude.{◌≡◌, ◌≢◌, ℕ, ◌+◌, ◌<◌, ◌==◌, not, ◌&&◌, Bool, true, false, List, [], ◌∷◌, ◌++◌, All, length},
   Prelude.{codes, if◌then◌else◌, Option, Some, None, Result, Ok, Err, ◌⊎◌},
@@ -41,11 +41,11 @@ use Rattle.words_core.specs.{
 use Rattle.words_core.specs.declared.choice.Choice.TheVariants as choice
 use Rattle.words_core.specs.declared.table.Takes.TheVariants as takes
 
--- which unit is counted, and how many
+-- which unit is counted, and the count
 abbrev pub amount_of : EndsAsked → Measured × Count
 amount_of asked = (asked.unit, asked.count)
 
--- What a choice is: one that gives a count, that ends lines with byte 0, that says when headers come.
+-- What a choice does: whether it gives a count, ends lines with byte 0, or says when headers are written.
 
 abbrev pub counts : Choice → Bool
 counts (choice.Amount unit count) = true
@@ -59,8 +59,8 @@ abbrev pub heads : Choice → Bool
 heads (choice.Headers headers) = true
 heads other = false
 
--- of `tail`: one that says what is followed, that a name is looked for again, how often inputs are looked at, how long
--- they are waited for, and after the end of which process no more
+-- What a choice of `tail` does: whether it says what is followed, looks for names again, says how often inputs are
+-- looked at, gives the pause, or names the process with which following ends.
 
 abbrev pub says_followed : Choice → Bool
 says_followed (choice.Follow followed) = true
@@ -84,8 +84,7 @@ abbrev pub names_process : Choice → Bool
 names_process (choice.Process process) = true
 names_process other = false
 
--- of `split`: one that says which characters suffixes have, and with that from which number on they count; of `csplit`
--- too: one that says how wide numbers are
+-- What a choice of `split` does: whether it gives the characters of suffixes; or, also for `csplit`, their width.
 
 abbrev pub spells : Choice → Bool
 spells (choice.Suffixes alphabet from) = true
@@ -95,8 +94,8 @@ abbrev pub widens : Choice → Bool
 widens (choice.Width width) = true
 widens other = false
 
--- one that gives the byte that lines end with, and the ending of names; one that leaves empty files out, and one that
--- tells of files
+-- What a choice of `split` does: whether it gives the byte that lines end with or the ending of names, leaves empty
+-- files out, or writes a line for each file.
 
 abbrev pub separates : Choice → Bool
 separates (choice.Separator byte) = true
@@ -114,7 +113,7 @@ abbrev pub tells_of_files : Choice → Bool
 tells_of_files choice.Verbose = true
 tells_of_files other = false
 
--- of `csplit`: one that gives the prefix or the format, that keeps files, drops sizes, or leaves lines out
+-- What a choice of `csplit` does: whether it gives the prefix or the format, keeps files, or drops sizes or lines.
 
 abbrev pub names_prefix : Choice → Bool
 names_prefix (choice.Prefix prefix) = true
@@ -136,7 +135,7 @@ abbrev pub leaves_lines_out : Choice → Bool
 leaves_lines_out choice.SuppressMatched = true
 leaves_lines_out other = false
 
--- of `tee`: one that lets it append, and one that says what is done once an output is broken
+-- What a choice of `tee` does: whether it appends, or says what is done once an output is broken.
 
 abbrev pub appends : Choice → Bool
 appends choice.Append = true
@@ -146,23 +145,23 @@ abbrev pub says_on_broken : Choice → Bool
 says_on_broken (choice.OnBroken on_broken) = true
 says_on_broken other = false
 
--- some option is one of these
+-- whether the choice of some option passes the test
 abbrev pub has : (Choice → Bool) → List Chosen → Bool
 has test options = list_any (λ option. test option.choice) options
 
--- Of several options that say this the last decides this part of what is asked, as if it stood alone, whatever options
--- stand before it; without one that part is as it is by default.
+-- Of the options that pass the test, the last decides this part of what is asked, as if it stood alone. Without such an
+-- option this part has its default.
 pub record LastDecides {A : Type 0} (test : Choice → Bool) (part_of : List Chosen → A) (default : A) : Type 0 where
   pub last : (before after : List Chosen) (option : Chosen) → test option.choice ≡ true → has test after ≡ false
       → part_of (before ++ option ∷ after) ≡ part_of (option ∷ [])
   pub none : (options : List Chosen) → has test options ≡ false → part_of options ≡ default
 
--- words that are all operands, the first at this place
+-- words that are all operands; the first stands at this place
 abbrev pub as_operands : ℕ → List (List ℕ) → List GivenOperand
 as_operands place [] = []
 as_operands place (word ∷ words) = record { text = word; word = place } ∷ as_operands (place + 1) words
 
--- operands are some of these words, in their order, each with its place; the first word stands at this place
+-- the operands are some of these words, in their order, each with its place; the first word stands at this place
 pub data AreAmong : List GivenOperand → ℕ → List (List ℕ) → Type 0 where
   none : (place : ℕ) → AreAmong [] place []
   passed : (operands : List GivenOperand) (place : ℕ) (word : List ℕ) (words : List (List ℕ))
@@ -171,43 +170,43 @@ pub data AreAmong : List GivenOperand → ℕ → List (List ℕ) → Type 0 whe
       → AreAmong operands (place + 1) words
       → AreAmong (record { text = word; word = place } ∷ operands) place (word ∷ words)
 
--- words spell an option with its value, and then what the rest spells
+-- the words give this option, and then what the rest gives
 abbrev pub Gives : List OptionRow → List (List ℕ) → ℕ → Choice → Result Given Fault → Type 0
 Gives rows words place choice rest =
     spelled rows words place Reading ≡ given_before (one_option choice place) rest
 
--- a letter that names an option of a tool which takes a value of this kind
+-- the letter names an option that takes a value of this kind
 pub record IsLetter (rows : List OptionRow) (letter : ℕ) (kind : Kind) : Type 0 where
   pub named : option_named rows (codes "-" ++ letter ∷ []) ≡ Some (takes.Value kind)
   pub ascii : letter < 128
   pub no_hyphen : letter ≢ 45
 
--- a name after two hyphens, in full or cut short: what its option takes, or what is wrong with it
+-- a name after two hyphens, in full or cut short: what its option takes, or what is wrong with the name
 pub record IsLong (rows : List OptionRow) (name : List ℕ) (meant : Result Takes UsageKind) : Type 0 where
   pub called : option_called rows (codes "--" ++ name) ≡ meant
   pub some : name ≢ []
   pub no_equals : list_any is_equals name ≡ false
 
--- of which kind a value after `=` is
+-- the kind of a value after `=`, if the option may have such a value
 abbrev pub kind_of : Takes → Option Kind
 kind_of (takes.Value kind) = Some kind
 kind_of (takes.Optional choice kind) = Some kind
 kind_of takes = None
 
--- each two of these names mean the same, whatever follows
+-- each two of these names mean the same, whatever words follow
 abbrev pub AreAlike : List OptionRow → List (List ℕ) → Type 0
 AreAlike rows names = (one other : List ℕ) (words : List (List ℕ)) (place : ℕ) → Contains names one
     → Contains names other
     → spelled rows (one ∷ words) place Reading ≡ spelled rows (other ∷ words) place Reading
 
--- the first words have a fault, whatever follows them; or they give this and leave this state, whatever follows
+-- the first words have a fault, whatever follows; or they give something and leave a state, whatever follows
 abbrev pub LeaveTheRest : List OptionRow → List (List ℕ) → ℕ → State → Type 0
 LeaveTheRest rows first place state =
     ((fault : Fault) × ((more : List (List ℕ)) → spelled rows (first ++ more) place state ≡ Err fault))
     ⊎ ((given : Given) × (next : State) × ((more : List (List ℕ))
     → spelled rows (first ++ more) place state ≡ given_before given (spelled rows more (place + length first) next)))
 
--- a letter that names an option to which no value belongs in a cluster of letters, and what that asks for
+-- the letter names an option that asks for this and takes no value within a cluster of letters
 pub record IsSwitch (rows : List OptionRow) (letter : ℕ) (choice : Choice) : Type 0 where
   pub takes : Takes
   pub named : option_named rows (codes "-" ++ letter ∷ []) ≡ Some takes
@@ -215,13 +214,13 @@ pub record IsSwitch (rows : List OptionRow) (letter : ℕ) (choice : Choice) : T
   pub ascii : letter < 128
   pub no_hyphen : letter ≢ 45
 
--- letters of options to which no value belongs, which say nothing of what is counted
+-- each letter names an option that takes no value within a cluster, isn't a digit, and doesn't say what is counted
 abbrev pub AreSwitches : List OptionRow → List ℕ → Type 0
 AreSwitches rows letters = All (λ letter. (unit_of letter ≡ None) × (is_ascii_digit letter ≡ false)
     × (choice : Choice) × IsSwitch rows letter choice) letters
 
--- A text has these digits, or none, and after them letters of these options and at most one that says what is counted:
--- this, or lines where none does.
+-- A text has these digits, perhaps none, and after them the letters of these options and at most one letter that says
+-- what is counted. Without such a letter lines are counted.
 pub data HasLetters (rows : List OptionRow) (text digits options : List ℕ) : Measured × ℕ → Type 0 where
   of_lines : text ≡ digits ++ options → list_all is_ascii_digit digits ≡ true → AreSwitches rows options
       → HasLetters rows text digits options (Lines, 1)
@@ -233,11 +232,11 @@ abbrev pub IsNumberWithLetters : List OptionRow → List ℕ → Type 0
 IsNumberWithLetters rows text = (digits options : List ℕ) × (unit : Measured × ℕ)
     × HasLetters rows text digits options unit
 
--- how many of it: as many as the digits write, ten without digits
+-- how many are counted: the number that the digits write, or ten without digits
 abbrev pub how_many : List ℕ → ℕ
 how_many digits = if length digits == 0 then 10 else value_of digits
 
--- a word is an operand wherever options may stand: it doesn't begin with a hyphen, or is one alone
+-- whether a word is an operand if options may stand in its place: it doesn't begin with a hyphen, or is only one byte
 abbrev pub is_plain : List ℕ → Bool
 is_plain [] = true
 is_plain (byte ∷ []) = true
@@ -248,17 +247,17 @@ is_plain (byte ∷ next ∷ rest) = not (byte == 45)
 abbrev pub MeanTheSame : List (List ℕ) → Type 0
 MeanTheSame words = settings_of OwnName words ≡ settings_of Cutters words
 
--- the settings of `csplit`, called by its own name
+-- the settings by a tool's own name; only those of `csplit` change
 abbrev pub by_own_name : Result Settings Fault → Result Settings Fault
 by_own_name (Ok (Csplit asked)) = Ok (Csplit (record asked { calling = OwnName; style = style_in OwnName asked.style }))
 by_own_name other = other
 
--- the first of these words of `tail` says where it begins (43 is a `+`)
+-- whether the first of these words of `tail` says where it begins (43 is a `+`)
 abbrev pub begin_with_start : List (List ℕ) → Bool
 begin_with_start ((byte ∷ text) ∷ words) = byte == 43 && is_start OwnName tail_table OfTail text
 begin_with_start words = false
 
--- these words of `tee` don't say what is done once an output is broken
+-- whether words of `tee` have no fault, and don't say what is done once an output is broken
 abbrev pub say_nothing : Result Given Fault → Bool
 say_nothing (Ok given) = not (has says_on_broken given.options)
 say_nothing (Err fault) = false
@@ -266,10 +265,10 @@ say_nothing (Err fault) = false
 abbrev pub leave_open : List (List ℕ) → Bool
 leave_open words = say_nothing (spelled tee_table words 1 Reading)
 
--- What options ask for, given alone, however the program is called: of `head` and `tail` alike, of `split`, and of
--- `csplit` with the operand `1`, for standard input; of `tail` that follows the file `f`, and of `tee` for it.
+-- What options ask for if they are given alone. `head`, `tail`, `split` and `csplit` read standard input, and `csplit`
+-- has the operand `1`. A `tail` that follows, or that is given a number as its first word, and `tee` have the file `f`.
 
--- of a tool of this name help and the version
+-- `--help` and `--version` after this name ask for the texts of this tool, however the program is called
 abbrev pub IsTold : List ℕ → Tool → Type 0
 IsTold name tool = (calling : Calling) (words : List (List ℕ))
     → (settings_of calling (name ∷ codes "--help" ∷ words) ≡ Ok (About tool Help))
@@ -289,22 +288,22 @@ abbrev pub FollowAsks : List (List ℕ) → TailSettings → Type 0
 FollowAsks words asked = (calling : Calling)
     → settings_of calling (codes "tail" ∷ words ++ codes "f" ∷ []) ≡ Ok (Tail asked)
 
--- of `tail` that is called by its own name this is followed of the file `f`, and `cutters` refuses it
+-- `tail` by its own name follows the file `f` in this way or not at all, and `cutters tail` refuses these words
 abbrev pub RefusedBut : List (List ℕ) → Option Followed → Type 0
 RefusedBut words followed =
     (settings_of Cutters (codes "tail" ∷ words ++ codes "f" ∷ []) ≡ Err (Usage BadFollow 0))
     × (settings_of OwnName (codes "tail" ∷ words ++ codes "f" ∷ [])
     ≡ Ok (Tail (record following { followed = followed })))
 
--- of `tail` this number of the last lines or bytes of the file `f`, or all from that one on
+-- what is asked of `tail` for the file `f`: this many of its last lines or bytes, or all from this number on
 abbrev pub of_file : Sign → Measured → ℕ → TailSettings
 of_file sign unit amount = unfollowed (record (ten_lines (codes "f" ∷ [])) {
   unit = unit;
   count = record { sign = sign; amount = amount };
 })
 
--- This first word asks `tail` for it, and with an `f` at its end to follow the file too. A text does so after a hyphen,
--- however the program is called, and after a `+` where it is called by the tool's own name.
+-- This first word asks `tail` for that, and with an `f` at its end to follow the file, too. A number does so after a
+-- hyphen, however the program is called, and after a `+` if `tail` is called by its own name.
 
 abbrev pub WordAsks : Calling → List ℕ → TailSettings → Type 0
 WordAsks calling word asked = (settings_of calling (codes "tail" ∷ word ∷ codes "f" ∷ []) ≡ Ok (Tail asked))
@@ -318,7 +317,7 @@ abbrev pub NumberAsks : List ℕ → Measured → ℕ → Type 0
 NumberAsks text unit amount = ((calling : Calling) → WordAsks calling (codes "-" ++ text) (of_file Plain unit amount))
     × StartAsks text unit amount
 
--- and ten lines of these files
+-- words of `tail`, called by its own name, ask for the last ten lines of these files
 abbrev pub AreNames : List (List ℕ) → List (List ℕ) → Type 0
 AreNames words names = settings_of OwnName (codes "tail" ∷ words) ≡ Ok (Tail (unfollowed (ten_lines names)))
 
@@ -326,7 +325,7 @@ AreNames words names = settings_of OwnName (codes "tail" ∷ words) ≡ Ok (Tail
 abbrev pub thousands : SplitAsked
 thousands = record no_options { width = 2; auto = true }
 
--- names of this width
+-- files of 1,000 lines, with names of this width
 abbrev pub as_wide : ℕ → SplitAsked
 as_wide width = record no_options { width = width }
 
@@ -343,18 +342,18 @@ CsplitAsks words style = (calling : Calling)
       places = (length words + 2) ∷ [];
     }))
 
--- the file `f`, which begins empty
+-- what is asked of `tee` for the file `f` without options
 abbrev pub fresh_file : Calling → TeeAsked
 fresh_file calling = fresh calling (codes "f" ∷ [])
 
 abbrev pub TeeAsks : Calling → List (List ℕ) → TeeAsked → Type 0
 TeeAsks calling words asked = settings_of calling (codes "tee" ∷ words ++ codes "f" ∷ []) ≡ Ok (Tee asked)
 
--- with an option that says what is done once an output is broken
+-- the words say what `tee` does once an output is broken, however it is called
 abbrev pub OnBrokenAsks : List (List ℕ) → OnBroken → Type 0
 OnBrokenAsks words on_broken = (calling : Calling)
     → TeeAsks calling words (record (fresh_file calling) { on_broken = on_broken })
 
--- files as they are made without options
+-- how `csplit` makes files without options
 abbrev pub plain_style : Style
 plain_style = style_of []

@@ -1,5 +1,6 @@
--- A first word of a hyphen, digits and letters, as `-5c` of `head` and `-20f` of `tail`, and one of a `+`, as `+5` of
--- `tail`: GNU's, from before POSIX. What follows the hyphen or the `+` is the text. 45 is a hyphen.
+-- A number with letters as the first word: after a hyphen, as `-5c` of `head` and `-20f` of `tail`, or after a `+`, as
+-- `+5` of `tail`. These forms are GNU's, from before POSIX. A text here is what follows the hyphen or the `+`. 45 is a
+-- hyphen.
 use Rattle.std.specs.{
   Prelude.{ℕ, ◌*◌, ◌^◌, ◌==◌, ◌&&◌, ◌||◌, nat_lt, Bool, true, false, List, [], ◌∷◌, length, filter, codes, is_some},
   Prelude.{Option, Some, None, Result, Ok, Err, if◌then◌else◌},
@@ -21,8 +22,7 @@ use Rattle.words_core.specs.{
 }
 use Rattle.words_core.specs.declared.table.Takes.TheVariants as takes
 
--- What is counted where this letter stands after the digits, and how much each of it is: 98 is b, 99 c, 107 k, 108 l and
--- 109 m.
+-- the unit that a letter after the digits stands for, and the factor of the number: 98 is b, 99 c, 107 k, 108 l, 109 m
 abbrev pub unit_of : ℕ → Option (Measured × ℕ)
 unit_of letter =
     if letter == 98 then Some (Bytes, 512)
@@ -35,14 +35,14 @@ unit_of letter =
 abbrev pub is_unit : ℕ → Bool
 is_unit letter = is_some (unit_of letter)
 
--- what the first unit among letters says; without one lines are counted
+-- the unit and the factor of the first letter that has them; without such a letter lines are counted
 abbrev pub unit_in : List ℕ → Measured × ℕ
 unit_in [] = (Lines, 1)
 unit_in (letter ∷ letters) = unwrap_or (unit_of letter) (unit_in letters)
 
--- Which letters may follow the digits.
+-- The letters that may follow the digits.
 
--- whether an option takes no value
+-- whether there is an option that takes no value, and after which words are still read
 abbrev pub is_switch : Option Takes → Bool
 is_switch (Some (takes.Nothing choice)) = true
 is_switch other = false
@@ -50,7 +50,7 @@ is_switch other = false
 abbrev pub letter_named : List OptionRow → ℕ → Option Takes
 letter_named rows letter = option_named rows (45 ∷ letter ∷ [])
 
--- for `head` units and letters of options without a value
+-- letters of `head`: each stands for a unit, or names an option without a value
 
 abbrev pub is_known : List OptionRow → ℕ → Bool
 is_known rows letter = is_unit letter || is_switch (letter_named rows letter)
@@ -59,17 +59,17 @@ abbrev pub are_known : List OptionRow → List ℕ → Bool
 are_known rows [] = true
 are_known rows (letter ∷ letters) = if is_known rows letter then are_known rows letters else false
 
--- for `tail` a unit or none, and then f or nothing
+-- letters of `tail`: `b`, `c`, `l` or `f`, or one of the first three and then `f`
 abbrev pub are_of_tail : List ℕ → Bool
 are_of_tail letters = is_among
     (codes "f" ∷ codes "b" ∷ codes "bf" ∷ codes "c" ∷ codes "cf" ∷ codes "l" ∷ codes "lf" ∷ []) letters
 
--- what `tail` takes without digits
+-- the letters that `tail` takes without digits
 abbrev pub without_digits : List (List ℕ)
 without_digits = codes "b" ∷ codes "bf" ∷ codes "l" ∷ codes "lf" ∷ []
 
--- Whether a text is such a word. Of `head` it has digits, each letter is known, and one at most is a unit. Of `tail` the
--- digits may be missing before b and l.
+-- Whether a text is a number with letters. For `head` it has digits, each letter is known, and at most one stands for a
+-- unit. For `tail` the digits may be missing before `b` and `l`.
 abbrev pub is_lettered : List OptionRow → Letters → List ℕ → Bool
 is_lettered rows Never text = false
 is_lettered rows OfHead text = nat_lt 0 (length (leading_digits text))
@@ -77,32 +77,33 @@ is_lettered rows OfHead text = nat_lt 0 (length (leading_digits text))
 is_lettered rows OfTail text = are_of_tail (after_digits text) && (nat_lt 0 (length (leading_digits text))
     || is_among without_digits text)
 
--- Whether a text after a `+` is such a word. It is one of `tail` alone, called by its own name: digits, or what may follow
--- a hyphen, or `c` and `cf`, which mean something else after a hyphen.
+-- Whether a text after a `+` says where `tail` begins, if `tail` is called by its own name: digits, or what may follow
+-- a hyphen, or `c` and `cf`. After a hyphen `c` is an option.
 abbrev pub is_start : Calling → List OptionRow → Letters → List ℕ → Bool
 is_start OwnName rows OfTail text =
     is_number text || (is_lettered rows OfTail text || is_among (codes "c" ∷ codes "cf" ∷ []) text)
 is_start calling rows letters text = false
 
--- What it says.
+-- What a number with letters asks for.
 
--- as many as these digits write, or 10 without digits, each of them this large
+-- the count that digits write, or 10 without digits, times `each`; or a fault if that is too large
 abbrev pub times : Sign → List ℕ → ℕ → Result Count UsageKind
 times sign digits each = counted (sized sign ((if length digits == 0 then 10 else value_of digits) * each))
 
--- each letter that is no unit is an option
+-- the option that a letter names, if it can stand without a value
 abbrev pub switched : ℕ → Option Takes → Given
 switched place (Some (takes.Nothing choice)) = bare choice place
 switched place (Some (takes.Optional choice kind)) = bare choice place
 switched place option = nothing
 
+-- the options of all letters that stand for no unit
 abbrev pub switches : List OptionRow → ℕ → List ℕ → Given
 switches rows place [] = nothing
 switches rows place (letter ∷ letters) =
     if is_unit letter then switches rows place letters
     else joined (switched place (letter_named rows letter)) (switches rows place letters)
 
--- the count, and then the options
+-- what a number with letters gives: the count first, and then the options
 abbrev pub counted_with : Measured → ℕ → Given → Result Count UsageKind → Result Given UsageKind
 counted_with unit place options (Ok count) = Ok (joined (one_option (Amount unit count) place) options)
 counted_with unit place options (Err fault) = Err fault

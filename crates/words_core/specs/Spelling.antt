@@ -1,5 +1,5 @@
--- What the words after a tool's name spell: options with their values, and operands. What a word means depends on what
--- the words before it left. 43 is a `+`, 45 a hyphen, 61 `=`.
+-- What the words after a tool's name spell: options with their values, and operands. What a word means depends on the
+-- state after the words before it. 43 is a `+`, 45 a hyphen, 61 `=`.
 use Rattle.std.specs.{
   Prelude.{◌≡◌, ℕ, ◌+◌, ◌==◌, ◌&&◌, nat_lt, Bool, List, [], ◌∷◌, length, ◌⊎◌, Option, Some, None, Result, Ok, Err},
   Prelude.if◌then◌else◌,
@@ -26,12 +26,12 @@ use Rattle.words_core.specs.{
 }
 use Rattle.words_core.specs.declared.table.Takes.TheVariants as takes
 
--- what a word, or some of its letters, gives, and what it leaves to the next word
+-- what a word, or some of its letters, gives, and the state for the next word
 pub record Meaning : Type 0 where
   pub given : Given
   pub next : State
 
--- options and operands may come next
+-- something is given, and options and operands may come next
 abbrev pub reading : Given → Result Meaning Fault
 reading given = Ok (record { given = given; next = Reading })
 
@@ -45,7 +45,7 @@ ending topic place = Ok (record { given = one_option (About topic) place; next =
 abbrev pub before : Given → Result Meaning Fault → Result Meaning Fault
 before first meant = then_check meant (λ meaning. Ok (record meaning { given = joined first meaning.given }))
 
--- an option and its value, each in the word at its place
+-- an option with its value: the option stands in the word at the place `option`, the value in the word at `place`
 abbrev pub said : ℕ → ℕ → Result Choice UsageKind → Result Meaning Fault
 said option place (Ok choice) = reading (one_option choice option)
 said option place (Err fault) = Err (Usage fault place)
@@ -71,7 +71,8 @@ abbrev pub cluster : List OptionRow → ℕ → List ℕ → Result Meaning Faul
 cluster rows place [] = reading nothing
 cluster rows place (letter ∷ rest) = lettered place rest (cluster rows place rest) (option_lettered rows letter)
 
--- A long option: its name ends at the first `=`, and its value is what follows there, or the next word.
+-- A long option. Its name ends before the first `=`, and its value follows the `=`. Without a `=` an option that needs
+-- a value has it in the next word.
 
 abbrev pub is_equals : ℕ → Bool
 is_equals byte = byte == 61
@@ -92,7 +93,7 @@ named place (Ok (takes.Optional choice kind)) None = reading (bare choice place)
 abbrev pub long : List OptionRow → ℕ → List ℕ → Result Meaning Fault
 long rows place word = named place (option_called rows (before_first is_equals word)) (after_equals word)
 
--- A word where options and operands may stand: `--` ends the options, and a hyphen alone is an operand.
+-- A word that may be an option or an operand. `--` ends the options, and a hyphen alone is an operand.
 
 abbrev pub dashed : List OptionRow → ℕ → List ℕ → Result Meaning Fault
 dashed rows place [] = Ok (record { given = nothing; next = OnlyOperands })
@@ -106,13 +107,13 @@ mixed rows place (byte ∷ next ∷ rest) =
     then (if next == 45 then dashed rows place rest else cluster rows place (next ∷ rest))
     else reading (one_operand (byte ∷ next ∷ rest) place)
 
--- what this word gives, or the fault that stands in it
+-- what the word at this place gives, or its fault
 abbrev pub given_at : ℕ → Result Given UsageKind → Result Meaning Fault
 given_at place (Ok given) = reading given
 given_at place (Err fault) = Err (Usage fault place)
 
--- The first word may be a hyphen and digits, which are the value of an option of this kind then; letters may follow these.
--- After a `+` they may say where `tail` begins.
+-- The first word may be a hyphen and digits: then the digits are the value of an option of this kind. Letters may
+-- follow the digits. After a `+` digits and letters may say where `tail` begins.
 unfoldable pub foremost : Calling → List OptionRow → Kind → Letters → ℕ → List ℕ → Result Meaning Fault
 foremost calling rows kind letters place [] = mixed rows place []
 foremost calling rows kind letters place (byte ∷ text) =
@@ -121,7 +122,7 @@ foremost calling rows kind letters place (byte ∷ text) =
     else (if byte == 43 && is_start calling rows letters text then given_at place (with_letters rows Plus place text)
     else mixed rows place (byte ∷ text)))
 
--- a word at this place; one that an option awaits is its value, whatever it begins with
+-- what a word at this place means in a state; a word that an option awaits is its value, whatever it begins with
 abbrev pub meaning_of : List OptionRow → State → ℕ → List ℕ → Result Meaning Fault
 meaning_of rows (First calling kind letters) place word = foremost calling rows kind letters place word
 meaning_of rows Reading place word = mixed rows place word
@@ -129,7 +130,7 @@ meaning_of rows (Awaiting kind option) place word = valued kind option place wor
 meaning_of rows OnlyOperands place word = Ok (record { given = one_operand word place; next = OnlyOperands })
 meaning_of rows Ended place word = Ok (record { given = nothing; next = Ended })
 
--- all words from a place on, or the first fault from left to right
+-- what all words from a place on give, or the first fault from left to right
 
 abbrev pub ended : State → Result Given Fault
 ended (Awaiting kind option) = Err (Usage MissingValue option)
@@ -145,21 +146,21 @@ abbrev pub spelled : List OptionRow → List (List ℕ) → ℕ → State → Re
 spelled rows [] place state = ended state
 spelled rows (word ∷ words) place state = onward (spelled rows words (place + 1)) (meaning_of rows state place word)
 
--- the words after a tool's name; they are counted from 1
+-- the state before the words that follow a tool's name
 abbrev pub start_of : Calling → Option (Kind × Letters) → State
 start_of calling None = Reading
 start_of calling (Some number) = First calling number.0 number.1
 
+-- what the words after a tool's name give; they are counted from 1
 abbrev pub given_by : Calling → ToolRow → List (List ℕ) → Result Given Fault
 given_by calling tool words = spelled tool.options words 1 (start_of calling tool.number)
 
--- What a call returns is what was meant; or memory was refused.
+-- a call returned what was meant, or memory was refused
 abbrev pub Reads : {A : Type 0} → Result A Fault → Result A Fault → Type 0
 Reads meant (Ok value) = meant ≡ Ok value
 Reads meant (Err fault) = (fault ≡ Memory) ⊎ (meant ≡ Err fault)
 
--- With this fault what is meant isn't returned: memory was refused, or the words are at fault, or what they mean has
--- this fault of its own.
+-- a call may return this fault: memory was refused, or the words have it, or what they mean has it by `HasFault`
 abbrev pub IsRefused : {A : Type 0} → (HasFault : A → Fault → Type 0) → Result A Fault → Fault → Type 0
 IsRefused {A = A} HasFault meant fault = (fault ≡ Memory)
     ⊎ ((meant ≡ Err fault) ⊎ ((value : A) × (meant ≡ Ok value) × HasFault value fault))

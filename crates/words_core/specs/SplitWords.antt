@@ -34,10 +34,10 @@ pub record SplitAsked : Type 0 where
   -- how many characters a suffix has; with `auto` suffixes widen, and this is the first width
   pub width : ℕ
   pub auto : Bool
-  -- the number of the first file, where an option says so; suffixes don't widen then
+  -- the number of the first file, if an option gives it; suffixes don't widen then
   pub from : Option ℕ
   pub elide : Bool
-  -- standard output is told of each file before it is opened
+  -- whether standard output gets a line for each file, before the file is opened
   pub verbose : Bool
   -- the name of the input, and what the names of the files begin with
   pub input : List ℕ
@@ -45,11 +45,11 @@ pub record SplitAsked : Type 0 where
   -- what the names of the files end with
   pub ending : List ℕ
 
--- files are of 1,000 lines, where no way is given
+-- the way to split without an option for it: files of 1,000 lines
 abbrev pub thousand_lines : ℕ → Way
 thousand_lines delim = Cut (Parts (Lines 1000 delim))
 
--- without words: files of 1,000 lines, which end with the newline, and names of letters with no width
+-- what is asked for without words: files of 1,000 lines that end with the newline, and suffixes of letters, no width
 abbrev pub no_options : SplitAsked
 no_options = record {
   way = thousand_lines 10;
@@ -64,8 +64,8 @@ no_options = record {
   ending = [];
 }
 
--- with one more option: the last for the alphabet decides, with the number that it has or has not, and so do the last
--- width and the last ending of names
+-- What is asked for with one more option. The last option for the alphabet decides, also about the number of the first
+-- file. The last width and the last ending of names decide, too.
 abbrev pub split_by : SplitAsked → Choice → SplitAsked
 split_by asked (choice.Width width) = record asked { width = width }
 split_by asked (choice.Suffixes alphabet from) = record asked { alphabet = alphabet; from = from }
@@ -74,11 +74,11 @@ split_by asked choice.Verbose = record asked { verbose = true }
 split_by asked (choice.Ending ending) = record asked { ending = ending.now }
 split_by asked choice = asked
 
--- what options ask, but for the way to split
+-- what options ask for, except the way to split
 abbrev pub split_of : List Chosen → SplitAsked
 split_of options = asked_by split_by no_options options
 
--- the byte that lines end with: the newline, or what the last separator says
+-- the byte that lines end with: the byte of the last separator, or the newline
 
 abbrev pub delim_by : ℕ → Choice → ℕ
 delim_by delim (choice.Separator byte) = byte
@@ -87,7 +87,7 @@ delim_by delim choice = delim
 abbrev pub separator_in : List Chosen → ℕ
 separator_in options = asked_by delim_by 10 options
 
--- the way to split that an option gives, if it is one, for lines that end with this byte
+-- the way to split that an option gives, if it gives any, for lines that end with this byte
 
 abbrev pub way_in : ℕ → Choice → Option Way
 way_in delim (choice.LinesEach size) = Some (Cut (Parts (Lines size delim)))
@@ -96,11 +96,11 @@ way_in delim (choice.LineBytesEach size) = Some (Cut (Parts (LineBytes size deli
 way_in delim (choice.Divided division) = Some (way_of_division delim division)
 way_in delim choice = None
 
--- whether an option gives one, which doesn't depend on the byte: 10 stands for any
+-- whether an option gives a way to split; that doesn't depend on the byte of line ends, and 10 stands for any
 abbrev pub is_way : Chosen → Bool
 is_way option = is_some (way_in 10 option.choice)
 
--- The way that options give. A second one is refused, and told by its word; files have 1,000 lines where none is given.
+-- The way that options give. A second way is refused, and reported at its word. Without a way files have 1,000 lines.
 
 abbrev pub only_way : ℕ → List Chosen → Result Way Fault
 only_way delim [] = Ok (thousand_lines delim)
@@ -110,11 +110,11 @@ only_way delim (way ∷ second ∷ more) = Err (Usage TwoWays second.word)
 abbrev pub way_of : List Chosen → Result Way Fault
 way_of options = only_way (separator_in options) (filter is_way options)
 
--- The suffixes. A width of 0 stands for none. With a width all suffixes have it. Without one they widen from 2
--- characters on, unless the number of files is known, or an option says which number the first file has: then they never
--- widen. Where that number is known, the width must write the numbers of all files, and without one it is the least from
--- 2 on that does. Where files come one after another, it must write the first one's number, and without one it is 2. Where
--- no file is made, it writes nothing.
+-- The suffixes. A width of 0 stands for none. With a width all suffixes have it. Without a width suffixes widen from 2
+-- characters on, if files come one after another and no option gives the number of the first file. Otherwise they never
+-- widen. If the number of files is known, the width must be enough for the numbers of all files; without a width it is
+-- the least from 2 on that is enough. If files come one after another and the number of the first is given, the width
+-- must be enough for this number; without a width it is 2. If no file is made, any width is enough.
 
 abbrev pub fixed : ℕ → Suffix
 fixed width = record { width = width; auto = false }
@@ -126,21 +126,21 @@ free width = if width == 0 then (record { width = 2; auto = true }) else fixed w
 abbrev pub first_number : Option ℕ → ℕ
 first_number from = unwrap_or from 0
 
--- whether a width writes this many numbers, from 0 on
+-- whether suffixes of this width write this many numbers, from 0 on
 abbrev pub names_all : Alphabet → ℕ → ℕ → Bool
 names_all alphabet count width = nat_le count (name_count alphabet width)
 
--- the least width that does, of this one and as many that follow as the third argument says
+-- the least width that writes this many numbers, from the last argument on, and after at most `more` steps
 abbrev pub least_from : Alphabet → ℕ → ℕ → ℕ → ℕ
 least_from alphabet count zero width = width
 least_from alphabet count (suc more) width =
     if names_all alphabet count width then width else least_from alphabet count more (width + 1)
 
--- numbers are 2^63 + 65,535 at the most, and 23 characters of any alphabet write those
+-- the least width from 2 on that writes this many numbers, of which there are at most 2^63 + 65,535: 23 is enough
 unfoldable pub least_width : Alphabet → ℕ → ℕ
 least_width alphabet count = least_from alphabet count 21 2
 
--- this width, if it writes this many numbers
+-- suffixes of this width, or a fault if they don't write this many numbers
 abbrev pub wide_enough : Alphabet → ℕ → ℕ → Result Suffix Fault
 wide_enough alphabet count width =
     if names_all alphabet count width then Ok (fixed width) else Err (Usage SuffixTooShort 0)
@@ -170,7 +170,7 @@ files_in (input ∷ []) = Ok (input.text, codes "x")
 files_in (input ∷ prefix ∷ []) = Ok (input.text, prefix.text)
 files_in (input ∷ prefix ∷ extra ∷ more) = Err (Usage ExtraOperand extra.word)
 
--- the line as a whole: first its ways to split, then the suffixes, then the operands
+-- what the words ask for; the ways to split are checked first, then the suffixes, then the operands
 abbrev pub split_asked : Given → Result SplitAsked Fault
 split_asked given =
     let asked = split_of given.options in
@@ -179,7 +179,7 @@ split_asked given =
     then_check (files_in given.operands) (λ files.
     Ok (record asked { way = way; width = suffix.width; auto = suffix.auto; input = files.0; prefix = files.1 }))))
 
--- A part has at least one line or byte, and an input is divided among 1 to 65,535 files; a suffix has 1 to 255
+-- The limits. A part has at least one line or byte. An input is divided among 1 to 65,535 files. A suffix has 1 to 255
 -- characters.
 
 abbrev pub AreFew : ℕ → Type 0
@@ -195,8 +195,8 @@ IsInLimits (Turn place files delim) = AreFew files × (place < files)
 abbrev pub IsWidth : ℕ → Type 0
 IsWidth width = (1 ≤ width) × (width ≤ 255)
 
--- Where the number of files is known, all have names; the first of those that come one after another has one. How many
--- numbers a width must write for that, from 0 on, where the first file has this number.
+-- How many numbers, from 0 on, a width must write, if the first file has this number. If the number of files is known,
+-- all files have names. If files come one after another, at least the first has a name.
 abbrev pub numbers_needed : Way → ℕ → ℕ
 numbers_needed (Cut (Parts limit)) first = first + 1
 numbers_needed (Cut (Round files delim)) first = first + files

@@ -20,27 +20,27 @@ pub record TeeAsked : Type 0 where
   -- the names of the files
   pub names : List (List ℕ)
 
--- Without an option a run goes on with the outputs that are left; called by its own name it ends with the first whose
--- reader is gone.
+-- What happens once an output is broken, if no option says it: the run goes on with the outputs that are left; by the
+-- tool's own name it ends once the reader of an output is gone.
 abbrev pub unless_said : Calling → OnBroken
 unless_said Cutters = Warn
 unless_said OwnName = Signal
 
--- without an option these files begin empty
+-- what is asked for without options, for these files: they begin empty
 abbrev pub fresh : Calling → List (List ℕ) → TeeAsked
 fresh calling names = record { mode = Fresh; on_broken = unless_said calling; names = names }
 
--- with one more option: the last that says what is done once an output is broken decides
+-- what is asked for with one more option; the last option that says what is done once an output is broken decides
 
 abbrev pub tee_by : TeeAsked → Choice → TeeAsked
 tee_by asked choice.Append = record asked { mode = Append }
 tee_by asked (choice.OnBroken on_broken) = record asked { on_broken = on_broken }
 tee_by asked choice = asked
 
--- what options ask, of these files
+-- what options ask for, for these files
 abbrev pub tee_of : Calling → List (List ℕ) → List Chosen → TeeAsked
 tee_of calling names options = asked_by tee_by (fresh calling names) options
 
--- the operands are the files' names, and `-` is a name as any other
+-- what the words ask for: operands are the names of the files, and `-` is a name like any other
 abbrev pub tee_asked : Calling → Given → TeeAsked
 tee_asked calling given = tee_of calling (texts_of given.operands) given.options

@@ -1,5 +1,4 @@
--- What a list of words asks for, by how the program was called. The first word is the tool's name, and words are counted
--- from there, from 0.
+-- What a list of words asks for, by how the program was called. The first word is the tool's name, and is word 0.
 use Rattle.std.specs.{
   Prelude.{ℕ, ◌-◌, ◌^◌, Bool, true, false, List, [], ◌∷◌, Option, Some, None, option_map, Result, Ok, Err},
 }
@@ -32,7 +31,7 @@ use Rattle.words_core.specs.declared.choice.Choice.TheVariants as choice
 abbrev pub tool_named : List ℕ → Option Tool
 tool_named name = option_map (λ row. row.tool) (row_named tools name)
 
--- what options and operands ask of a tool's work
+-- what options and operands ask of a tool
 abbrev pub work_for : Calling → Tool → Given → Result Settings Fault
 work_for calling tool.Head given = Ok (Head (ends_asked given))
 work_for calling tool.Tail given = then_check (tail_asked calling given) (λ asked. Ok (Tail asked))
@@ -41,8 +40,7 @@ work_for calling tool.Csplit given = then_check (csplit_asked calling given) (λ
 work_for calling tool.Tee given = Ok (Tee (tee_asked calling given))
 work_for calling tool.Cutters given = Err (Usage UnknownTool 0)
 
--- Help and the version. An option that asks for one of these is the last that is read, and the line as a whole isn't
--- checked.
+-- Help and the version. An option that asks for them is the last word that is read, and words aren't checked together.
 
 abbrev pub topic_of : Choice → Option Topic
 topic_of (choice.About topic) = Some topic
@@ -75,7 +73,7 @@ topic_named name = topic_by (option_named program_table name)
 abbrev pub program_asked : Option Topic → Result Settings Fault
 program_asked topic = about_or tool.Cutters topic (Err (Usage UnknownTool 0))
 
--- the words after a tool's name: faults of single words come before those of the line as a whole
+-- what the words after a tool's name ask for; a fault of a single word is reported before a fault of the words together
 abbrev pub tool_settings : Calling → List ℕ → List (List ℕ) → Option ToolRow → Result Settings Fault
 tool_settings calling name words None = program_asked (topic_named name)
 tool_settings calling name words (Some row) = then_check (given_by calling row words) (settings_for calling row.tool)
@@ -85,7 +83,7 @@ abbrev pub settings_of : Calling → List (List ℕ) → Result Settings Fault
 settings_of calling [] = Err (Usage MissingTool 0)
 settings_of calling (name ∷ words) = tool_settings calling name words (row_named tools name)
 
--- whether inputs are followed, and how often they are looked at then
+-- whether inputs are followed, and how often they are looked at if they are
 
 abbrev pub is_followed : {A : Type 0} → Option A → Bool
 is_followed None = false
@@ -99,17 +97,17 @@ abbrev pub looks : Settings → ℕ
 looks (Tail asked) = asked.looks
 looks settings = 2 ^ 63 - 1
 
--- What is asked for has operands that can't be read, and this fault tells the first: so it is of `csplit` alone.
+-- the settings have operands that can't be read, and this fault reports it; only `csplit` has such operands
 abbrev pub HasBadOperands : Settings → Fault → Type 0
 HasBadOperands (Csplit asked) fault = HasBadOperand asked fault
 HasBadOperands settings fault = ⊥
 
--- what is asked for has no operands that can't be read
+-- the settings have no operands that can't be read
 abbrev pub HasOperands : Settings → Type 0
 HasOperands (Csplit asked) = HasRead asked
 HasOperands settings = Unit {0}
 
--- what is asked for can be done
+-- what the settings ask for can be done
 abbrev pub CanRun : Settings → Type 0
 CanRun (Head asked) = Unit {0}
 CanRun (Tail asked) = Unit {0}

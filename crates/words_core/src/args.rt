@@ -36,7 +36,7 @@ const SHORT: usize = 256;
 
 /// What a program was started with: its own name, and what follows that.
 pub trait Arguments {
-    /// Whether at a place, from 0, this argument may be given, or none.
+    /// Whether there may be this argument at a place, counted from 0, or no argument.
     ghost gives: { Self → ℕ → Option (List ℕ) → Type 0 };
 
     /// Puts the argument at this place at the front of the buffer, and returns its length.
@@ -57,12 +57,13 @@ impl<E: Env> Arguments for E {
     }
 }
 
-/// How the program was called, and its words, from the tool's name on. Where it is called by a tool's name, as through a link, that
-/// name is the first word, and a word that isn't UTF-8 is read as its text and a byte 0, but of `csplit`.
+/// How the program was called, and its words, from the tool's name on. If it is called by a tool's name, as through a
+/// link, that name is the first word, and an argument that isn't UTF-8 is read as its text and a byte 0. `csplit`
+/// doesn't read such arguments.
 ///
 /// # Errors
 ///
-/// `NotUtf8`: the first word that isn't UTF-8, where such words aren't read. `Memory` where there is no room for the words.
+/// `NotUtf8`: the first word that isn't UTF-8, if such words aren't read. `Memory` if there is no room for the words.
 pub fn read_args<A: Arguments>(arguments: &A, alloc: Global) -> Result<Args, ArgsFault>
     ensures { IfOk result (λ args. IsCalled (A.gives arguments.now) args.calling (map string_bytes args.words.items)) }
 {
@@ -82,7 +83,7 @@ pub fn read_args<A: Arguments>(arguments: &A, alloc: Global) -> Result<Args, Arg
     }
 }
 
-/// The tool that a program's own name calls: the one whose name is its last part, but for a `-` before it.
+/// The tool that a program's own name calls: the tool whose name is the last part of it, without a `-` at its front.
 fn called_tool(name: &[u8]) -> Option<Tool>
     ensures { result ≡ tool_called name.now }
 {
@@ -92,7 +93,7 @@ fn called_tool(name: &[u8]) -> Option<Tool>
     }
 }
 
-/// A name without the `-` that a login shell's begins with.
+/// A name without the `-` with which the name of a login shell begins.
 fn without_hyphen(name: &[u8]) -> &[u8]
     ensures { result.now ≡ without_hyphen name.now }
 {
@@ -102,7 +103,7 @@ fn without_hyphen(name: &[u8]) -> &[u8]
     }
 }
 
-/// What follows the last `/` of a path: all of it where there is none.
+/// What follows the last `/` of a path, or all of it if there is none.
 fn last_part(path: &[u8]) -> &[u8]
     ensures { result.now ≡ last_part path.now }
 {
@@ -117,7 +118,7 @@ fn last_part(path: &[u8]) -> &[u8]
     part
 }
 
-/// The words before all others: the name of the tool that is called by it.
+/// The words before all others: the tool's name, if the program is called by it.
 fn first_words(alloc: Global, tool: Option<Tool>) -> Result<Args, AllocError>
     ensures words { IfOk result (λ args. map string_bytes args.words.items ≡ words_called tool) }
     ensures calling { IfOk result (λ args. args.calling ≡ called_by tool) }

@@ -15,7 +15,8 @@ use std::marker::Model;
 /// What `csplit` is to do with its input. Its operands are those that their words spell.
 #[derive(Drop)]
 pub struct CsplitSettings<'a> {
-    /// How the program is called: by the tool's own name patterns may be in GNU's spelling, and cut one line past the last.
+    /// How the program is called. By the tool's own name patterns may be in GNU's spelling, and may cut one line past
+    /// the last.
     pub calling: Calling,
     /// How files are made.
     pub style: Style,
@@ -52,7 +53,7 @@ impl<'a> CsplitSettings<'a> {
         &self.operands
     }
 
-    /// The word of the operand at this index, empty where there is none.
+    /// The word of the operand at this index, empty if there is none.
     pub fn word(&self, index: usize) -> &'a str
         ensures { result.now ≡ slice_index_or self.now.operands index [] }
     {
@@ -64,8 +65,8 @@ impl<'a> CsplitSettings<'a> {
 ///
 /// # Errors
 ///
-/// `Usage` with `BadOperand`, `BadPattern` or `PatternTooLarge`, and the place of the word: the first operand that is wrong.
-/// `Memory` where there is no room.
+/// `Usage` with `BadOperand`, `BadPattern` or `PatternTooLarge`, and the place of the word: the first operand that is
+/// wrong. `Memory` if there is no room.
 pub fn read_settings<'a>(
     alloc: Global,
     calling: Calling,
@@ -107,7 +108,7 @@ fn style_in(calling: Calling, mut style: Style) -> Style
     style
 }
 
-/// The fault that tells what is wrong with an operand, whose word stands at the place of its index.
+/// The fault that reports what is wrong with an operand, whose word stands at the place of its index.
 fn operand_fault(places: &[usize], fault: &OperandFault) -> Fault
     ensures { result ≡ operand_fault places.now fault.now }
 {
@@ -121,7 +122,8 @@ fn operand_fault(places: &[usize], fault: &OperandFault) -> Fault
     }
 }
 
-/// What tells that a pattern is refused: the number of the rule, and the place in the pattern, where there is one.
+/// The fault of a pattern that is refused: the number of the rule, and the place in the pattern, if there is such a
+/// place.
 fn pattern_kind(number: u8, offset: Option<usize>) -> UsageKind
     ensures { result ≡ pattern_kind number offset }
 {

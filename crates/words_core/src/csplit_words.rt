@@ -24,7 +24,7 @@ struct CsplitOptions<'a> {
     prefix: &'a str,
     /// How many digits names have at least.
     digits: u8,
-    /// The format of names, which has digits of its own.
+    /// The format of names, which says itself how many digits there are.
     format: Option<Format<'a>>,
     /// Whether files are kept after a fault.
     keep: bool,
@@ -68,7 +68,7 @@ impl<'a> CsplitOptions<'a> {
         }
     }
 
-    /// The format of names: without one a number in decimal, filled with zeros to its digits.
+    /// The format of names; without a given format, a number in decimal, filled with zeros to its digits.
     fn names(&self) -> Format<'a>
         ensures { format_seen result ≡ format_or self.now.digits (options_seen self.now).format }
     {
@@ -90,12 +90,13 @@ impl<'a> CsplitOptions<'a> {
     }
 }
 
-/// What words ask of `csplit`. It takes memory for what names have before and after their numbers, and for the operands.
+/// What words ask of `csplit`. This takes memory for the operands, and for what names have
+/// before and after their numbers.
 ///
 /// # Errors
 ///
-/// `Usage`: `MissingOperand` at word 0 where there is no file, or none but the file; else the first operand that is wrong, at
-/// the place of its word. `Memory` where there is no room.
+/// `Usage`: `MissingOperand` at word 0 if there is no file, or no operand but the file; otherwise the first operand
+/// that is wrong, at the place of its word. `Memory` if there is no room.
 pub fn settle_csplit<'a>(
     alloc: Global,
     calling: Calling,
@@ -118,7 +119,7 @@ pub fn settle_csplit<'a>(
 ///
 /// # Errors
 ///
-/// `Memory` where there is no room for what names have before and after their numbers.
+/// `Memory` if there is no room for what names have before and after their numbers.
 fn choose_style(alloc: Global, options: &[Chosen<'_>]) -> Result<Style, Fault>
     ensures ok { IfOk result (λ style. style ≡ style_of (map option_seen options.now)) }
     ensures err { IfErr result (λ fault. fault ≡ Fault.Memory) }

@@ -1,4 +1,5 @@
-//! The value of `-n` of `split`: among how many files an input is divided, and how (GNU coreutils manual, split, CHUNKS).
+//! The value of `-n` of `split`: among how many files an input is divided, and how (GNU coreutils manual, split,
+//! CHUNKS).
 ghost use Rattle.std.specs.Prelude.{◌≡◌};
 ghost use Rattle.words_core.specs.Division.{all_in, divided_in, division_in, one_in};
 
@@ -12,11 +13,11 @@ const MOST_FILES: u64 = 65_535;
 /// How an input is divided among files.
 #[derive(Clone, Copy, PartialEq, Eq)]
 pub enum Dealing {
-    /// Each gets the bytes of a chunk.
+    /// Each file gets the bytes of a chunk.
     Bytes,
-    /// Each gets the lines that begin in a chunk.
+    /// Each file gets the lines that begin in a chunk.
     Lines,
-    /// Lines are dealt to them in turn.
+    /// Lines are dealt to the files in turn.
     Turns,
 }
 
@@ -27,7 +28,7 @@ pub struct Division {
     pub dealing: Dealing,
     /// Among how many files, 1 to 65,535.
     pub files: u64,
-    /// The place, counted from 0, of the one that is written to standard output. None where all are written to files.
+    /// The place, counted from 0, of the only file that is written, to standard output. None if all files are written.
     pub only: Option<u64>,
 }
 

@@ -44,7 +44,7 @@ impl<'a> Model for EndsSettings<'a> {
     } };
 }
 
-/// What is asked for without options: ten lines of these.
+/// What is asked for without options: ten lines of these inputs.
 pub(crate) fn ten_lines(names: Vec<&str>) -> EndsSettings<'_>
     ensures { result ≡ ten_lines (map (λ name. name.now) names.entry.items) }
 {
@@ -77,12 +77,12 @@ impl EndsSettings<'_> {
     }
 }
 
-/// What words ask of `head` or `tail`: the last of the options for counts, the last of those for headers, and whether lines end
+/// What words ask of `head` or `tail`: the last option for a count, the last option for headers, and whether lines end
 /// with byte 0.
 ///
 /// # Errors
 ///
-/// `Memory` where there is no room for the names.
+/// `Memory` if there is no room for the names.
 pub fn settle_ends<'a>(alloc: Global, spelled: &Spelled<'a>) -> Result<EndsSettings<'a>, Fault>
     ensures ok { IfOk result (λ settings. settings ≡ ends_asked spelled.now) }
     ensures err { IfErr result (λ fault. fault ≡ Fault.Memory) }
@@ -94,7 +94,7 @@ pub fn settle_ends<'a>(alloc: Global, spelled: &Spelled<'a>) -> Result<EndsSetti
     Ok(asked)
 }
 
-/// The names of the inputs: the operands, or standard input where there is none.
+/// The names of the inputs: the operands, or standard input if there is no operand.
 pub(crate) fn names_of<'a>(alloc: Global, operands: &[Operand<'a>]) -> Result<Vec<&'a str>, Fault>
     ensures ok { IfOk result (λ names. map (λ name. name.now) names.items
         ≡ names_asked (map operand_seen operands.now)) }

@@ -25,12 +25,12 @@ pub struct Format<'a> {
     pub before: &'a str,
     /// How the number is written.
     pub form: Form,
-    /// The text after it.
+    /// The text after the number.
     pub after: &'a str,
 }
 
-/// Reads a format. None where it isn't one: it has no conversion or two, or one that is none of those of `d i u o x X`, has
-/// flags that don't go with it, or a width or a precision above 255.
+/// Reads a format. None if the text isn't a format: it has no conversion or two; or a conversion other than
+/// `d i u o x X`, with flags that don't go with it, or with a width or a precision above 255.
 pub fn read_format(text: &str) -> Option<Format<'_>>
     ensures { option_map format_seen result ≡ format_in text.now }
 {
@@ -47,7 +47,7 @@ pub fn read_format(text: &str) -> Option<Format<'_>>
     })
 }
 
-/// What stands from the conversion on: from the first `%` that is left where pairs are passed over from the left.
+/// The text from the conversion on: from the first `%` that is left, if pairs of `%` are passed over from the left.
 fn after_text(text: &[u8]) -> &[u8]
     ensures { result.now ≡ after_text text.now }
 {
@@ -58,7 +58,7 @@ fn after_text(text: &[u8]) -> &[u8]
     rest
 }
 
-/// What stands after a byte of a text, or after two `%`. None where nothing or a conversion stands there.
+/// What stands after the first byte of a text, or after two `%`. None if the text is empty or begins with a conversion.
 fn after_one(text: &[u8]) -> Option<&[u8]>
     ensures same { IfSome result (λ rest. after_text rest.now ≡ after_text text.now) }
     ensures shorter { IfSome result (λ rest. length rest.now < length text.now) }
@@ -156,7 +156,7 @@ fn base_of(letter: u8) -> Option<Base>
     }
 }
 
-/// What flags, a width, a precision and a base say. None where they don't go together.
+/// The form that flags, a width, a precision and a base give. None if they don't go together.
 fn form_of(flags: &[u8], width: u64, precision: Option<u64>, base: Base) -> Option<Form>
     ensures { result ≡ form_of flags.now width precision (Some base) }
 {
@@ -209,7 +209,7 @@ pub fn push_plain(name: &mut String, text: &str) -> Result<(), AllocError>
     name.push_str(rest)
 }
 
-/// A text without the `%` that it begins with, if it does.
+/// A text without the `%` at its front, if it has one.
 fn without_percent(text: &str) -> &str
     ensures { result.now ≡ without_percent text.now }
 {

@@ -14,14 +14,14 @@ use std::alloc::{AllocError, Global};
 /// The version of the program, as the file `VERSION` has it.
 const VERSION: &[u8] = b"1.1.0";
 
-/// As many blanks as what is typed has room for.
+/// The blanks that fill an empty text up to the column of what it does.
 const BLANKS: &[u8] = b"                              ";
 
 /// A text about a tool; of `Tool::Cutters` it is about the program.
 ///
 /// # Errors
 ///
-/// `Memory` where the text found no room.
+/// `Memory` if there is no room for the text.
 pub fn text_about(alloc: Global, tool: Tool, topic: Topic) -> Result<Vec<u8>, Fault>
     ensures ok { IfOk result (λ text. text.items ≡ text_about tool topic) }
     ensures err { IfErr result (λ fault. fault ≡ Fault.Memory) }
@@ -135,7 +135,7 @@ fn names_of(alloc: Global, names: &[&str]) -> Result<Vec<u8>, AllocError>
     Ok(text)
 }
 
-/// Writes what the value of an option is called, where it takes one.
+/// Writes what the value of an option is called, if the option takes a value.
 fn write_value(text: &mut Vec<u8>, takes: Takes, value: &[u8]) -> Result<(), AllocError>
     ensures { IfOk result (λ _. text.new.items ≡ text.old.items ++ value_listed takes value.now) }
 {

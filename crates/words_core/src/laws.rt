@@ -54,17 +54,17 @@ use seg_core::count::{Count, Sign};
 use seg_core::cut::{Cut, Limit, Way};
 use seg_core::unit::Unit;
 
-/// Where the arguments are one list, its first one says how the program is called, and the others are its words: in their order,
-/// none left out and none twice.
+/// If the arguments are one list, the first argument says how the program is called, and the others are its words: in
+/// their order, none left out and none twice.
 pub fn words_are_the_arguments()
     ensures { (arguments words : List (List ℕ)) (calling : Calling)
         → IsCalled (λ place found. found ≡ slice_get arguments place) calling words
         → (calling ≡ calling_of arguments) × (words ≡ words_of arguments) }
 {}
 
-/// Of several counts for `head` or `tail` the last decides, as if it stood alone, whatever options stand before it;
-/// and so does the last option for headers. Other options change neither (POSIX.1-2017, XBD 12.2, guideline 11,
-/// leaves this to the tool). What options ask of `head` they ask of `tail` too, of what is written of each input at first.
+/// If `head` or `tail` gets several counts, the last decides, as if it stood alone, whatever options stand before it.
+/// The last option for headers decides, too. Other options change neither (POSIX.1-2017, XBD 12.2, guideline 11, leaves
+/// this to the tool). Options ask the same of `head` and of what `tail` writes of each input at first.
 pub fn last_of_ends_decides()
     ensures counts { (names : List (List ℕ))
         → LastDecides counts (λ options. amount_of (ends_of names options)) (amount_of (ends_of names [])) }
@@ -74,9 +74,9 @@ pub fn last_of_ends_decides()
         → (tail_of names options).ends ≡ ends_of names options }
 {}
 
-/// Of several options that say what `tail` follows the last decides, as if it stood alone, whatever options stand before it,
-/// and so do the last number of looks, the last pause and the last process. A name that leads nowhere is looked for again
-/// where any option says so.
+/// If several options say what `tail` follows, the last decides, as if it stood alone, whatever options stand before
+/// it. The last number of looks, the last pause and the last process decide, too. A name that leads nowhere is looked
+/// for again if any option says so.
 pub fn last_of_tail_decides()
     ensures followed { (names : List (List ℕ))
         → LastDecides says_followed (λ options. (tail_of names options).followed) None }
@@ -88,9 +88,9 @@ pub fn last_of_tail_decides()
     ensures retry { (options : List Chosen) → asked_by retry_by false options ≡ has retries options }
 {}
 
-/// Of several options for the characters of suffixes the last decides, as if it stood alone, whatever options stand before it,
-/// also which number the first file has, if it says so; and so do the last width, the last byte that lines end with, and the
-/// last ending of names. Other options change none.
+/// If several options of `split` say which characters suffixes have, the last decides, as if it stood alone, whatever
+/// options stand before it. It also decides about the number of the first file. The last width, the last byte that
+/// lines end with and the last ending of names decide, too. Other options change none of these.
 pub fn last_of_split_decides()
     ensures alphabet { LastDecides spells (λ options. (split_of options).alphabet) (split_of []).alphabet }
     ensures from { LastDecides spells (λ options. (split_of options).from) None }
@@ -99,9 +99,9 @@ pub fn last_of_split_decides()
     ensures ending { LastDecides gives_ending (λ options. (split_of options).ending) [] }
 {}
 
-/// Of several prefixes for `csplit` the last decides, as if it stood alone, whatever options stand before it; and so do
-/// the last number of digits and the last format, with which the digits have no effect. Without one the prefix is `xx`,
-/// and there are two digits.
+/// If `csplit` gets several prefixes, the last decides, as if it stood alone, whatever options stand before it. The
+/// last number of digits and the last format decide, too. With a format the number of digits has no effect. Without
+/// these options the prefix is `xx`, and there are two digits.
 pub fn last_of_csplit_decides()
     ensures prefix { LastDecides names_prefix (λ options. (chosen_by options).prefix.now) (codes "xx") }
     ensures digits { LastDecides widens (λ options. (chosen_by options).digits) 2 }
@@ -114,9 +114,9 @@ pub fn last_of_csplit_decides()
         × ((style_of options).form ≡ format.form) × ((style_of options).ending ≡ format.after.now) }
 {}
 
-/// Of several options of `tee` that say what is done once an output is broken the last decides, as if it stood alone, whatever
-/// options stand before it. Without one it goes on with those that are left; called by its own name it ends with the first whose
-/// reader is gone.
+/// If several options of `tee` say what is done once an output is broken, the last decides, as if it stood alone,
+/// whatever options stand before it. Without such an option `tee` goes on with the outputs that are left; by its own
+/// name it ends with the first output whose reader is gone.
 pub fn last_of_tee_decides()
     ensures on_broken { (names : List (List ℕ))
         → LastDecides says_on_broken (λ options. (tee_of Calling.Cutters names options).on_broken) OnBroken.Warn }
@@ -124,8 +124,8 @@ pub fn last_of_tee_decides()
         → LastDecides says_on_broken (λ options. (tee_of Calling.OwnName names options).on_broken) OnBroken.Signal }
 {}
 
-/// An option that is taken without effect, with or without a value, changes nothing: the others ask for what they ask for without
-/// it. So it is with `-u` of `split` and `--max-unchanged-stats` of `tail`.
+/// An option that is taken without effect, with or without a value, changes nothing: the other options ask for what
+/// they ask for without it. Such options are `-u` of `split` and `--max-unchanged-stats` of `tail`.
 pub fn some_have_no_effect()
     ensures { (calling : Calling) (tool : Tool) (before after : List Chosen) (word : ℕ) (operands : List GivenOperand)
         → settings_for calling tool
@@ -135,9 +135,9 @@ pub fn some_have_no_effect()
         }) ≡ settings_for calling tool (record { options = before ++ after; operands = operands }) }
 {}
 
-/// What an option without a value asks is asked for exactly where the option is given, wherever it stands and however
-/// often: of `csplit` and `tee`, `-e` and `--verbose` of `split`, and `-z` of `head` and `tail`, without which lines end with
-/// the newline.
+/// What an option without a value asks for is asked for exactly if the option is given, wherever it stands and however
+/// often. This is said of options of `csplit` and `tee`, of `-e` and `--verbose` of `split`, and of `-z` of `head` and
+/// `tail`. Without `-z` lines end with the newline.
 pub fn options_stand_anywhere()
     ensures keep { (options : List Chosen) → (style_of options).keep ≡ has keeps_files options }
     ensures quiet { (options : List Chosen) → (style_of options).quiet ≡ has drops_sizes options }
@@ -151,8 +151,8 @@ pub fn options_stand_anywhere()
         → ((tee_asked calling given).mode ≡ Mode.Append) ↔ (has appends given.options ≡ true) }
 {}
 
-/// Options for `split` are accepted exactly where at most one of them is a way to split; files are cut in that way. A
-/// second way is told by the word in which it stands, whatever follows it.
+/// Options for `split` are accepted exactly if at most one of them is a way to split; files are cut in that way. A
+/// second way is reported at the word in which it stands, whatever follows it.
 pub fn one_way_at_most()
     ensures accepted { (options : List Chosen) → IsOk (way_of options) ↔ (length (filter is_way options) ≤ 1) }
     ensures way { (before after : List Chosen) (option : Chosen) (way : Way) → is_way option ≡ true
@@ -162,23 +162,23 @@ pub fn one_way_at_most()
         → is_way option ≡ true → way_of (before ++ option ∷ after) ≡ Err (Fault.Usage TwoWays option.word) }
 {}
 
-/// Suffixes never widen where an option says which number the first file has.
+/// Suffixes never widen if an option gives the number of the first file.
 pub fn numbers_keep_their_width()
     ensures { (given : Given) (asked : SplitAsked) (from : ℕ) → split_asked given ≡ Ok asked → asked.from ≡ Some from
         → asked.auto ≡ false }
 {}
 
-/// Where options may stand, all words after `--` are operands, whatever they begin with (POSIX.1-2017, XBD 12.2,
-/// guideline 10).
+/// If options may stand in the place of `--`, all words after it are operands, whatever they begin with (POSIX.1-2017,
+/// XBD 12.2, guideline 10).
 pub fn operands_follow_the_end()
     ensures { (rows : List OptionRow) (words : List (List ℕ)) (place : ℕ)
         → spelled rows (codes "--" ∷ words) place Reading
         ≡ Ok (record { options = []; operands = as_operands (place + 1) words }) }
 {}
 
-/// A long name in full is never read as the beginning of another. One that is cut short is that of the only option of which a
-/// name begins so; where names of two options begin so, that is told by its word, and where none does, the option is unknown. An
-/// option counts once, however many of its names begin so (GNU's long options).
+/// A long name in full is never read as the beginning of another name. A name that is cut short names the only option
+/// of which a name begins with it. If names of two options begin with it, that is reported at its word, and if no name
+/// does, the option is unknown. An option counts once, however many of its names begin with it (GNU's long options).
 pub fn beginnings_are_of_one_option()
     ensures full { (rows : List OptionRow) (name : List ℕ) (option : Takes)
         → option_named rows name ≡ Some option → option_called rows name ≡ Ok option }
@@ -196,16 +196,16 @@ pub fn beginnings_are_of_one_option()
         → spelled rows ((codes "--" ++ name) ∷ words) place Reading ≡ Err (Fault.Usage kind place) }
 {}
 
-/// In each tool's table a name is that of its own option and of no other, and all names of an option mean the same.
+/// In each tool's table a name belongs to its own option and to no other, and all names of an option mean the same.
 pub fn names_mean_the_same()
     ensures own { All (λ tool. All (λ row. All (λ name. option_named tool.options name ≡ Some row.takes) row.names)
         tool.options) tools }
     ensures alike { All (λ tool. All (λ row. AreAlike tool.options row.names) tool.options) tools }
 {}
 
-/// The value of an option, where it isn't empty, is spelled in four ways: right after its letter or in the next word,
-/// and after its long name and `=` or in the next word. All four give the same option and value (POSIX.1-2017, XBD
-/// 12.1; GNU's long options).
+/// The value of an option is spelled in four ways: right after its letter, if the value isn't empty, or in the next
+/// word; and after its long name and `=`, or in the next word. All four give the same option and value (POSIX.1-2017,
+/// XBD 12.1; GNU's long options).
 pub fn values_are_spelled_alike()
     ensures attached { (rows : List OptionRow) (letter : ℕ) (kind : Kind) (value : List ℕ) (choice : Choice)
         (words : List (List ℕ)) (place : ℕ) → IsLetter rows letter kind → value ≢ [] → choice_in kind value ≡ Ok choice
@@ -226,9 +226,9 @@ pub fn values_are_spelled_alike()
         (spelled rows words (place + 1 + 1) Reading) }
 {}
 
-/// Letters in one word spell what they spell apart (POSIX.1-2017, XBD 12.2, guideline 5). A letter to which no value belongs
-/// gives its option, and what comes after it is read as if it weren't there: the other letters of its word, after a
-/// hyphen, and where it is the only one the words that follow. So it is with a long name.
+/// Letters in one word spell what they spell apart (POSIX.1-2017, XBD 12.2, guideline 5). A letter that takes no value
+/// within a cluster gives its option. If other letters follow in its word, they are read as if they stood alone after a
+/// hyphen; if not, the next words are read. A long name without a value gives its option in the same way.
 pub fn letters_stand_together()
     ensures together { (rows : List OptionRow) (letter next : ℕ) (choice : Choice) (rest : List ℕ)
         (words : List (List ℕ)) (place : ℕ) → IsSwitch rows letter choice → next ≢ 45
@@ -243,17 +243,18 @@ pub fn letters_stand_together()
         ≡ given_before (bare choice place) (spelled rows words (place + 1) Reading) }
 {}
 
-/// Options and operands may mix: a word that doesn't begin with a hyphen, or is one alone, is an operand wherever options may
-/// stand, and they may stand after it as before (GNU's tools; POSIX.1-2017, XBD 12.2, guideline 9, wants options first).
+/// Options and operands may mix. A word that doesn't begin with a hyphen, or is a hyphen alone, is an operand wherever
+/// options may stand, and options may stand after it (GNU's tools; POSIX.1-2017, XBD 12.2, guideline 9, wants options
+/// first).
 pub fn operands_may_mix()
     ensures { (rows : List OptionRow) (word : List ℕ) (words : List (List ℕ)) (place : ℕ) → is_plain word ≡ true
         → spelled rows (word ∷ words) place Reading
         ≡ given_before (one_operand word place) (spelled rows words (place + 1) Reading) }
 {}
 
-/// Of several faults of single words the leftmost word's is told: one that is found among the first words is told whatever
-/// follows them, but that a value is missing, which is so only where no word follows; and where nothing is wrong with the
-/// first words, the fault stands after them.
+/// If several single words have faults, the fault of the leftmost word is reported. A fault among the first words is
+/// reported whatever follows them, except a missing value, which is missing only if no word follows. If the first words
+/// have no fault, the fault stands after them.
 pub fn leftmost_fault_decides()
     ensures decides { (rows : List OptionRow) (first more : List (List ℕ)) (place : ℕ) (state : State)
         (kind : UsageKind) (word : ℕ) → spelled rows first place state ≡ Err (Fault.Usage kind word)
@@ -263,8 +264,9 @@ pub fn leftmost_fault_decides()
         → spelled rows (first ++ more) place state ≡ Err (Fault.Usage kind word) → place + length first ≤ word }
 {}
 
-/// Words are read from the left, each by what those before it left. An option as `--help` ends that: whatever follows it, even
-/// what would be a fault, gives nothing. So it asks for its text, and the line as a whole isn't checked.
+/// Words are read from the left, and what a word means depends only on the words before it. An option such as `--help`
+/// ends the reading: whatever follows it gives nothing, even if it is wrong. So the option asks for its text, and the
+/// words aren't checked together.
 #[tactic(auto, unfolding(crate::specs::Spelling::foremost, crate::specs::Table::tools))]
 pub fn reading_ends()
     ensures left { (rows : List OptionRow) (first : List (List ℕ)) (place : ℕ) (state : State)
@@ -288,9 +290,9 @@ pub fn operands_keep_their_order()
         → spelled rows words place state ≡ Ok given → AreAmong given.operands place words }
 {}
 
-/// A first word that isn't a hyphen and digits, and letters where its tool takes some, nor a `+` and what its tool takes after
-/// that, is read as any other word. One of digits alone gives the option that its tool has for it, with these digits as the
-/// value; one with letters, or after a `+`, what these ask.
+/// Three kinds of first words are read in another way than other words: a hyphen and digits, a hyphen and a number with
+/// letters that the tool takes, and a `+` and what the tool takes after it. The first kind gives the option that the
+/// tool has for a number, with the digits as its value. The others give what a number with letters asks for.
 #[tactic(auto, unfolding(crate::specs::Spelling::foremost))]
 pub fn number_comes_first()
     ensures other { (calling : Calling) (rows : List OptionRow) (kind : Kind) (letters : Letters) (byte : ℕ)
@@ -313,9 +315,10 @@ pub fn number_comes_first()
         ≡ onward (spelled rows words (place + 1)) (given_at place (with_letters rows Sign.Plus place text)) }
 {}
 
-/// What digits and letters as a first word ask, also after a `+`: as many as the digits write, or ten without digits, of what one
-/// letter says, lines where none does; and what the other letters ask after a hyphen. Each such word is of this kind, and of
-/// `head` each of this kind with digits is such a word.
+/// A number with letters as the first word, also after a `+`, asks for a count: the number that its digits write, or
+/// ten without digits, of the unit that one letter says, or of lines without such a letter. The other letters ask for
+/// what they ask for after a hyphen. Each number with letters that is read has this form. For `head` each text of this
+/// form that has digits is read.
 #[tactic(auto, unfolding(crate::specs::Spelling::foremost, crate::specs::Table::tools))]
 pub fn letters_ask()
     ensures asks { (rows : List OptionRow) (sign : Sign) (text digits options : List ℕ) (unit : Measured × ℕ)
@@ -350,9 +353,10 @@ pub fn letters_ask()
         }))) }
 {}
 
-/// What words mean doesn't depend on how the program is called, but for four things: a first word of `tail` that is a `+` and
-/// what may follow it, what may be followed with and without `--retry`, how patterns of `csplit` may be spelled and whether they
-/// may cut one line past the last, and what `tee` does once an output is broken where no option says it.
+/// What words mean doesn't depend on how the program is called, with four exceptions: a first word of `tail` that is a
+/// `+` and what may follow it; what may be followed with and without `--retry`; how patterns of `csplit` may be
+/// spelled, and whether they may cut one line past the last; and what `tee` does once an output is broken, if no option
+/// says it.
 #[tactic(auto, unfolding(crate::specs::Spelling::foremost, crate::specs::Table::tools))]
 pub fn callings_mean_the_same()
     ensures none { MeanTheSame [] }
@@ -369,9 +373,10 @@ pub fn callings_mean_the_same()
         ≡ record (tee_asked Calling.Cutters given) { on_broken = OnBroken.Signal } }
 {}
 
-/// What a first word of digits and letters asks of `tail`: after a hyphen for that many of the last lines or bytes, and after
-/// a `+` for all from that one on, as `-n` and `-c` do with these, in blocks of 512 bytes too; with `f` it follows. Any other
-/// word of a `+` is a name, and so is this one where it isn't the first, or the program is called by its own.
+/// What digits and letters as a first word ask of `tail`: after a hyphen this many of the last lines or bytes, and
+/// after a `+` all from this number on, also in blocks of 512 bytes. With an `f` at its end the word asks to follow the
+/// file, too. Some words with a `+` are names of files: `+` and `+f`, a path such as `./+2`, `+2` after `--` or after a
+/// name, and any first word with a `+` that is the only one of `cutters tail`.
 #[tactic(auto, unfolding(crate::specs::Spelling::foremost, crate::specs::Table::tools))]
 pub fn starts_ask()
     ensures number { (digits : List ℕ) → is_number digits ≡ true → value_of digits ≤ 2 ^ 63 - 1
@@ -398,8 +403,7 @@ pub fn starts_ask()
         ≡ Ok (Settings.Tail (unfollowed (ten_lines ((codes "+" ++ text) ∷ [])))) }
 {}
 
-/// A first word that is read as a hyphen, digits and letters means nothing else: read as any other word it is an unknown
-/// option.
+/// A word that is read as a hyphen, digits and letters means nothing else: in any other place it is an unknown option.
 pub fn letters_take_no_option_away()
     ensures head { (text : List ℕ) (place : ℕ) → is_lettered head_table OfHead text ≡ true
         → mixed head_table place (codes "-" ++ text) ≡ Err (Fault.Usage UnknownOption place) }
@@ -407,8 +411,8 @@ pub fn letters_take_no_option_away()
         → mixed tail_table place (codes "-" ++ text) ≡ Err (Fault.Usage UnknownOption place) }
 {}
 
-/// What the options of `head` and `tail` ask for, each alone, and what is asked for without any: lines and bytes with their
-/// count, headers never or always (POSIX.1-2017, XCU head and tail; GNU coreutils manual).
+/// What each option of `head` and `tail` asks for, if it is given alone, and what is asked for without any: lines and
+/// bytes with their count, headers never or always (POSIX.1-2017, XCU head and tail; GNU coreutils manual).
 pub fn ends_options_ask()
     ensures nothing { EndsAsk [] (record {
       unit = Unit.Lines;
@@ -426,10 +430,11 @@ pub fn ends_options_ask()
     ensures zero { EndsAsk (codes "-z" ∷ []) (record ten_of_input { delim = 0 }) }
 {}
 
-/// What the options of `tail` for following ask for, and what is asked for without any: files that are opened once, or names,
-/// and by `cutters` these only with `--retry`; by its own name names while they lead to a file, or the first file to which each leads;
-/// as many looks as can be, or this many; pauses of a second at most, or of this many
-/// milliseconds; the end of this process (POSIX.1-2017, XCU tail; GNU coreutils manual).
+/// What the options of `tail` for following ask for, and what is asked for without any. Files are opened once; or names
+/// are followed, by `cutters` only with `--retry`. By its own name `tail` also follows names as long as they lead to a
+/// file, or the first file to which each name leads. There are as many looks as can be, or this many; pauses last a
+/// second at most, or this many milliseconds; following may end with this process (POSIX.1-2017, XCU tail; GNU
+/// coreutils manual).
 #[tactic(auto, unfolding(crate::specs::Spelling::foremost, crate::specs::Table::tools, seg_core::specs::Count::digits_of))]
 pub fn tail_options_ask()
     ensures nothing { (calling : Calling) → settings_of calling (codes "tail" ∷ []) ≡ Ok (Settings.Tail (record {
@@ -464,8 +469,8 @@ pub fn tail_options_ask()
         (record following { pause = 51 }) }
 {}
 
-/// What the options of `split` ask for, each alone, and what is asked for without any (POSIX.1-2017, XCU split; GNU coreutils
-/// manual).
+/// What each option of `split` asks for, if it is given alone, and what is asked for without any (POSIX.1-2017, XCU
+/// split; GNU coreutils manual).
 pub fn split_options_ask()
     ensures nothing { SplitAsks [] (record {
       way = Way.Cut (Cut.Parts (Limit.Lines 1000 10));
@@ -517,8 +522,8 @@ pub fn split_options_ask()
     ensures unbuffered { SplitAsks (codes "-u" ∷ []) thousands }
 {}
 
-/// What the options of `csplit` ask for, each alone, and what is asked for without any (POSIX.1-2017, XCU csplit; GNU
-/// coreutils manual).
+/// What each option of `csplit` asks for, if it is given alone, and what is asked for without any (POSIX.1-2017, XCU
+/// csplit; GNU coreutils manual).
 pub fn csplit_options_ask()
     ensures nothing { CsplitAsks [] (record {
       prefix = codes "xx";
@@ -552,8 +557,8 @@ pub fn csplit_options_ask()
     ensures suppress { CsplitAsks (codes "--suppress-matched" ∷ []) (record plain_style { suppress = true }) }
 {}
 
-/// What `tee` is asked for without options, by both ways to call the program, with `-a`, and with an option that says what is
-/// done once an output is broken (POSIX.1-2017, XCU tee; GNU coreutils manual).
+/// What `tee` is asked for without options, by both ways to call the program; with `-a`; and with an option that says
+/// what is done once an output is broken (POSIX.1-2017, XCU tee; GNU coreutils manual).
 #[tactic(auto, unfolding(crate::specs::Table::tools))]
 pub fn tee_options_ask()
     ensures nothing { TeeAsks Calling.Cutters []
@@ -570,8 +575,8 @@ pub fn tee_options_ask()
     ensures exit_nopipe { OnBrokenAsks (codes "--output-error=exit-nopipe" ∷ []) OnBroken.ExitNoPipe }
 {}
 
-/// A hyphen and digits as the only word mean what `-n` means with these digits for `head` and `tail`, and what `-l` means for
-/// `split` (GNU coreutils manual).
+/// A hyphen and digits as the only word mean what `-n` means with these digits for `head` and `tail`, and what `-l`
+/// means for `split` (GNU coreutils manual).
 pub fn numbers_ask()
     ensures head { (calling : Calling) (digits : List ℕ) (count : Count) → is_number digits ≡ true
         → count_of digits ≡ Ok count → settings_of calling (codes "head" ∷ (codes "-" ++ digits) ∷ [])

@@ -1,5 +1,5 @@
-//! A first word of a hyphen, digits and letters, as `-5c` of `head` and `-20f` of `tail`, and one of a `+`, as `+5` of
-//! `tail` (GNU's, from before POSIX).
+//! A number with letters as the first word: after a hyphen, as `-5c` of `head` and `-20f` of `tail`, or after a `+`, as
+//! `+5` of `tail` (GNU's, from before POSIX).
 ghost use Rattle.std.specs.Prelude.{◌≡◌, ◌+◌, ◌-◌, ◌^◌, ◌==◌, IfErr, IfOk, filter, if◌then◌else◌, length, map, min};
 ghost use Rattle.seg_core.specs.Count.{after_digits, leading_digits, value_of};
 ghost use Rattle.words_core.specs.{
@@ -20,10 +20,10 @@ use seg_core::count::{Count, Sign};
 use seg_core::digits::{GREATEST, leading_number};
 use seg_core::unit::Unit;
 
-/// How many there are of what is counted where no digits say it.
+/// The number that stands for missing digits.
 const TEN: u64 = 10;
 
-/// Whether a text that follows a hyphen is a number with letters, where these letters may follow.
+/// Whether a text that follows a hyphen is a number with letters, if these letters may follow digits.
 pub fn is_lettered(rows: &[OptionRow], letters: Letters, text: &[u8]) -> bool
     ensures { result ≡ is_lettered (map row_seen rows.now) letters text.now }
 {
@@ -38,7 +38,7 @@ pub fn is_lettered(rows: &[OptionRow], letters: Letters, text: &[u8]) -> bool
     }
 }
 
-/// Whether a text that follows a `+` says where `tail` begins, where the program is called by its name.
+/// Whether a text that follows a `+` says where `tail` begins, if the program is called in this way.
 pub fn is_start(calling: Calling, rows: &[OptionRow], letters: Letters, text: &[u8]) -> bool
     ensures { result ≡ is_start calling (map row_seen rows.now) letters text.now }
 {
@@ -72,7 +72,7 @@ fn count_units(letters: &[u8]) -> usize
     units
 }
 
-/// Whether these letters say what is counted, or are those of options without a value.
+/// Whether each of these letters says what is counted, or names an option without a value.
 fn are_known(rows: &[OptionRow], letters: &[u8]) -> bool
     ensures { result ≡ are_known (map row_seen rows.now) letters.now }
 {
@@ -90,7 +90,7 @@ fn is_known(rows: &[OptionRow], letter: u8) -> bool
     unit_of(letter).is_some() || is_switch(rows, letter)
 }
 
-/// Whether a letter is that of an option without a value.
+/// Whether a letter names an option without a value.
 fn is_switch(rows: &[OptionRow], letter: u8) -> bool
     ensures { result ≡ is_switch (letter_named (map row_seen rows.now) letter) }
 {
@@ -103,7 +103,7 @@ fn are_of_tail(letters: &[u8]) -> bool
     is_among(&["f", "b", "bf", "c", "cf", "l", "lf"], letters)
 }
 
-/// What is counted where this letter stands after the digits, and how much each of it is.
+/// The unit that a letter after the digits stands for, and the factor of the number.
 fn unit_of(letter: u8) -> Option<(Unit, u64)>
     ensures { result ≡ unit_of letter }
 {
@@ -117,7 +117,7 @@ fn unit_of(letter: u8) -> Option<(Unit, u64)>
     }
 }
 
-/// What the first of these letters that says what is counted says; lines, where none does.
+/// The unit and the factor of the first letter that has them; lines, if no letter has them.
 fn unit_in(letters: &[u8]) -> (Unit, u64)
     ensures { result ≡ unit_in letters.now }
 {
@@ -129,7 +129,7 @@ fn unit_in(letters: &[u8]) -> (Unit, u64)
     (Unit::Lines, 1)
 }
 
-/// The number that the digits write which a text begins with, or ten without digits, and at most the greatest `u64`.
+/// The number that the digits at the front of a text write, or ten without digits, and at most the greatest `u64`.
 fn leading_or_ten(text: &[u8]) -> u64
     ensures { result ≡ min (if length (leading_digits text.now) == 0 then 10 else value_of (leading_digits text.now))
         (2 ^ 64 - 1) }
@@ -140,7 +140,7 @@ fn leading_or_ten(text: &[u8]) -> u64
     }
 }
 
-/// As many as the digits that a text begins with write, or ten without digits, each of them this large.
+/// The count that the digits at the front of a text write, or ten without digits, times `each`.
 fn times(sign: Sign, text: &[u8], each: u64) -> Result<Count, UsageKind>
     ensures { result ≡ times sign (leading_digits text.now) each }
 {
@@ -191,7 +191,7 @@ fn add_switches<'a>(
     Ok(State::Reading)
 }
 
-/// Adds the option of this letter, where there is one.
+/// Adds the option of this letter, if there is such an option.
 fn add_switch<'a>(
     rows: &[OptionRow],
     place: usize,

@@ -1,4 +1,4 @@
-//! What a tool says by its own name of words that are refused, beside what is wrong and with which word.
+//! What a tool, called by its own name, adds to a message that refuses words.
 ghost use Rattle.std.specs.Prelude.{◌≡◌, ◌++◌, codes, map, option_map, take, IfOk, IfErr};
 ghost use Rattle.ports_core.specs.Text.{in_quotes};
 ghost use Rattle.words_core.specs.{
@@ -13,13 +13,13 @@ use crate::table::{OptionRow, Takes, ToolRow, all_tools, find_option, find_row};
 use ports_core::{Calling, Fault, UsageKind, write_quoted};
 use std::alloc::{AllocError, Global};
 
-/// What the words show of a fault that stands in the word at this place: the letter that is no option, the option for which a value
-/// was, or what a value may be. Where the program is called `cutters` that is nothing. It takes memory for the text, and for reading
-/// the words again.
+/// What a tool adds, by its own name, to the message about a fault in the word at this place: the letter that is no
+/// option, the option to which the value belongs, or what a value may be. `cutters` adds nothing. It takes memory for
+/// the text, and for reading the words again.
 ///
 /// # Errors
 ///
-/// `Memory` where there is no room for it.
+/// `Memory` if there is no room for it.
 pub fn detail_of(
     alloc: Global,
     calling: Calling,
@@ -41,7 +41,7 @@ pub fn detail_of(
     }
 }
 
-/// The word at this place, empty where there is none.
+/// The word at this place, or the empty word if there is none.
 fn word_at<'a>(words: &[&'a str], place: usize) -> &'a str
     ensures { result.now ≡ word_at (map (λ word. word.now) words.now) place }
 {
@@ -58,7 +58,7 @@ fn row_of(words: &[&str]) -> Option<&'static ToolRow>
     }
 }
 
-/// Of several letters in one word the first that is no option's.
+/// A text about the first of several letters in a word that is no option.
 fn unknown_letter(
     alloc: Global,
     row: Option<&'static ToolRow>,
@@ -113,7 +113,7 @@ fn quoted_letter(alloc: Global, letter: u8) -> Result<Vec<u8>, AllocError>
     Ok(Vec::new(alloc))
 }
 
-/// What `--follow` may be, after the word that says something else.
+/// A text about what `--follow` may be, after the word that it refuses.
 fn for_follow(alloc: Global, words: &[&str], place: usize) -> Result<Vec<u8>, AllocError>
     ensures { IfOk result (λ text. text.items ≡ for_follow (map (λ word. word.now) words.now) place) }
 {
@@ -126,7 +126,7 @@ fn for_follow(alloc: Global, words: &[&str], place: usize) -> Result<Vec<u8>, Al
     Ok(text)
 }
 
-/// For which option the value was that stands in the word at this place, if it is one.
+/// A text about the option to which the word at this place belongs as its value, if it is a value.
 fn for_option(alloc: Global, words: &[&str], place: usize) -> Result<Vec<u8>, Fault>
     ensures ok { IfOk result (λ text. text.items ≡ for_option (map (λ word. word.now) words.now) place) }
     ensures err { IfErr result (λ fault. fault ≡ Fault.Memory) }

@@ -35,10 +35,10 @@ pub enum Topic {
 /// When a header with its name goes before an input.
 #[derive(Clone, Copy, PartialEq, Eq)]
 pub enum Headers {
-    /// Where there is more than one input.
+    /// If there are several inputs.
     ForSeveral,
     /// Before no input.
     Never,
-    /// Before each input, also a single one.
+    /// Before each input, also if there is only one.
     Always,
 }

@@ -61,7 +61,7 @@ impl<'a> Spelled<'a> {
     ///
     /// # Errors
     ///
-    /// `Memory` where there is no room for it.
+    /// `Memory` if there is no room for it.
     pub fn add_option(&mut self, choice: Choice<'a>, word: usize) -> Result<(), Fault>
         ensures ok { IfOk result (λ _. self.new ≡ joined self.old (one_option (seen choice.entry) word)) }
         ensures err { IfErr result (λ fault. fault ≡ Fault.Memory) }
@@ -73,7 +73,7 @@ impl<'a> Spelled<'a> {
     ///
     /// # Errors
     ///
-    /// `Memory` where there is no room for it.
+    /// `Memory` if there is no room for it.
     pub fn add_operand(&mut self, text: &'a str, word: usize) -> Result<(), Fault>
         ensures ok { IfOk result (λ _. self.new ≡ joined self.old (one_operand text.now word)) }
         ensures err { IfErr result (λ fault. fault ≡ Fault.Memory) }
@@ -86,7 +86,7 @@ impl<'a> Spelled<'a> {
 ///
 /// # Errors
 ///
-/// `Memory` where there is no room for them.
+/// `Memory` if there is no room for them.
 pub fn texts_of<'a>(alloc: Global, operands: &[Operand<'a>]) -> Result<Vec<&'a str>, Fault>
     ensures ok { IfOk result (λ texts. map (λ text. text.now) texts.items ≡ texts_of (map operand_seen operands.now)) }
     ensures err { IfErr result (λ fault. fault ≡ Fault.Memory) }
@@ -98,11 +98,11 @@ pub fn texts_of<'a>(alloc: Global, operands: &[Operand<'a>]) -> Result<Vec<&'a s
     Ok(texts)
 }
 
-/// The places of their words, in their order.
+/// The places of the words of operands, in their order.
 ///
 /// # Errors
 ///
-/// `Memory` where there is no room for them.
+/// `Memory` if there is no room for them.
 pub fn places_of(alloc: Global, operands: &[Operand<'_>]) -> Result<Vec<usize>, Fault>
     ensures ok { IfOk result (λ places. places.items ≡ places_of (map operand_seen operands.now)) }
     ensures err { IfErr result (λ fault. fault ≡ Fault.Memory) }

@@ -21,8 +21,8 @@ use std::alloc::Global;
 /// What may stand in the next word.
 #[derive(Clone, Copy)]
 pub enum State {
-    /// Options and operands, or a hyphen and digits, which are then an option's value and may be followed by these
-    /// letters; or a `+` and these, where the program is called so that its tool takes them.
+    /// Options and operands. Or a hyphen and digits, which are an option's value then; these letters may follow them.
+    /// Or a `+` and such a text, if the tool takes it by the way the program is called.
     First(Calling, Kind, Letters),
     /// Options and operands.
     Reading,
@@ -38,7 +38,7 @@ pub enum State {
 ///
 /// # Errors
 ///
-/// `Usage`: the first fault from left to right. `Memory` where there is no room for what they spell.
+/// `Usage`: the first fault from left to right. `Memory` if there is no room for what they spell.
 pub fn read_given<'a>(
     alloc: Global,
     calling: Calling,
@@ -54,7 +54,7 @@ pub fn read_given<'a>(
     read_items(alloc, tool.options, start, words)
 }
 
-/// Reads words by the table of a tool's options. The first stands at place 1.
+/// Reads words by the table of a tool's options. The first word stands at place 1.
 fn read_items<'a>(
     alloc: Global,
     rows: &[OptionRow],
@@ -101,8 +101,8 @@ fn read_word<'a>(
     }
 }
 
-/// Reads the word after the tool's name, where a hyphen and digits are an option's value and letters may follow, and where
-/// these may follow a `+`.
+/// Reads the word after the tool's name. It may be a hyphen and digits, which are an option's value, and letters may
+/// follow them. Digits and letters may also follow a `+`.
 #[tactic(auto, unfolding(crate::specs::Spelling::foremost))]
 fn read_first<'a>(
     calling: Calling,
@@ -137,7 +137,7 @@ pub(crate) fn is_number(text: &[u8]) -> bool
     !text.is_empty() && text.iter().all(|byte| byte.is_ascii_digit())
 }
 
-/// The first character of a text and what follows it, where it is ASCII.
+/// The first character of a text and what follows it, if the character is ASCII.
 pub(crate) fn first_letter(text: &str) -> Option<(u8, &str)>
     ensures value { option_map (λ parts. (parts.0, parts.1.now)) result ≡ first_letter text.now }
     ensures whole { IfSome result (λ parts. text.now ≡ parts.0 ∷ parts.1.now) }
@@ -148,7 +148,7 @@ pub(crate) fn first_letter(text: &str) -> Option<(u8, &str)>
     }
 }
 
-/// Reads a word where options and operands may stand.
+/// Reads a word that may be an option or an operand.
 fn read_mixed<'a>(
     rows: &[OptionRow],
     place: usize,
@@ -175,7 +175,7 @@ fn read_operand<'a>(place: usize, word: &'a str, spelled: &mut Spelled<'a>) -> R
     Ok(State::Reading)
 }
 
-/// Reads a long option, also one whose name is cut short, with its value where it has one after `=`.
+/// Reads a long option, whose name may be cut short, with its value if one follows a `=`.
 fn read_long<'a>(
     rows: &[OptionRow],
     place: usize,
@@ -191,7 +191,7 @@ fn read_long<'a>(
     }
 }
 
-/// The name of a long option, and its value where it has one after `=`.
+/// The name of a long option, and its value if one follows a `=`.
 fn split_value(word: &str) -> (&[u8], Option<&str>)
     ensures name { result.0.now ≡ before_first is_equals word.now }
     ensures value { option_map (λ text. text.now) result.1 ≡ after_equals word.now }
@@ -278,8 +278,7 @@ fn read_attached<'a>(
     read_option(kind, place, place, rest, spelled)
 }
 
-/// Reads the value, in the word at `place`, of an option that stands in the word at the place
-/// `option`.
+/// Reads the value of an option. The value stands in the word at `place`, the option in the word at the place `option`.
 fn read_option<'a>(
     kind: Kind,
     option: usize,

@@ -29,21 +29,22 @@ pub struct SplitSettings<'a> {
     pub way: Way,
     /// The characters of the suffixes.
     pub alphabet: Alphabet,
-    /// How many characters a suffix has; of suffixes that widen, the first ones.
+    /// How many characters a suffix has; if suffixes widen, how many the first ones have.
     pub width: u32,
     /// Whether suffixes widen.
     pub auto: bool,
-    /// The number of the first file, at most 2^63-1, where an option says so. Suffixes don't widen then. Else it is 0.
+    /// The number of the first file, at most 2^63-1, if an option gives it; suffixes don't widen then. Without it the
+    /// number is 0.
     pub from: Option<u64>,
     /// Whether files that stay empty are left out.
     pub elide: bool,
-    /// Whether standard output is told of each file before it is opened.
+    /// Whether standard output gets a line for each file before the file is opened.
     pub verbose: bool,
     /// The input's name; `-` is standard input.
     pub input: &'a str,
     /// What the files' names begin with.
     pub prefix: &'a str,
-    /// What they end with; it has no `/`.
+    /// What the files' names end with; it has no `/`.
     pub ending: &'a str,
 }
 
@@ -64,14 +65,14 @@ impl<'a> Model for SplitSettings<'a> {
     } };
 }
 
-/// How files are cut where no way is given.
+/// How files are cut if no way to split is given.
 fn thousand_lines(delim: u8) -> Way
     ensures { result ≡ thousand_lines delim }
 {
     Way::Cut(Cut::Parts(Limit::Lines(1000, delim)))
 }
 
-/// What the names of files begin with where no operand says so.
+/// What the names of files begin with, if no operand says it.
 const PREFIX: &str = "x";
 
 /// What is asked for without words; a width of 0 stands for none.
@@ -114,13 +115,13 @@ impl<'a> SplitSettings<'a> {
 /// What stands after the prefix of a name.
 #[derive(Clone, Copy)]
 pub struct Suffix {
-    /// How many characters it has, or at first has.
+    /// How many characters a suffix has, or has at first.
     pub width: u32,
     /// Whether suffixes widen.
     pub auto: bool,
 }
 
-/// What words ask of `split`: the line as a whole.
+/// What words ask of `split`, with all checks of the words together.
 ///
 /// # Errors
 ///
@@ -142,7 +143,7 @@ pub fn settle_split<'a>(spelled: &Spelled<'a>) -> Result<SplitSettings<'a>, Faul
     })
 }
 
-/// What all options ask for, but for the way to split.
+/// What all options ask for, except the way to split.
 fn choose_split<'a>(options: &[Chosen<'a>]) -> SplitSettings<'a>
     ensures { result ≡ split_of (map option_seen options.now) }
 {
@@ -170,7 +171,7 @@ fn separator_in(options: &[Chosen<'_>]) -> u8
 ///
 /// # Errors
 ///
-/// `Usage` with the place of the second one's word, where two ways are given.
+/// `Usage` with the place of the word of the second way, if two ways are given.
 fn choose_way(delim: u8, options: &[Chosen<'_>]) -> Result<Way, Fault>
     ensures { result ≡ only_way delim (filter is_way (map option_seen options.now)) }
 {
@@ -183,7 +184,7 @@ fn choose_way(delim: u8, options: &[Chosen<'_>]) -> Result<Way, Fault>
     Ok(way.unwrap_or(thousand_lines(delim)))
 }
 
-/// The way to split, with one more option.
+/// The way to split after one more option.
 fn with_way(delim: u8, way: Option<Way>, option: &Chosen<'_>) -> Result<Option<Way>, Fault>
     ensures { result ≡ with_way delim way (option_seen option.now) }
 {
@@ -208,7 +209,7 @@ fn way_in(delim: u8, choice: Choice<'_>) -> Option<Way>
     Some(Way::Cut(Cut::Parts(limit)))
 }
 
-/// What becomes of an input that is divided so, if its lines end with this byte.
+/// The way to split an input that is divided in this way, if its lines end with this byte.
 fn way_of_division(delim: u8, division: Division) -> Way
     ensures { result ≡ way_of_division delim division }
 {
@@ -228,7 +229,8 @@ fn way_of_division(delim: u8, division: Division) -> Way
     }
 }
 
-/// What becomes of an input whose lines are dealt in turn to this many files, or if only one of these is written.
+/// The way to split an input whose lines are dealt in turn to this many files, or of which only one of these files is
+/// written.
 fn way_of_turns(delim: u8, files: u64, only: Option<u64>) -> Way
     ensures { result ≡ dealt_by delim Turns files only }
 {
@@ -238,7 +240,7 @@ fn way_of_turns(delim: u8, files: u64, only: Option<u64>) -> Way
     }
 }
 
-/// The suffixes of files that are cut in this way, if this is the number of the first one and this width is given; a width
+/// The suffixes of files that are cut in this way, if the first file has this number and this width is given; a width
 /// of 0 stands for none.
 fn choose_suffix(
     way: Way,
@@ -264,7 +266,7 @@ fn first_number(from: Option<u64>) -> u64
     from.unwrap_or(0)
 }
 
-/// Suffixes of this width, or ones that widen where it is 0.
+/// Suffixes of this width, or suffixes that widen if it is 0.
 fn free(width: u32) -> Suffix
     ensures { result ≡ free width }
 {
@@ -277,7 +279,7 @@ fn free(width: u32) -> Suffix
     fixed(width)
 }
 
-/// The suffixes of this many files, of this width, or of the least that writes all of their numbers where it is 0.
+/// The suffixes of this many files, of this width; if it is 0, of the least width that writes all of their numbers.
 fn suffix_for_all(
     alphabet: Alphabet,
     from: Option<u64>,
@@ -293,21 +295,21 @@ fn suffix_for_all(
     wide_enough(alphabet, count, width)
 }
 
-/// The suffixes of files that come one after another from this number on, of this width, or of 2 characters where it is 0.
+/// The suffixes of files that come one after another from this number on, of this width, or of 2 characters if it is 0.
 fn suffix_from(alphabet: Alphabet, from: u64, width: u32) -> Result<Suffix, Fault>
     ensures { result ≡ numbered alphabet from width }
 {
     wide_enough(alphabet, u128::from(from) + 1, or_two(width))
 }
 
-/// This width, or 2 where it is 0.
+/// This width, or 2 if it is 0.
 fn or_two(width: u32) -> u32
     ensures { result ≡ or_two width }
 {
     if width == 0 { 2 } else { width }
 }
 
-/// Suffixes of this width, which must write as many numbers, from 0 on.
+/// Suffixes of this width, which must write this many numbers, from 0 on.
 fn wide_enough(alphabet: Alphabet, count: u128, width: u32) -> Result<Suffix, Fault>
     ensures { result ≡ wide_enough alphabet count width }
 {
@@ -326,7 +328,7 @@ fn fixed(width: u32) -> Suffix
 /// The width that writes all numbers that files can have.
 const ENOUGH: u32 = 23;
 
-/// The least width, from 2 on, that writes as many numbers, from 0 on.
+/// The least width, from 2 on, that writes this many numbers, from 0 on.
 fn least_width(alphabet: Alphabet, count: u128) -> u32
     ensures value { result ≡ least_width alphabet count }
     ensures some { 2 ≤ result }
@@ -342,7 +344,7 @@ fn least_width(alphabet: Alphabet, count: u128) -> u32
     ENOUGH
 }
 
-/// Whether this width writes as many numbers, from 0 on.
+/// Whether this width writes this many numbers, from 0 on.
 fn names_all(alphabet: Alphabet, count: u128, width: u32) -> bool
     ensures { result ≡ names_all alphabet count width }
 {
@@ -353,7 +355,7 @@ fn names_all(alphabet: Alphabet, count: u128, width: u32) -> bool
 ///
 /// # Errors
 ///
-/// `Usage` with the place of the third one, where there are more than two.
+/// `Usage` with the place of the third operand, if there are more than two.
 fn take_files<'a>(operands: &[Operand<'a>]) -> Result<(&'a str, &'a str), Fault>
     ensures ok { IfOk result (λ names. files_in (map operand_seen operands.now) ≡ Ok (names.0.now, names.1.now)) }
     ensures err { IfErr result (λ fault. files_in (map operand_seen operands.now) ≡ Err fault) }

@@ -15,7 +15,7 @@ pub struct TeeSettings<'a> {
     pub mode: Mode,
     /// What is done once an output is broken.
     pub on_broken: OnBroken,
-    /// The names of the files, in their order; there may be none, and `-` is a name as any other.
+    /// The names of the files, in their order; there may be none, and `-` is a name like any other.
     pub names: Vec<&'a str>,
 }
 
@@ -29,7 +29,7 @@ impl<'a> Model for TeeSettings<'a> {
     } };
 }
 
-/// What is done once an output is broken where no option says it.
+/// What is done once an output is broken, if no option says it.
 fn unless_said(calling: Calling) -> OnBroken
     ensures { result ≡ unless_said calling }
 {
@@ -63,12 +63,12 @@ impl TeeSettings<'_> {
     }
 }
 
-/// What words ask of `tee`: whether files keep what they hold, and the last that says what is done once an output is broken, or
-/// else how the program was called.
+/// What words ask of `tee`: whether files keep what they hold, and what is done once an output is broken. The last
+/// option for that decides; without one it depends on how the program was called.
 ///
 /// # Errors
 ///
-/// `Memory` where there is no room for the names.
+/// `Memory` if there is no room for the names.
 pub fn settle_tee<'a>(
     alloc: Global,
     calling: Calling,

@@ -21,12 +21,12 @@ use crate::value::MOST_LOOKS;
 use ports_core::{Calling, Fault, Tool, UsageKind};
 use std::alloc::Global;
 
-/// Reads what the words ask for where the program is called `cutters`. The first is the tool's name.
+/// Reads what the words ask for if the program is called `cutters`. The first word is the tool's name.
 ///
 /// # Errors
 ///
-/// `Usage`: what is wrong, and with which word; the faults of single words come first, from left to right, then those
-/// of the line as a whole, and then those of `csplit`'s operands, in their order. `Memory` where there is no room for what
+/// `Usage`: what is wrong, and with which word. The faults of single words come first, from left to right, then those
+/// of the words together, and then those of `csplit`'s operands, in their order. `Memory` if there is no room for what
 /// they spell.
 pub fn read_words<'a>(alloc: Global, words: &[&'a str]) -> Result<Settings<'a>, Fault>
     ensures ok { IfOk result (λ settings.
@@ -39,7 +39,7 @@ pub fn read_words<'a>(alloc: Global, words: &[&'a str]) -> Result<Settings<'a>, 
     read_words_as(alloc, Calling::Cutters, words)
 }
 
-/// Reads what the words ask for as `read_words` does, where the program is called so.
+/// Reads what the words ask for as `read_words` does, if the program is called in this way.
 ///
 /// # Errors
 ///
@@ -75,7 +75,7 @@ impl Settings<'_> {
         }
     }
 
-    /// How often inputs are looked at where they are followed, at most 2^63-1 times.
+    /// How often inputs are looked at if they are followed, at most 2^63-1 times.
     pub fn looks(&self) -> u64
         ensures { result ≡ looks self.now }
     {
@@ -96,7 +96,7 @@ pub fn find_tool(name: &str) -> Option<Tool>
     }
 }
 
-/// What a word asks for that stands in the place of a tool's name, and is none.
+/// What a word asks for that stands in the place of a tool's name, and is no tool's name.
 fn settle_program<'a>(name: &str) -> Result<Settings<'a>, Fault>
     ensures { result ≡ program_asked (topic_named name.now) }
 {
@@ -115,7 +115,7 @@ fn topic_named(name: &str) -> Option<Topic>
     }
 }
 
-/// The text that the first of these options asks for which asks for one.
+/// The text that options ask for: that of the first option that asks for a text.
 fn topic_in(options: &[Chosen<'_>]) -> Option<Topic>
     ensures { result ≡ topic_in (map option_seen options.now) }
 {
@@ -127,7 +127,7 @@ fn topic_in(options: &[Chosen<'_>]) -> Option<Topic>
     None
 }
 
-/// What the words after a tool's name ask of it: a text about it, or its work.
+/// What the words after a tool's name ask of it: a text about it, or its settings.
 fn settle<'a>(
     alloc: Global,
     calling: Calling,
@@ -144,7 +144,7 @@ fn settle<'a>(
     }
 }
 
-/// What options and operands ask of a tool's work.
+/// What options and operands ask of a tool.
 fn settle_work<'a>(
     alloc: Global,
     calling: Calling,

@@ -1,5 +1,5 @@
--- What a look gives for one name, call by call: bytes on standard output, under headers, and lines on standard error;
--- and what one call on a name owes, and what is due of it.
+-- What a look gives for one name, call by call: bytes on standard output, under headers, and lines on standard error.
+-- Of each call on a name: what it owes, and what is due of it.
 use Rattle.std.specs.{
   Prelude.{◌≡◌, ◌<◌, ◌-◌, Bool, true, false, ℕ, List, Option, Some, None, Result, Ok, Err, ◌⊎◌, nat_lt, [], ◌∷◌},
   Prelude.{◌++◌, drop, length, if◌then◌else◌, IfOk, is_some},
@@ -28,7 +28,7 @@ use Rattle.watch_core.specs.declared.watch.Broken.TheVariants as broken
 abbrev pub IsFront : {X : Type 0} → List X → List X → Type 0
 IsFront {X} front whole = (rest : List X) × (whole ≡ front ++ rest)
 
--- bytes of a name with the header that stands before them
+-- bytes of a name, with the header that stands before them
 abbrev pub text_under : PrinterState → (is_opened : Bool) → (name bytes : List ℕ) → List ℕ
 text_under printer is_opened name bytes = text_with printer.headers printer.last is_opened name bytes
 
@@ -36,24 +36,24 @@ abbrev pub printer_under : PrinterState → (is_opened : Bool) → (name bytes :
 printer_under printer is_opened name bytes =
     record printer { last = last_with printer.headers printer.last is_opened name bytes }
 
--- bytes and lines of a name came to the outputs, or a beginning of them before this fault
+-- the outputs got bytes and lines of a name, or the lines and a beginning of the bytes before this fault
 pub record Came (told : Bool) (printer : PrinterState) (is_opened : Bool) (name bytes : List ℕ)
     (lines : List (List ℕ)) (old : List Slot) (after : PrinterState) (new : List Slot)
     (over : Option Fault) : Type 0 where
   pub printer_is : over ≡ None → after ≡ printer_under printer is_opened name bytes
   pub slots : WroteBy told printer.calling (text_under printer is_opened name bytes) lines old new over
 
--- a share did
+-- the outputs got a share, or its lines and a beginning of its bytes before this fault
 abbrev pub Shared : Bool → PrinterState → Share → List Slot → PrinterState → List Slot → Option Fault → Type 0
 Shared told printer share old after new over =
     Came told printer share.is_opened share.name (bytes_of share) (lines_of share) old after new over
 
--- what stopped a call on a name
+-- what stopped a call on a name, if anything did
 abbrev pub stop_in : {T : Type 0} → Result T Stop → Option Stop
 stop_in (Ok value) = None
 stop_in (Err stop) = Some stop
 
--- a fault that ends following
+-- a fault that ends following, if a call returned a fault
 abbrev pub over_in : {T : Type 0} → Result T Fault → Option Stop
 over_in (Ok value) = None
 over_in (Err why) = Some (Over why)
@@ -63,26 +63,26 @@ over_by None = None
 over_by (Some (Broke why)) = None
 over_by (Some (Over why)) = Some why
 
--- bytes that are due, or a beginning of them where following ended
+-- the bytes are those that are due, or a beginning of them if following ended
 abbrev pub ArePut : Option Fault → List ℕ → List ℕ → Type 0
 ArePut None bytes due = bytes ≡ due
 ArePut (Some why) bytes due = IsFront bytes due
 
--- bytes that are due of a name came to standard output
+-- standard output got the bytes that are due of a name, or a beginning of them if following ended
 pub record Puts (told is_opened : Bool) (printer : PrinterState) (name due : List ℕ) (old : List Slot)
     (after : PrinterState) (new : List Slot) (over : Option Fault) : Type 0 where
   pub bytes : List ℕ
   pub are : ArePut over bytes due
   pub came : Came told printer is_opened name bytes [] old after new over
 
--- what is due; where a call on the name failed, what comes before that; and a beginning where following ended
+-- the events are those that are due; if a call on the name failed, those before it; if following ended, a beginning
 abbrev pub AreGiven : Option Stop → List Event → (due before : List Event) → Type 0
 AreGiven None events due before = events ≡ due
 AreGiven (Some (Broke why)) events due before = events ≡ before
 AreGiven (Some (Over why)) events due before = Begins events due
 
--- What is due of a name was given; or what comes before the call on it that failed; or a beginning, where following
--- ends. Whatever is watched, this is so of what was given.
+-- What is due of a name was given; if a call on the name failed, what comes before that call; if following ended, a
+-- beginning. `Is` is true of what was given, even if what looks see isn't visible.
 pub record GivesDue (told_in : Bool) (Is : List Event → Type 0) (told is_opened : Bool) (printer : PrinterState)
     (name : List ℕ) (due before : List Event) (old : List Slot) (after : PrinterState) (new : List Slot)
     (stop : Option Stop) : Type 0 where
@@ -91,12 +91,13 @@ pub record GivesDue (told_in : Bool) (Is : List Event → Type 0) (told is_opene
   pub found : Is events
   pub came : Came told printer is_opened name (bytes_in events) (lines_in name events) old after new (over_by stop)
 
--- lines alone were given, which tell what is so
+-- the events are lines alone, and `Tells` is true of each line
 abbrev pub Noted : (Notice → Type 0) → List Event → Type 0
 Noted Tells events = AllGive Tells (λ bytes. ⊥) events
 
--- What was given tells what is so, and is what reads gave of files, from such places on; or a beginning of it where
--- following ends. A call failed only where this look lets one fail.
+-- `Tells` is true of each line that was given, and the bytes are what reads of files gave, from a place for which
+-- `Starts` is true. If following ended, the events are a beginning of such events. A call failed only if this look lets
+-- a call fail.
 pub data WereFound (Tells : Notice → Type 0) (Starts : Option ℕ → ℕ → Type 0) (snapshot : Snapshot) (name : List ℕ)
     (fate : Fate) : Option Stop → List Event → Type 0 where
   found_all : {events : List Event} → AllGive Tells (IsWhole Starts snapshot name sound) events
@@ -108,55 +109,55 @@ pub data WereFound (Tells : Notice → Type 0) (Starts : Option ℕ → ℕ → 
       → AllGive Tells (IsRead Starts snapshot name) all
       → WereFound Tells Starts snapshot name fate (Some (Over why)) events
 
--- the open file was read, from this place on
+-- reads of the open file begin at this place
 abbrev pub FromThere : Option ℕ → ℕ → Option ℕ → ℕ → Type 0
 FromThere opened place file from = (file ≡ opened) × (from ≡ place)
 
--- or from the front or the position on
+-- reads of the open file begin at the front or at the position
 abbrev pub FromEither : Option ℕ → (position : ℕ) → Option ℕ → ℕ → Type 0
 FromEither opened position file from =
     (file ≡ opened) × (is_some opened ≡ true) × ((from ≡ 0) ⊎ (from ≡ position))
 
--- the open file was found to be so long
+-- if a file is open, it was found to hold this many bytes
 abbrev pub HoldsMany : Snapshot → Watched → ℕ → Type 0
 HoldsMany snapshot watched len = IsLong false snapshot watched.name watched.opened len
 
--- nothing is told
+-- no line is given
 abbrev pub Nothing : Notice → Type 0
 Nothing notice = ⊥
 
--- that the open file is shorter is told
+-- the line reports that the open file is shorter, and that was found
 abbrev pub ToldShort : Snapshot → Watched → (held : ℕ) → Notice → Type 0
 ToldShort snapshot known held notice = (notice ≡ Truncated) × IsSeen snapshot known.name known.opened held Truncated
 
--- where the name leads is told, as names are followed
+-- the line reports where the name leads, and that was found; names are followed
 abbrev pub ToldLed : (by_name : Bool) → Snapshot → Watched → Notice → Type 0
 ToldLed by_name snapshot known notice = (by_name ≡ true)
     × ((held : ℕ) → IsSeen snapshot known.name known.opened held notice)
 
--- following is over: there was no memory, or standard output is broken; a message can still be said
+-- following is over: there was no memory, or standard output is broken; standard error can still get a message
 abbrev pub HasStopped : Fault → List Slot → Type 0
 HasStopped why slots =
     ((why ≡ fault.Memory) ⊎ ((why ≡ fault.Write 0) × ((slot_at slots 0).is_broken ≡ true))) × HasError slots
 
--- how the outputs can be used after a call
+-- how the outputs can be used after a call that was stopped in this way, or not
 abbrev pub CanGoOn : Option Stop → List Slot → Type 0
 CanGoOn None slots = CanPrint slots
 CanGoOn (Some (Broke why)) slots = CanPrint slots
 CanGoOn (Some (Over why)) slots = HasStopped why slots
 
--- this is how a call on the open file failed
+-- whether the call that failed was a call on the open file
 abbrev pub is_read : Fate → Bool
 is_read (unmeasured file) = true
 is_read (unsought file from) = true
 is_read (unread file from) = true
 is_read fate = false
 
--- the fault of a call on the name of this number that failed so
+-- the fault of a call on the name of this number, by its fate
 abbrev pub fault_by : ℕ → Fate → Fault
 fault_by place fate = if is_read fate then fault.Read place else fault.Open place
 
--- a call on the name of this number failed so, and the name broke
+-- a call on the name of this number failed with this fate, and the name broke
 pub record BrokeAt (place : ℕ) (old new : List Watched) (fate : Fate) (why : Fault) : Type 0 where
   pub broke : is_some (failed_by fate None) ≡ true
   pub fault_is : why ≡ fault_by place fate
@@ -164,35 +165,35 @@ pub record BrokeAt (place : ℕ) (old new : List Watched) (fate : Fate) (why : F
   pub names : new ≡ changed_at place
       (λ watched. record watched { opened = None; failed = failed_by fate None; reason = reason }) old
 
--- the name of this number broke by a read of some place of its open file
+-- the name of this number broke by a read of its open file, from some place on
 abbrev pub FailsToRead : ℕ → List Watched → List Watched → Type 0
 FailsToRead place old new = (from : ℕ) × NameBreaks (λ file. broken.Read file from) place old new
 
--- the call changed no name, but that this one broke where the call failed, which reads the open file
+-- the call changed no name; but if a call on the open file failed, this name broke
 abbrev pub Keeps : ℕ → List Watched → List Watched → Fate → Option Stop → Type 0
 Keeps place old new fate None = new ≡ old
 Keeps place old new fate (Some (Broke why)) = BrokeAt place old new fate why × (is_read fate ≡ true)
 Keeps place old new fate (Some (Over why)) = new ≡ old
 
--- the call made what the name leads to the open file; it broke the name where it failed, and changed no other
+-- the call opened the file to which the name leads; if it failed, the name broke; no other name changed
 abbrev pub Follows : (told : Bool) → Option ℕ → ℕ → List Watched → List Watched → Fate → Option Stop → Type 0
 Follows told led place old new fate None = (file : Option ℕ) × (new ≡ changed_at place (opens file) old)
     × (told ≡ true → file ≡ led)
 Follows told led place old new fate (Some (Broke why)) = BrokeAt place old new fate why
 Follows told led place old new fate (Some (Over why)) = (file : Option ℕ) × (new ≡ changed_at place (opens file) old)
 
--- a call on the name failed, and then this is so
+-- if a call on the name failed, then this is so
 abbrev pub IfBroke : Option Stop → Type 0 → Type 0
 IfBroke None so = Unit {0}
 IfBroke (Some (Broke why)) so = so
 IfBroke (Some (Over why)) so = Unit {0}
 
--- the call that failed asks how long this file is, or reads it to write it
+-- the call that failed asks how long this file is, or reads it to write its bytes
 pub data ReadsOf (opened : Option ℕ) : Fate → Type 0 where
   measures : is_some opened ≡ true → ReadsOf opened (unmeasured opened)
   reads_on : {from : ℕ} → is_some opened ≡ true → ReadsOf opened (unread opened from)
 
--- Bytes of the open file were written from one place on; a read that fails is that of another.
+-- Bytes of the open file were written from the place `from` on. If a read failed, it was the read at the place `at`.
 pub record Copies (told_in told : Bool) (snapshot : Snapshot) (from : ℕ) (place : ℕ) (name : List ℕ)
     (watched : List Watched) (printer : PrinterState) (slots : List Slot) (watched_new : List Watched)
     (after : PrinterState) (slots_new : List Slot) (stop : Option Stop) : Type 0 where
@@ -204,11 +205,11 @@ pub record Copies (told_in told : Bool) (snapshot : Snapshot) (from : ℕ) (plac
       (all_but (length contents - at) (gives (drop from contents) ∷ [])) slots after slots_new stop
   pub keeps : Keeps place watched watched_new (unread (watched_at watched place).opened at) stop
 
--- from anywhere
+-- reads begin anywhere
 abbrev pub Anywhere : Option ℕ → ℕ → Type 0
 Anywhere file from = Unit {0}
 
--- The part of the open file that the first look writes was written. It was sought first.
+-- The first look wrote its part of the open file. Before that it sought where this part begins, if `seeks` says so.
 pub record Starts (told_in told seeks : Bool) (snapshot : Snapshot) (start : List ℕ → List ℕ) (place : ℕ)
     (name : List ℕ)
     (watched : List Watched) (printer : PrinterState) (slots : List Slot) (watched_new : List Watched)
@@ -221,23 +222,23 @@ pub record Starts (told_in told seeks : Bool) (snapshot : Snapshot) (start : Lis
   pub keeps : Keeps place watched watched_new fate stop
   pub met : IfBroke stop ((by_name : Bool) → can_meet true by_name seeks fate ≡ true)
 
--- that is told where an open file is shorter than what was seen of it
+-- the line reports that an open file is shorter than what was seen of it, and it is
 abbrev pub IsPast : ℕ → ℕ → Notice → Type 0
 IsPast position len notice = (notice ≡ Truncated) × (len < position)
 
--- that an open file is shorter than what was seen of it is told
+-- the line that an open file is shorter than what was seen of it, if it is
 abbrev pub notes_past : ℕ → ℕ → List Event
 notes_past position len = if nat_lt len position then notes Truncated ∷ [] else []
 
--- what changed, where this file is open and the name leads to that one
+-- what changed, if the first file is open and the name leads to the second
 abbrev pub change_between : Option ℕ → Option ℕ → Option Notice
 change_between None None = None
 change_between (Some opened) None = Some Inaccessible
 change_between opened (Some file) = if is_file file opened then None
     else Some (if is_some opened then Replaced else Appeared)
 
--- A call gave what the open file adds to a name that stood at its last entry, with this file open of which so much was
--- seen. After that so much of it was seen.
+-- A call gave what the open file adds to a name. Before the call the name stood at its last entry, with this file open
+-- and `position` bytes of it seen. After the call it stands at its new last entry.
 pub record Adds (told_in told : Bool) (snapshot : Snapshot) (place : ℕ) (name : List ℕ) (position : ℕ)
     (watched : List Watched) (printer : PrinterState) (slots : List Slot) (watched_new : List Watched)
     (after : PrinterState) (slots_new : List Slot) (result : Result ℕ Stop) : Type 0 where
@@ -255,11 +256,11 @@ pub record Adds (told_in told : Bool) (snapshot : Snapshot) (place : ℕ) (name 
   pub keeps : Keeps place watched watched_new fate (stop_in result)
   pub reads : IfBroke (stop_in result) (ReadsOf (watched_at watched place).opened fate)
 
--- from the front
+-- reads begin at the front
 abbrev pub FromFront : Option ℕ → ℕ → Type 0
 FromFront file from = from ≡ 0
 
--- the name was followed to this file, or to none
+-- a call gave what the file adds to which the name leads, and followed the name to this file, or to none
 pub record Leads (told_in told by_name : Bool) (snapshot : Snapshot) (led : Option ℕ) (place : ℕ) (name : List ℕ)
     (position : ℕ) (watched : List Watched) (printer : PrinterState) (slots : List Slot) (watched_new : List Watched)
     (after : PrinterState) (slots_new : List Slot) (result : Result ℕ Stop) : Type 0 where

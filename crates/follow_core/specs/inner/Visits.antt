@@ -30,13 +30,13 @@ use Rattle.ports_core.specs.{
 }
 use Rattle.watch_core.specs.{Snapshot.Snapshot, Watched.{Watched, opens, watched_at, added}}
 
--- a further look can give something of it
+-- whether a further look can give something of a name, by how the name stands
 abbrev pub goes_on_as : (by_name : Bool) → Standing → Bool
 goes_on_as by_name New = by_name
 goes_on_as by_name (Followed position) = true
 goes_on_as by_name Left = false
 
--- of one of these names
+-- whether a further look can give something of one of these names
 abbrev pub any_goes_on : (by_name : Bool) → List NameState → Bool
 any_goes_on by_name [] = false
 any_goes_on by_name (name ∷ names) = goes_on_as by_name name.standing || any_goes_on by_name names
@@ -51,13 +51,13 @@ pub record Stopped (told_in told : Bool) (ways : Ways) (before : List Look) (sna
   pub found : IsBegun before snapshot name share
   pub short : Shared told printer share old after new (Some why)
 
--- A call on the name failed, which was told, so that it is dropped; or following ends, and nothing more was told.
+-- A call on the name failed: that is reported, and the name is dropped. Or following ends: nothing more is reported.
 abbrev pub TellsStop : Bool → Calling → List ℕ → List Slot → Standing → List Slot → Stop → Result Bool Fault → Type 0
 TellsStop told calling name old standing new (Broke why) result = (result ≡ Ok true) × (standing ≡ Left)
     × ((reason : Reason) × SaysOn told (tail_by calling) reason (message_of why name) old new)
 TellsStop told calling name old standing new (Over why) result = (result ≡ Err why) × (new ≡ old)
 
--- another file of the name at this place may be open, and no name broke
+-- the open file of the name at this place may be another, and nothing else changed
 abbrev pub Opened : ℕ → List Watched → List Watched → Type 0
 Opened place old new = (file : Option ℕ) × (new ≡ changed_at place (opens file) old)
 
@@ -66,8 +66,7 @@ pub record KeepsOthers (place : ℕ) (old new : List Watched) : Type 0 where
   pub count : length new ≡ length old
   pub others : (other : ℕ) → (other ≡ place → ⊥) → watched_at new other ≡ watched_at old other
 
--- The outputs have what the look gives for the name at this place, and the name stands as after that look, with the
--- fate that it had.
+-- The outputs have what the look gives for the name at this place by its fate, and the name stands as after that look.
 pub record Visited (told_in told : Bool) (ways : Ways) (looks : List Look) (snapshot : Snapshot) (place : ℕ)
     (name : List ℕ) (printer : PrinterState) (old : List Slot) (after : PrinterState) (new : List Slot)
     (watched : Watched) (standing : Standing) (failed : Bool) : Type 0 where
@@ -83,8 +82,9 @@ pub record Visited (told_in told : Bool) (ways : Ways) (looks : List Look) (snap
   pub stands : (fates : List Fate) → fate_at place (record { snapshot = snapshot; fates = fates }) ≡ fate
       → Stands told_in ways (looks ++ record { snapshot = snapshot; fates = fates } ∷ []) place name watched standing
 
--- What a look at one name leaves that stood so, whatever looks were made before: one more was made that saw this, and
--- the outputs have what it gives; or it was stopped. The name can be looked at again, or is looked at no more.
+-- What a look leaves at one name, by how the name stood, whatever looks were made before. The outputs have what the
+-- look gives for the name; or the look was stopped. If it wasn't, the name can be looked at again, or is looked at no
+-- more.
 pub record Visits (told_in told : Bool) (ways : Ways) (snapshot : Snapshot) (place : ℕ) (name : List ℕ)
     (standing : Standing) (watched : List Watched) (printer : PrinterState) (slots : List Slot)
     (standing_new : Standing) (watched_new : List Watched) (printer_new : PrinterState) (slots_new : List Slot)
@@ -100,8 +100,8 @@ pub record Visits (told_in told : Bool) (ways : Ways) (snapshot : Snapshot) (pla
   pub others : OnOk result (KeepsOthers place watched watched_new)
   pub halts : IfErr result (λ why. Opened place watched watched_new)
 
--- The outputs have what the look gives for the names before this place, whatever fates those from it on have, and they
--- stand as after that look; those from it on stand as before it.
+-- The outputs have what the look gives for the names before this place, whatever fates the other names have. The names
+-- before this place stand as after that look, and the others as before it.
 pub record VisitedTo (told_in told : Bool) (ways : Ways) (looks : List Look) (snapshot : Snapshot) (place : ℕ)
     (names : List NameState) (printer : PrinterState) (old : List Slot) (after : PrinterState) (new : List Slot)
     (watched : List Watched) (names_now : List NameState) (failed : Bool) : Type 0 where
@@ -120,14 +120,14 @@ pub record VisitedTo (told_in told : Bool) (ways : Ways) (looks : List Look) (sn
   pub rest : (other : ℕ) → place ≤ other → other < length names_now
       → StandsAmong told_in ways looks names_now watched other
 
--- after these looks the names stand, of which the first has this number
+-- the names stand as after these looks, and the first of them has this number
 pub record StandFrom (told_in : Bool) (ways : Ways) (looks : List Look) (first : ℕ) (names : List NameState)
     (watched : List Watched) : Type 0 where
   pub numbered : 0 < length names → first ≡ ways.first
   pub stand : AllStand told_in ways looks names watched
   pub many : length watched ≡ ways.first + length names
 
--- What a look at all these names leaves, of which the first has this number, whatever looks were made before.
+-- What a look at all these names leaves, whatever looks were made before. The first name has this number.
 pub record VisitsAll (told_in told : Bool) (snapshot : Snapshot) (by_name : Bool) (start : Start) (first : ℕ)
     (names : List NameState) (watched : List Watched) (printer : PrinterState) (slots : List Slot)
     (names_new : List NameState) (watched_new : List Watched) (printer_new : PrinterState) (slots_new : List Slot)
@@ -149,12 +149,12 @@ pub record VisitsAll (told_in told : Bool) (snapshot : Snapshot) (by_name : Bool
   pub can : OnOk result (CanPrint slots_new)
   pub error : IfErr result (λ why. HasStopped why slots_new)
 
--- the first of these names were added to what is watched
+-- some of these names, from the first on, were added to the watched names
 pub record AddsSome (names : List (List ℕ)) (old new : List Watched) : Type 0 where
   pub kept : IsFront old new
   pub front : IsFront new (old ++ map added names)
 
--- no look was made yet, or each name can be looked at; following is not over
+-- no look was made yet, or each name can be looked at; following isn't over
 abbrev pub CanBegin : FollowState → List Watched → Type 0
 CanBegin follow watched = elim follow.phase [
   | Fresh ↦ Unit {0}
@@ -162,7 +162,7 @@ CanBegin follow watched = elim follow.phase [
   | Over ↦ ⊥
 ]
 
--- all names are watched, what held of the looks before holds, and the names of others are as they were
+-- all names are watched, what was true after the looks before is still true, and the names of others are as they were
 pub record BeginsLook (told_in : Bool) (old : FollowState) (watched : List Watched) (new : FollowState)
     (watched_new : List Watched) : Type 0 where
   pub phase : new.phase ≡ Looking
@@ -174,7 +174,7 @@ pub record BeginsLook (told_in : Bool) (old : FollowState) (watched : List Watch
       → Holds told_in told calling ways headers names looks first old watched slots
       → Holds told_in told calling ways headers names looks first new watched_new slots
 
--- one more look was made, which saw this, but for whether it failed; or it was stopped
+-- one more look was made, which saw this, and `result` says whether it failed; or the look was stopped
 pub record MakesLook (told_in told : Bool) (snapshot : Snapshot) (seen : List Snapshot) (old : FollowState)
     (watched : List Watched) (slots : List Slot)
     (seen_new : List Snapshot) (new : FollowState) (watched_new : List Watched) (slots_new : List Slot)
@@ -191,8 +191,8 @@ pub record MakesLook (told_in told : Bool) (snapshot : Snapshot) (seen : List Sn
   pub error : HasError slots_new
   pub others : (number : ℕ) → IsOther old watched number → watched_at watched_new number ≡ watched_at watched number
 
--- As many looks were made, or those after which nothing more can come, and no others; and the outputs have what they
--- give.
+-- As many looks were made as were asked for, or fewer, after which nothing more can come. The outputs have what these
+-- looks give.
 pub record LookedAll (told_in told : Bool) (calling : Calling) (ways : Ways) (headers : Bool) (names : List (List ℕ))
     (count : ℕ)
     (shows : ℕ → Snapshot) (first : List Slot) (follow : FollowState) (seen : List Snapshot) (watched : List Watched)
@@ -205,8 +205,8 @@ pub record LookedAll (told_in told : Bool) (calling : Calling) (ways : Ways) (he
       × NoneGoesOn ways watched
   pub holds : Holds told_in told calling ways headers names looks first follow watched slots
 
--- Fewer looks were made, after which a further one could give something; then it was found that nobody reads standard
--- output any more, and nothing was written but what these give.
+-- Fewer looks were made than were asked for, and a further look could give something. Then it was found that nobody
+-- reads standard output any more, and nothing was written but what these looks give.
 pub record FoundUnread (told_in told : Bool) (calling : Calling) (ways : Ways) (headers : Bool)
     (names : List (List ℕ)) (count : ℕ)
     (shows : ℕ → Snapshot) (first : List Slot) (follow : FollowState) (seen : List Snapshot) (watched : List Watched)

@@ -1,4 +1,4 @@
--- What `split` can be asked is a fact with one proof.
+-- What can be asked of `split` is a statement with at most one proof.
 use Rattle.std.specs.Coded.{×_prop, le_prop}
 use Rattle.seg_core.specs.declared.cut.{
   Cut.TheVariants.{Parts, Round},

@@ -1,5 +1,4 @@
--- What private calls say: what the value of an option asks for, or what is wrong with it; and what options of `csplit` ask
--- for, with texts of which only the bytes count.
+-- What private calls say of choices and of options of `csplit`. Only the bytes of their texts count.
 use Rattle.std.specs.Prelude.{Result, Ok, Err, option_map}
 use Rattle.ports_core.specs.declared.fault.UsageKind.{UsageKind}
 use Rattle.words_core.specs.{

@@ -1,10 +1,10 @@
--- What private calls say: the way to split, one option after another.
+-- What private calls say of the way to split, option by option.
 use Rattle.std.specs.Prelude.{ℕ, Option, Some, None, Result, Ok, Err}
 use Rattle.ports_core.specs.declared.fault.{Fault.{Fault, TheVariants.Usage}, UsageKind.TheVariants.TwoWays}
 use Rattle.seg_core.specs.declared.cut.Way.{Way}
 use Rattle.words_core.specs.{declared.spelled.Chosen.Chosen, SplitWords.way_in}
 
--- the way so far, with one more option, which stands in the word at this place
+-- The way to split after one more option. A second way is refused, and reported at the word of this option.
 
 abbrev pub way_by : ℕ → Option Way → Option Way → Result (Option Way) Fault
 way_by word way None = Ok way

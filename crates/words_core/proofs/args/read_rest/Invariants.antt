@@ -2,7 +2,8 @@ use Rattle.std.proofs.Common.{◌≡◌, ℕ, List, ◌++◌, map, string_bytes}
 use Rattle.words_core.specs.Called.{AreGiven, word_of}
 use Rattle.words_core.proofs.args.read_rest.Given as goal
 
--- whatever arguments follow, with those read they are given from the first on
+-- the words so far are the first words and those of the arguments read; with any arguments that may follow from here
+-- on, these may be given
 abbrev pub invariant-loop-place : goal.invariant-loop-place
 invariant-loop-place g l = let gives = g.A.Arguments.gives l.arguments in (read : List (List ℕ))
     × (map string_bytes l.words.items ≡ map string_bytes l.fn.first.words.items ++ map (word_of l.tool) read)

@@ -59,7 +59,7 @@ module _ (rows : List OptionRow) (kind : UsageKind) (word : ℕ) where
       later meaning.next rest.0 rest.1 (of_more meaning.given (spelled rows (first ++ more) (place + 1) meaning.next) is)
   later_by first more place (Err fault) later well is = absurd (cc)
 
-  -- where the first words are well, a fault stands after them
+  -- if the first words have no fault, a fault stands after them
   stands_later : (first more : List (List ℕ)) (place : ℕ) (state : State) (given : Given)
       → spelled rows first place state ≡ Ok given → spelled rows (first ++ more) place state ≡ Err (Usage kind word)
       → place + length first ≤ word

@@ -28,7 +28,7 @@ use Rattle.words_core.specs.declared.table.Takes.TheVariants as takes
 use Rattle.words_core.specs.declared.choice.Kind.TheVariants as kind
 use Rattle.words_core.proofs.laws.letters_ask.Goals as goal
 
--- letters of options, or these and one that says what is counted
+-- Letters that name options, with or without one letter that says what is counted.
 
 module _ (rows : List OptionRow) where
   abbrev HasShape : List ℕ → Type 0
@@ -82,7 +82,7 @@ module _ (rows : List OptionRow) where
   is_number_with : (text : List ℕ) → HasShape (after_digits text) → IsNumberWithLetters rows text
   is_number_with text has = let (options, unit, is) = whole text has in (leading_digits text, options, unit, is)
 
-  -- letters that are known
+  -- Known letters have this shape.
 
   module _ (safe : (letter : ℕ) → is_switch (letter_named rows letter) ≡ true → IsOther rows letter) where
     both : (test more : Bool) → (if test then more else false) ≡ true → (test ≡ true) × (more ≡ true)
@@ -128,7 +128,7 @@ head_switch letter is =
       | inr (inr z) ↦ rw z (refl, refl, choice.ZeroTerminated, record { takes = takes.Nothing choice.ZeroTerminated; named = refl; alone = refl; ascii = omega arith; no_hyphen = omega arith })
     ]
 
--- and such letters are known
+-- Letters that name options of `head` without a value are known.
 
 head_alone : (letter : ℕ)
     → IfSome (letter_named head_table letter) (λ takes. (choice : Choice) → alone takes ≡ Some choice

@@ -12,7 +12,7 @@ use Rattle.words_core.specs.{
 }
 use Rattle.words_core.proofs.laws.names_mean_the_same.Goals as goal
 
--- what is so of each row of each table
+-- What is true of each row of each table.
 
 abbrev Each : (List OptionRow → OptionRow → Type 0) → Type 0
 Each P = AllByRecursion (λ tool. AllByRecursion (P tool.options) tool.options) tools
@@ -26,7 +26,7 @@ each_row P Q is each =
     (λ tool here. All-weaker (P tool.options) (Q tool.options) (is tool.options) tool.options (All-from_recursion (P tool.options) tool.options here))
     tools (All-from_recursion Rows tools each)
 
--- each name is found
+-- Each name is found.
 
 abbrev IsFound : List OptionRow → OptionRow → List ℕ → Type 0
 IsFound rows row name = option_named rows name ≡ Some row.takes
@@ -38,7 +38,7 @@ all_found : Each AreFound
 unfolding tools
 all_found = search rules
 
--- each name means what the first one means
+-- Each name of an option means what its first name means.
 
 abbrev first_name : List (List ℕ) → List ℕ
 first_name [] = []

@@ -19,7 +19,7 @@ use Rattle.words_core.specs.{
 use Rattle.words_core.proofs.ValueLemmas.{long_name}
 use Rattle.words_core.proofs.laws.reading_ends.Goals as goal
 
--- what nothing is before, and what two are before
+-- Nothing given first changes nothing, and two things given in turn are the two things joined.
 
 before_nothing : (meant : Result Given Fault) → given_before nothing meant ≡ meant
 before_nothing (Ok given) = refl

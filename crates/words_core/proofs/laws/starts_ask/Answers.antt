@@ -22,7 +22,7 @@ returns-clause-number c digits number most = (
   (rw (digits_start digits 1 number, sized_so Plus (value_of digits) most) refl, rw (letters_start digits (102 ∷ []) 1 (value_of digits) number refl refl (omega arith), sized_so Plus (value_of digits) most) refl),
 )
 
--- digits and a letter that says what is counted
+-- what digits and a letter that says what is counted ask for
 letter_asks : (letter : ℕ) {unit : Measured} {each : ℕ} (digits : List ℕ) {amount : ℕ}
     → unit_of letter ≡ Some (unit, each) → is_ascii_digit letter ≡ false → are_of_tail (letter ∷ []) ≡ true
     → are_of_tail (letter ∷ 102 ∷ []) ≡ true → is_number digits ≡ true → value_of digits * each ≡ amount

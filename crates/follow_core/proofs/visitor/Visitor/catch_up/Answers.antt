@@ -58,7 +58,7 @@ copy-requires-clause-found g c = rw (c.open_len.ensures.seen, c.in-Ok.ensures.sa
     (is_held (latest (g.W.Watch.seen c.args.watch.now))
     (watched_at (g.W.Watch.watched c.args.watch.now) c.args.place) c.in-Ok.len c.in-Ok.ensures.found)
 
--- a line where the file is shorter, and then the bytes: from the front there, else from the position on
+-- the line that the file is shorter, and then the bytes from the front; or the bytes from the position on
 pub returns-clause-adds : goal.returns-clause-adds
 returns-clause-adds g c =
     let is = sym c.open_id.ensures ∙ c.in-Some.is in let seen = latest (g.W.Watch.seen c.args.watch.now) in

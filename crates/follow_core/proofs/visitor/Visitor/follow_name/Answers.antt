@@ -45,7 +45,7 @@ returns-in-Err-tell-clause-leads g c =
       met = tt;
     }
 
--- it was told, and what the name leads to couldn't be opened
+-- the change was reported, and the file to which the name leads couldn't be opened
 pub returns-in-Err-reopen-clause-leads : goal.returns-in-Err-reopen-clause-leads
 returns-in-Err-reopen-clause-leads g c =
     let seen = latest (g.W.Watch.seen c.args.watch.now) in
