@@ -27,7 +27,7 @@ word_at words place = slice_index_or words place []
 -- the tool that words name
 abbrev pub row_of : List (List ℕ) → Option ToolRow
 row_of [] = None
-row_of (name ∷ words) = row_named tools name
+row_of (name ∷ words) = row_named (tools OwnName) name
 
 -- Which letter of several in one word is no option's: the first such. 45 is a hyphen. A word that begins with two is a
 -- long option, and one that begins with a hyphen and a digit has a number; of these nothing is said.
@@ -58,7 +58,7 @@ lacks_value given = false
 
 abbrev pub end_with_option : List (List ℕ) → Bool
 end_with_option [] = false
-end_with_option (name ∷ words) = elim (row_named tools name) [
+end_with_option (name ∷ words) = elim (row_named (tools OwnName) name) [
   | Some row ↦ lacks_value (given_by OwnName row words)
   | None ↦ false
 ]

@@ -53,7 +53,7 @@ fn row_of(words: &[&str]) -> Option<&'static ToolRow>
     ensures { option_map (λ row. tool_seen row.now) result ≡ row_of (map (λ word. word.now) words.now) }
 {
     match words {
-        [name, ..] => find_row(all_tools(), name),
+        [name, ..] => find_row(all_tools(Calling::OwnName), name),
         [] => None,
     }
 }
@@ -160,7 +160,7 @@ fn end_with_option(alloc: Global, words: &[&str]) -> Result<bool, Fault>
     let [name, words @ ..] = words else {
         return Ok(false);
     };
-    let Some(row) = find_row(all_tools(), name) else {
+    let Some(row) = find_row(all_tools(Calling::OwnName), name) else {
         return Ok(false);
     };
     match read_given(alloc, Calling::OwnName, row, words) {
