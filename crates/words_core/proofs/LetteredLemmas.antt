@@ -57,7 +57,8 @@ unknown_first : (rows : List OptionRow) (place byte : ℕ) (rest : List ℕ) →
     → (byte == 45) ≡ false → mixed rows place (45 ∷ byte ∷ rest) ≡ Err (Usage UnknownOption place)
 unknown_first rows place byte rest none other = rw (other, none)
 
-tail_has_no_digit : (calling : Calling) (byte : ℕ) → 48 ≤ byte → byte ≤ 57 → option_lettered (tail_table calling) byte ≡ None
+tail_has_no_digit : (calling : Calling) (byte : ℕ) → 48 ≤ byte → byte ≤ 57
+    → option_lettered (tail_table calling) byte ≡ None
 tail_has_no_digit calling byte least most = search rules
 
 begins_with_digit : (P : List ℕ → Type 0) (text : List ℕ) → nat_lt 0 (length (leading_digits text)) ≡ true

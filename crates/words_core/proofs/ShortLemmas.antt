@@ -2,9 +2,9 @@
 use Rattle.std.proofs.{
   lemmas.Grind.common_steps,
   Common.{◌≡◌, refl, ap, ℕ, ◌+◌, ◌==◌, ◌&&◌, ◌||◌, arith, Bool, true, false, if◌then◌else◌, List, [], ◌∷◌, map},
-  Common.{Option, Some, None, option_map, Result, Ok, Err, ok_or, ◌⊎◌, inl, inr},
+  Common.{Option, Some, None, option_map, Result, Ok, Err, ok_or, ◌⊎◌, inl, inr, ◌↔◌},
 }
-use Rattle.std.specs.{Option.option_or, Prelude.nat_lt}
+use Rattle.std.specs.{List.before_first, Option.{option_or, unwrap_or}, Prelude.nat_lt}
 use Rattle.seg_core.specs.{Count.{after_digits, is_number}, declared.count.Sign.{Sign, TheVariants.{Plain, Plus}}}
 use Rattle.ports_core.specs.declared.{
   calling.Calling.{Calling, TheVariants.{Cutters, OwnName}},
@@ -19,14 +19,37 @@ use Rattle.words_core.specs.{
   Choice.{asking, choice_in},
   Given.{Given, bare, joined},
   Lettered.{are_known, is_known, is_lettered, is_start, is_switch, is_unit, letter_named, switched, switches, with_letters},
-  Spelling.{Meaning, before, cluster, dashed, foremost, given_at, given_before, lettered, long, meaning_of, mixed, named},
+  Spelling.{Meaning, after_equals, before, cluster, is_equals, dashed, foremost, given_at, given_before, lettered, long, meaning_of, mixed, named},
   Spelling.{onward, option_lettered, said, spelled, valued},
   Table.{OptionRow, beginning, begins_one, full_or, is_among, only_one, option_called, option_named},
-  Value.{follow_values, on_broken_values, value_by, value_in},
+  Laws.AreCutShort,
+  Value.{beginning_in, follow_values, on_broken_values, only_value, value_by, value_in, values_from},
 }
 use Rattle.words_core.specs.declared.choice.Choice.TheVariants as choice
 use Rattle.words_core.specs.declared.choice.Kind.TheVariants as kind
 use Rattle.words_core.specs.declared.table.Takes.TheVariants as takes
+
+-- a value in full is taken exactly, and one that is cut short where it is the only one
+
+only_is : {A : Type 0} (found : List (List ℕ × A)) (value : A)
+    → (only_value found ≡ Some value) ↔ ((name : List ℕ) × (found ≡ (name, value) ∷ []))
+only_is [] value = (λ is. absurd (cc), λ is. ap only_value is.1)
+only_is (one ∷ []) value = (
+  λ is. (one.0, ap (λ said. (one.0, unwrap_or said one.1) ∷ []) is),
+  λ is. ap only_value is.1,
+)
+only_is (one ∷ other ∷ found) value = (λ is. absurd (cc), λ is. ap only_value is.1)
+
+full_alone : {A : Type 0} (found : Option A) → option_or found None ≡ found
+full_alone (Some value) = refl
+full_alone None = refl
+
+pub are_cut_short : {A : Type 0} (values : List (List ℕ × A)) → AreCutShort values
+are_cut_short values = record {
+  full = λ calling text value is. rw is refl;
+  short = λ text value none. rw none (only_is (values_from text values) value);
+  cutters = λ text. full_alone (value_in values text);
+}
 
 -- The kind of a value by a tool's own name, where that of `cutters` is this.
 
@@ -43,19 +66,22 @@ abbrev pub IsAlike : {A E : Type 0} → E → Result A E → Result A E → Type
 IsAlike fault own cutters = (own ≡ cutters) ⊎ (cutters ≡ Err fault)
 
 value_alike : {A : Type 0} (make : A → Choice) (fault : UsageKind) (found short : Option A)
-    → IsAlike fault (asking make (ok_or (option_or found short) fault)) (asking make (ok_or (option_or found None) fault))
+    → IsAlike fault (asking make (ok_or (option_or found short) fault))
+    (asking make (ok_or (option_or found None) fault))
 value_alike make fault (Some value) short = inl refl
 value_alike make fault None short = inr refl
 
 pub follow_alike : (kind : Kind) (text : List ℕ)
     → IsAlike BadFollow (choice_in (own_follow kind) text) (choice_in kind text)
-follow_alike (kind.Follow Cutters) text = value_alike (λ followed. choice.Follow followed) BadFollow (value_in follow_values text) _
+follow_alike (kind.Follow Cutters) text = value_alike (λ followed. choice.Follow followed) BadFollow
+    (value_in follow_values text) (beginning_in OwnName follow_values text)
 follow_alike (kind.Follow OwnName) text = inl refl
 follow_alike other text = inl refl
 
 pub on_broken_alike : (kind : Kind) (text : List ℕ)
     → IsAlike BadMode (choice_in (own_on_broken kind) text) (choice_in kind text)
-on_broken_alike (kind.OnBroken Cutters) text = value_alike (λ on_broken. choice.OnBroken on_broken) BadMode (value_in on_broken_values text) _
+on_broken_alike (kind.OnBroken Cutters) text = value_alike (λ on_broken. choice.OnBroken on_broken) BadMode
+    (value_in on_broken_values text) (beginning_in OwnName on_broken_values text)
 on_broken_alike (kind.OnBroken OwnName) text = inl refl
 on_broken_alike other text = inl refl
 
@@ -169,7 +195,8 @@ module _ (own : Kind → Kind) (bad : UsageKind)
   is_start_so OwnName rows OfHead text = refl
   is_start_so Cutters rows letters text = refl
 
-  switched_so : (place : ℕ) (option : Option Takes) → switched place (option_map own_takes option) ≡ switched place option
+  switched_so : (place : ℕ) (option : Option Takes)
+      → switched place (option_map own_takes option) ≡ switched place option
   switched_so place (Some (takes.Optional choice kind)) = refl
   switched_so place (Some other) = refl
   switched_so place None = refl
@@ -181,19 +208,25 @@ module _ (own : Kind → Kind) (bad : UsageKind)
 
   -- one word
 
+  dashed_so : (rows : List OptionRow) (place : ℕ) (rest : List ℕ)
+      → IsAlike (Usage bad place) (dashed (own_rows rows) place rest) (dashed rows place rest)
+  dashed_so rows place [] = inl refl
+  dashed_so rows place (byte ∷ bytes) =
+      let word : List ℕ = 45 ∷ 45 ∷ byte ∷ bytes in
+      let name : List ℕ = before_first is_equals word in
+      rw (called_so rows name) (long_so place (option_called rows name) (after_equals word))
+
   mixed_so : (rows : List OptionRow) (place : ℕ) (word : List ℕ)
       → IsAlike (Usage bad place) (mixed (own_rows rows) place word) (mixed rows place word)
   mixed_so rows place [] = inl refl
   mixed_so rows place (byte ∷ []) = inl refl
   mixed_so rows place (byte ∷ next ∷ rest) =
       both_ways (IsAlike (Usage bad place)) (byte == 45)
-      (both_ways (IsAlike (Usage bad place)) (next == 45) (dashed_so rest) (inl (cluster_so rows place (next ∷ rest))))
-      (inl refl) where
-        dashed_so : (rest : List ℕ) → IsAlike (Usage bad place) (dashed (own_rows rows) place rest) (dashed rows place rest)
-        dashed_so [] = inl refl
-        dashed_so (byte ∷ bytes) = rw (called_so rows _) (long_so place (option_called rows _) _)
+      (both_ways (IsAlike (Usage bad place)) (next == 45) (dashed_so rows place rest) (inl (cluster_so rows place (next ∷ rest))))
+      (inl refl)
 
-  foremost_so : (calling : Calling) (rows : List OptionRow) (kind : Kind) (letters : Letters) (place : ℕ) (word : List ℕ)
+  foremost_so : (calling : Calling) (rows : List OptionRow) (kind : Kind) (letters : Letters) (place : ℕ)
+      (word : List ℕ)
       → IsAlike (Usage bad place) (foremost calling (own_rows rows) kind letters place word)
       (foremost calling rows kind letters place word)
   unfolding foremost

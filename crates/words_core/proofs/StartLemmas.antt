@@ -30,8 +30,8 @@ with_unit text digits letters is number of_tail =
     rw (is.0, is.1, of_tail, some, or-true (is_number text)) refl
 
 -- what these ask
-asked_so : (calling : Calling) (sign : Sign) (text : List ℕ) {digits letters : List ℕ} (place amount : ℕ) → HasParts text digits letters
-    → is_number digits ≡ true → value_of digits * (unit_in letters).1 ≡ amount
+asked_so : (calling : Calling) (sign : Sign) (text : List ℕ) {digits letters : List ℕ} (place amount : ℕ)
+    → HasParts text digits letters → is_number digits ≡ true → value_of digits * (unit_in letters).1 ≡ amount
     → with_letters (tail_table calling) sign place text
     ≡ counted_with (unit_in letters).0 place (switches (tail_table calling) place letters) (counted (sized sign amount))
 asked_so calling sign text {digits = digits} place amount is number many = rw (is.0, is.1, not_empty digits number, many) refl
@@ -53,7 +53,8 @@ no_letters digits number =
 
 pub digits_start : (digits : List ℕ) (place : ℕ) → is_number digits ≡ true
     → foremost OwnName (tail_table OwnName) (Amount Lines) OfTail place (43 ∷ digits)
-    ≡ given_at place (counted_with Lines place (switches (tail_table OwnName) place []) (counted (sized Plus (value_of digits))))
+    ≡ given_at place
+    (counted_with Lines place (switches (tail_table OwnName) place []) (counted (sized Plus (value_of digits))))
 unfolding foremost
 digits_start digits place number =
     let starts : is_start OwnName (tail_table OwnName) OfTail digits ≡ true = rw number refl in

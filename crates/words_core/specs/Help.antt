@@ -47,8 +47,8 @@ tool_help row =
 
 abbrev pub program_help : List ℕ
 program_help =
-    codes "Usage: cutters TOOL [OPTION]... [OPERAND]...\ncutters is these tools in one program.\n\n" ++ tool_lines (tools calling.Cutters)
-    ++ option_lines program_table ++ codes "\nThe manual: man cutters\n"
+    codes "Usage: cutters TOOL [OPTION]... [OPERAND]...\ncutters is these tools in one program.\n\n"
+    ++ tool_lines (tools calling.Cutters) ++ option_lines program_table ++ codes "\nThe manual: man cutters\n"
 
 abbrev pub help_by : Option ToolRow → List ℕ
 help_by None = program_help

@@ -584,8 +584,8 @@ pub fn tee_options_ask()
     ensures exit_nopipe { OnBrokenAsks (codes "--output-error=exit-nopipe" ∷ []) OnBroken.ExitNoPipe }
     ensures short_mode { TeeAsks Calling.OwnName (codes "--output-error=exit-" ∷ [])
         (record (fresh_file Calling.OwnName) { on_broken = OnBroken.ExitNoPipe }) }
-    ensures beginnings { All (λ mode. settings_of Calling.OwnName (codes "tee" ∷ (codes "--output-error=" ++ mode) ∷ [])
-        ≡ Err (Fault.Usage BadMode 1)) (codes "w" ∷ codes "ex" ∷ [] ∷ []) }
+    ensures two_modes { (calling : Calling) → settings_of calling (codes "tee" ∷ codes "--output-error=ex" ∷ [])
+        ≡ Err (Fault.Usage BadMode 1) }
 {}
 
 /// A hyphen and digits as the only word mean what `-n` means with these digits for `head` and `tail`, and what `-l` means for

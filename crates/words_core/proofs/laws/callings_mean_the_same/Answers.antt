@@ -31,7 +31,8 @@ Alike kind own cutters = (own ≡ cutters) ⊎ ((place : ℕ) × (cutters ≡ Er
 
 alike_tail : (own cutters : Result Given Fault)
     → (own ≡ cutters) ⊎ ((place : ℕ) × (cutters ≡ Err (Usage BadFollow place)))
-    → Alike BadFollow (then_check own (settings_for OwnName tool.Tail)) (then_check cutters (settings_for Cutters tool.Tail))
+    → Alike BadFollow (then_check own (settings_for OwnName tool.Tail))
+    (then_check cutters (settings_for Cutters tool.Tail))
 alike_tail own cutters (inl same) = elim (own_tail cutters) [
   | inl rest ↦ inl (ap (λ given. then_check given (settings_for OwnName tool.Tail)) same ∙ rest)
   | inr bad ↦ inr (0, bad)
@@ -40,7 +41,8 @@ alike_tail own cutters (inr (place, bad)) = inr (place, ap (λ given. then_check
 
 alike_tee : (own cutters : Result Given Fault)
     → (own ≡ cutters) ⊎ ((place : ℕ) × (cutters ≡ Err (Usage BadMode place))) → say_nothing cutters ≡ false
-    → Alike BadMode (then_check own (settings_for OwnName tool.Tee)) (then_check cutters (settings_for Cutters tool.Tee))
+    → Alike BadMode (then_check own (settings_for OwnName tool.Tee))
+    (then_check cutters (settings_for Cutters tool.Tee))
 alike_tee own cutters (inl same) said = inl (ap (λ given. then_check given (settings_for OwnName tool.Tee)) same ∙ same_tee cutters said)
 alike_tee own cutters (inr (place, bad)) said = inr (place, ap (λ given. then_check given (settings_for Cutters tool.Tee)) bad)
 

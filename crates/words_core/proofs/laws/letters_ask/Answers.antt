@@ -159,13 +159,16 @@ head_is text digits options some has =
 f_switch : (calling : Calling) → IsOther (tail_table calling) 102
 f_switch calling = (refl, refl, choice.Follow Descriptor, record { takes = takes.Optional (choice.Follow Descriptor) (kind.Follow calling); named = refl; alone = refl; ascii = omega arith; no_hyphen = omega arith })
 
-with_f : (calling : Calling) (letter : ℕ) {unit : Measured × ℕ} → unit_of letter ≡ Some unit → HasShape (tail_table calling) (letter ∷ 102 ∷ [])
+with_f : (calling : Calling) (letter : ℕ) {unit : Measured × ℕ} → unit_of letter ≡ Some unit
+    → HasShape (tail_table calling) (letter ∷ 102 ∷ [])
 with_f calling letter says = of_first (tail_table calling) letter (102 ∷ []) says (f_switch calling, tt)
 
-without_f : (calling : Calling) (letter : ℕ) {unit : Measured × ℕ} → unit_of letter ≡ Some unit → HasShape (tail_table calling) (letter ∷ [])
+without_f : (calling : Calling) (letter : ℕ) {unit : Measured × ℕ} → unit_of letter ≡ Some unit
+    → HasShape (tail_table calling) (letter ∷ [])
 without_f calling letter says = of_first (tail_table calling) letter [] says tt
 
-tail_shape : (calling : Calling) (text : List ℕ) → is_lettered (tail_table calling) OfTail text ≡ true → IsNumberWithLetters (tail_table calling) text
+tail_shape : (calling : Calling) (text : List ℕ) → is_lettered (tail_table calling) OfTail text ≡ true
+    → IsNumberWithLetters (tail_table calling) text
 tail_shape calling text is =
     let among = (and_parts (are_of_tail (after_digits text)) _ is).0 in
     is_number_with (tail_table calling) text (begins_with_unit (HasShape (tail_table calling))
@@ -179,7 +182,8 @@ tail_shape calling text is =
 
 start_shape : (calling : Calling) (text : List ℕ) (number lettered : Bool) → is_number text ≡ number
     → is_lettered (tail_table calling) OfTail text ≡ lettered
-    → (number || (lettered || is_among (codes "c" ∷ codes "cf" ∷ []) text)) ≡ true → IsNumberWithLetters (tail_table calling) text
+    → (number || (lettered || is_among (codes "c" ∷ codes "cf" ∷ []) text)) ≡ true
+    → IsNumberWithLetters (tail_table calling) text
 start_shape calling text true lettered number of_tail is =
     (text, [], (Lines, 1), of_lines (sym (append-nil text)) (and_parts (nat_lt 0 (length text)) _ number).1 (All-from_recursion (IsOther (tail_table calling)) [] tt))
 start_shape calling text false true number of_tail is = tail_shape calling text of_tail
