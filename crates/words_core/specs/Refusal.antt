@@ -67,10 +67,12 @@ abbrev pub for_option : List (List ℕ) → ℕ → List ℕ
 for_option words place =
     if end_with_option (take place words) then codes " for " ++ in_quotes (word_at words (place - 1)) else []
 
--- What `--follow` may be, after the word that says something else. A fault of the line as a whole is told at place 0.
+-- What `--follow` may be, after the word that says something else. A fault of the line as a whole is told at place 0: by its own
+-- name `tail` refuses to follow only standard input.
 abbrev pub for_follow : List (List ℕ) → ℕ → List ℕ
 for_follow words place =
-    if place == 0 then [] else codes " " ++ in_quotes (word_at words place) ++ codes ": name or descriptor"
+    if place == 0 then codes ": cannot follow standard input"
+    else codes " " ++ in_quotes (word_at words place) ++ codes ": name or descriptor"
 
 -- what is said of this kind of fault, which stands in the word at this place
 abbrev pub detail_of : Calling → List (List ℕ) → UsageKind → ℕ → List ℕ

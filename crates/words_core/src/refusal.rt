@@ -113,12 +113,12 @@ fn quoted_letter(alloc: Global, letter: u8) -> Result<Vec<u8>, AllocError>
     Ok(Vec::new(alloc))
 }
 
-/// What `--follow` may be, after the word that says something else.
+/// What `--follow` may be, after the word that says something else; or that standard input can't be followed, where no word is told.
 fn for_follow(alloc: Global, words: &[&str], place: usize) -> Result<Vec<u8>, AllocError>
     ensures { IfOk result (λ text. text.items ≡ for_follow (map (λ word. word.now) words.now) place) }
 {
     if place == 0 {
-        return Ok(Vec::new(alloc));
+        return Vec::from_slice(alloc, b": cannot follow standard input");
     }
     let mut text = Vec::from_slice(alloc, b" ")?;
     write_quoted(&mut text, word_at(words, place))?;
