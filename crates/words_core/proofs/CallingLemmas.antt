@@ -74,11 +74,11 @@ tool_among (row ∷ rows) name = if bytes_eq row.0 name then Some row.1 else too
 by_name : (rows : List ToolRow) (name : List ℕ) → option_map (λ row. row.tool) (row_named rows name)
     ≡ tool_among (map (λ row. (row.name, row.tool)) rows) name
 by_name [] name = refl
-by_name (row ∷ rows) name = one (bytes_eq row.name name) where
-  one : (test : Bool) → option_map (λ row. row.tool) (if test then Some row else row_named rows name)
-      ≡ (if test then Some row.tool else tool_among (map (λ row. (row.name, row.tool)) rows) name)
-  one true = refl
-  one false = by_name rows name
+by_name (row ∷ rows) name = one (bytes_eq row.name name) (by_name rows name) where
+  one : (test : Bool) {found : Option ToolRow} {tool : Option Tool} → option_map (λ row. row.tool) found ≡ tool
+      → option_map (λ row. row.tool) (if test then Some row else found) ≡ (if test then Some row.tool else tool)
+  one true rest = refl
+  one false rest = rest
 
 pub row_named-tool : (calling : Calling) (name : List ℕ)
     → option_map (λ row. row.tool) (row_named (tools calling) name) ≡ tool_named name
