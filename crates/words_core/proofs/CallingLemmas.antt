@@ -75,8 +75,10 @@ by_name : (rows : List ToolRow) (name : List ℕ) → option_map (λ row. row.to
     ≡ tool_among (map (λ row. (row.name, row.tool)) rows) name
 by_name [] name = refl
 by_name (row ∷ rows) name = one (bytes_eq row.name name) (by_name rows name) where
-  one : (test : Bool) {found : Option ToolRow} {tool : Option Tool} → option_map (λ row. row.tool) found ≡ tool
-      → option_map (λ row. row.tool) (if test then Some row else found) ≡ (if test then Some row.tool else tool)
+  one : (test : Bool) → option_map (λ row. row.tool) (row_named rows name)
+      ≡ tool_among (map (λ row. (row.name, row.tool)) rows) name
+      → option_map (λ row. row.tool) (if test then Some row else row_named rows name)
+      ≡ (if test then Some row.tool else tool_among (map (λ row. (row.name, row.tool)) rows) name)
   one true rest = refl
   one false rest = rest
 

@@ -1,30 +1,12 @@
 -- Lemmas on values that may be cut short by a tool's own name: what `cutters` takes means the same there.
-use Rattle.std.proofs.{
-  lemmas.Grind.common_steps,
-  Common.{◌≡◌, refl, ap, ℕ, ◌+◌, ◌==◌, ◌&&◌, ◌||◌, arith, Bool, true, false, if◌then◌else◌, List, [], ◌∷◌, map},
-  Common.{Option, Some, None, option_map, Result, Ok, Err, ok_or, ◌⊎◌, inl, inr, ◌↔◌},
-}
+use Rattle.std.proofs.{Common.{◌≡◌, refl, ap, ℕ, ◌+◌, ◌==◌, ◌&&◌, Bool, true, false, if◌then◌else◌, List, [], ◌∷◌, map}, Common.{Option, Some, None, option_map, Result, Ok, Err, ok_or, ◌⊎◌, inl, inr, ◌↔◌}}
 use Rattle.std.specs.{List.before_first, Option.{option_or, unwrap_or}, Prelude.nat_lt}
-use Rattle.seg_core.specs.{Count.{after_digits, is_number}, declared.count.Sign.{Sign, TheVariants.{Plain, Plus}}}
+use Rattle.seg_core.specs.{Count.{after_digits, is_number}}
 use Rattle.ports_core.specs.declared.{
   calling.Calling.{Calling, TheVariants.{Cutters, OwnName}},
   fault.{Fault.{Fault, TheVariants.Usage}, UsageKind.{UsageKind, TheVariants.{BadFollow, BadMode}}},
 }
-use Rattle.words_core.specs.{
-  declared.{
-    choice.{Choice.Choice, Kind.Kind},
-    spelling.State.{State, TheVariants.{Awaiting, Ended, First, OnlyOperands, Reading}},
-    table.{Letters.{Letters, TheVariants.{Never, OfHead, OfTail}}, Takes.Takes},
-  },
-  Choice.{asking, choice_in},
-  Given.{Given, bare, joined},
-  Lettered.{are_known, is_known, is_lettered, is_start, is_switch, is_unit, letter_named, switched, switches, with_letters},
-  Spelling.{Meaning, after_equals, before, cluster, is_equals, dashed, foremost, given_at, given_before, lettered, long, meaning_of, mixed, named},
-  Spelling.{onward, option_lettered, said, spelled, valued},
-  Table.{OptionRow, beginning, begins_one, full_or, is_among, only_one, option_called, option_named},
-  Laws.AreCutShort,
-  Value.{beginning_in, follow_values, on_broken_values, only_value, value_by, value_in, values_from},
-}
+use Rattle.words_core.specs.{declared.{choice.{Choice.Choice, Kind.Kind}, spelling.State.{State, TheVariants.{Awaiting, Ended, First, OnlyOperands, Reading}}, table.{Letters.{Letters, TheVariants.{Never, OfHead, OfTail}}, Takes.Takes}}, Choice.{asking, choice_in}, Given.{bare}, Lettered.{are_known, is_lettered, is_start, is_switch, letter_named, switched, switches}, Spelling.{Meaning, after_equals, before, cluster, is_equals, dashed, foremost, given_before, lettered, meaning_of, mixed, named}, Spelling.{onward, option_lettered, said, spelled, valued}, Table.{OptionRow, beginning, begins_one, full_or, is_among, only_one, option_called, option_named}, Laws.AreCutShort, Value.{beginning_in, follow_values, on_broken_values, only_value, value_in, values_from}}
 use Rattle.words_core.specs.declared.choice.Choice.TheVariants as choice
 use Rattle.words_core.specs.declared.choice.Kind.TheVariants as kind
 use Rattle.words_core.specs.declared.table.Takes.TheVariants as takes
