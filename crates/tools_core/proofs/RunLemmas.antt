@@ -37,7 +37,7 @@ use Rattle.words_core.specs.{
   Words.{about_or, topic_in, work_for, program_asked, settings_for, settings_of, tool_settings, topic_named, CanRun},
   Words.{HasBadOperands, looks},
 }
-use Rattle.words_core.proofs.LimitLemmas.{read-can}
+use Rattle.words_core.proofs.{CallingLemmas.row_named-tool, LimitLemmas.read-can}
 use Rattle.follow_core.{proofs.LookedLemmas.{ends_by, most_made}, specs.{Ending.{no_room as no_room_yet, shows_by}, declared.run.Method.{Method, TheVariants.{Descriptor, Name, PresentName, FirstFile}}}}
 use Rattle.tools_core.specs.{
   Outcome.{refusal, refuser, speaker, RefusesFor, RunEndsAt, names_at},
@@ -89,7 +89,7 @@ by_topic None is = absurd (cc)
 -- What the words ask for can be done.
 
 by_given : (calling : Calling) (name : List ℕ) {row : ToolRow} (words : List (List ℕ)) {settings : Settings}
-    (given : Result Given Fault) → Some row ≡ row_named tools name → given_by calling row words ≡ given
+    (given : Result Given Fault) → Some row ≡ row_named (tools calling) name → given_by calling row words ≡ given
     → then_check given (settings_for calling row.tool) ≡ Ok settings
     → (row.tool ≡ tool_of settings) × CanRun settings
 by_given calling name {row} words {settings} (Ok given) named read is = (
@@ -99,7 +99,7 @@ by_given calling name {row} words {settings} (Ok given) named read is = (
 by_given calling name words (Err fault) named read is = absurd (cc)
 
 by_row : (calling : Calling) (name : List ℕ) (words : List (List ℕ)) {settings : Settings} (row : Option ToolRow)
-    → row ≡ row_named tools name → tool_settings calling name words row ≡ Ok settings
+    → row ≡ row_named (tools calling) name → tool_settings calling name words row ≡ Ok settings
     → (unwrap_or (option_map (λ row. row.tool) row) tool.Cutters ≡ tool_of settings) × CanRun settings
 by_row calling name words (Some row) named is = by_given calling name words (given_by calling row words) named refl is
 by_row calling name words None named is = by_topic (topic_named name) is
@@ -107,7 +107,8 @@ by_row calling name words None named is = by_topic (topic_named name) is
 pub by_words : (calling : Calling) (words : List (List ℕ)) {settings : Settings}
     → settings_of calling words ≡ Ok settings → (speaker words ≡ tool_of settings) × CanRun settings
 by_words calling [] is = absurd (cc)
-by_words calling (name ∷ words) is = by_row calling name words (row_named tools name) refl is
+by_words calling (name ∷ words) is =
+    rw (row_named-tool calling name) at (by_row calling name words (row_named (tools calling) name) refl is)
 
 -- How a run over inputs ends, by its words.
 

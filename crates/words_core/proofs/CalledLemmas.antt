@@ -13,7 +13,7 @@ use Rattle.std.proofs.{
   Common.{length, drop, get_or, add-one, append_assoc},
 }
 use Rattle.std.specs.{List.slice_get, Str.{IsUtf8, is_utf8, Lossy.utf8_lossy}}
-use Rattle.ports_core.specs.declared.tool.Tool.{Tool}
+use Rattle.ports_core.specs.declared.{calling.Calling.TheVariants.Cutters, tool.Tool.Tool}
 use Rattle.words_core.specs.{
   declared.args.{Args.{Args}, ArgsFault.{ArgsFault}},
   Called.{AreGiven, IsCalled, called_by, has_slash, last_part, reads_any, text_of, tool_called, word_of, words_called},
@@ -51,7 +51,7 @@ none_of (row ∷ rows) name texts none =
 pub no_tool : (name : List ℕ) → (IsUtf8 name → ⊥) → tool_named name ≡ None
 unfolding tools lib.Utf8.encode
 no_tool name none =
-    none_of tools name (
+    none_of (tools Cutters) name (
       (codes "head", (refl, refl)),
       (
         (codes "tail", (refl, refl)),

@@ -1,14 +1,15 @@
 -- Lemmas on what words mean by both ways to call the program.
 use Rattle.std.proofs.{
-  Common.{◌≡◌, refl, ap, ◌∙◌, ℕ, ◌==◌, ◌&&◌, ◌||◌, not, Bool, true, false, if◌then◌else◌, List, [], ◌∷◌},
+  Common.{◌≡◌, refl, ap, ◌∙◌, sym, map, bytes_eq, ℕ, ◌==◌, ◌&&◌, ◌||◌, not, Bool, true, false, if◌then◌else◌, List, [], ◌∷◌},
   Common.{Option, Some, None, Result, Ok, Err, option_map, ◌⊎◌, inl, inr},
   Math.Bool.and-false,
 }
 use Rattle.operand_core.specs.Style.{Style}
 use Rattle.ports_core.specs.declared.{
-  calling.Calling.TheVariants.{Cutters, OwnName},
+  calling.Calling.{Calling, TheVariants.{Cutters, OwnName}},
   fault.{Fault.{Fault, TheVariants.Usage}, UsageKind.TheVariants.BadFollow},
   on_broken.OnBroken.{OnBroken, TheVariants.Signal},
+  tool.Tool.Tool,
 }
 use Rattle.words_core.specs.{
   declared.{
@@ -26,11 +27,11 @@ use Rattle.words_core.specs.{
   Laws.{by_own_name, has, say_nothing, says_on_broken},
   Lettered.is_start,
   Spelling.{foremost, mixed, onward, reading, spelled},
-  Table.{OptionRow, ToolRow},
+  Table.{OptionRow, ToolRow, row_named, tools},
   TailWords.{bad_follow, followed_in, retry_by, tail_asked, tail_of},
   TeeWords.{TeeAsked, fresh, tee_asked, tee_by},
   Value.then_check,
-  Words.{about_or, settings_for, tool_settings, topic_in},
+  Words.{about_or, settings_for, tool_named, tool_settings, topic_in},
 }
 use Rattle.ports_core.specs.declared.tool.Tool.TheVariants as tool
 use Rattle.words_core.specs.declared.choice.Choice.TheVariants as choice
@@ -64,11 +65,34 @@ begins_head rows [] = refl
 begins_head rows ([] ∷ words) = refl
 begins_head rows ((byte ∷ text) ∷ words) = and-false (byte == 43)
 
-pub same_unknown : (name : List ℕ) (words : List (List ℕ)) (row : Option ToolRow)
-    → option_map (λ row. row.tool) row ≡ None
-    → tool_settings OwnName name words row ≡ tool_settings Cutters name words row
-same_unknown name words None none = refl
-same_unknown name words (Some row) none = absurd (cc)
+-- a name is that of the same tool
+
+abbrev tool_among : List (List ℕ × Tool) → List ℕ → Option Tool
+tool_among [] name = None
+tool_among (row ∷ rows) name = if bytes_eq row.0 name then Some row.1 else tool_among rows name
+
+by_name : (rows : List ToolRow) (name : List ℕ) → option_map (λ row. row.tool) (row_named rows name)
+    ≡ tool_among (map (λ row. (row.name, row.tool)) rows) name
+by_name [] name = refl
+by_name (row ∷ rows) name = one (bytes_eq row.name name) (by_name rows name) where
+  one : (test : Bool) → option_map (λ row. row.tool) (row_named rows name)
+      ≡ tool_among (map (λ row. (row.name, row.tool)) rows) name
+      → option_map (λ row. row.tool) (if test then Some row else row_named rows name)
+      ≡ (if test then Some row.tool else tool_among (map (λ row. (row.name, row.tool)) rows) name)
+  one true rest = refl
+  one false rest = rest
+
+pub row_named-tool : (calling : Calling) (name : List ℕ)
+    → option_map (λ row. row.tool) (row_named (tools calling) name) ≡ tool_named name
+unfolding tools
+row_named-tool calling name = by_name (tools calling) name ∙ sym (by_name (tools Cutters) name)
+
+pub same_unknown : (name : List ℕ) (words : List (List ℕ)) (own cutters : Option ToolRow)
+    → option_map (λ row. row.tool) own ≡ None → option_map (λ row. row.tool) cutters ≡ None
+    → tool_settings OwnName name words own ≡ tool_settings Cutters name words cutters
+same_unknown name words None None no_own none = refl
+same_unknown name words (Some row) cutters no_own none = absurd (cc)
+same_unknown name words None (Some row) no_own none = absurd (cc)
 
 -- a word that begins with a `+` is read as an operand
 pub plus_is_name : (rows : List OptionRow) (place : ℕ) (text : List ℕ)

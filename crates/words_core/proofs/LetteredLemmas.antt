@@ -14,9 +14,9 @@ use Rattle.seg_core.specs.{
   declared.{count.{Count.Count, Sign.Sign}, unit.Unit.{Unit as Measured, TheVariants.Lines}},
   Count.{after_digits, is_number, leading_digits, sized},
 }
-use Rattle.ports_core.specs.declared.fault.{
-  Fault.{Fault, TheVariants.Usage},
-  UsageKind.{UsageKind, TheVariants.UnknownOption},
+use Rattle.ports_core.specs.declared.{
+  calling.Calling.Calling,
+  fault.{Fault.{Fault, TheVariants.Usage}, UsageKind.{UsageKind, TheVariants.UnknownOption}},
 }
 use Rattle.words_core.specs.{
   declared.{
@@ -57,8 +57,9 @@ unknown_first : (rows : List OptionRow) (place byte : ℕ) (rest : List ℕ) →
     → (byte == 45) ≡ false → mixed rows place (45 ∷ byte ∷ rest) ≡ Err (Usage UnknownOption place)
 unknown_first rows place byte rest none other = rw (other, none)
 
-tail_has_no_digit : (byte : ℕ) → 48 ≤ byte → byte ≤ 57 → option_lettered tail_table byte ≡ None
-tail_has_no_digit byte least most = search rules
+tail_has_no_digit : (calling : Calling) (byte : ℕ) → 48 ≤ byte → byte ≤ 57
+    → option_lettered (tail_table calling) byte ≡ None
+tail_has_no_digit calling byte least most = search rules
 
 begins_with_digit : (P : List ℕ → Type 0) (text : List ℕ) → nat_lt 0 (length (leading_digits text)) ≡ true
     → ((byte : ℕ) (rest : List ℕ) → 48 ≤ byte → byte ≤ 57 → P (byte ∷ rest)) → P text
@@ -85,14 +86,15 @@ begins_with_unit P [] text is all = absurd (cc)
 begins_with_unit P (known ∷ names) text is all =
     found_by P known text names (bytes_eq known text) refl is all.0 (λ among. begins_with_unit P names text among all.1)
 
-pub tail_letters : (text : List ℕ) (place : ℕ) → is_lettered tail_table OfTail text ≡ true
-    → mixed tail_table place (45 ∷ text) ≡ Err (Usage UnknownOption place)
-tail_letters text place is =
-    let P : List ℕ → Type 0 = λ text. mixed tail_table place (45 ∷ text) ≡ Err (Usage UnknownOption place) in
+pub tail_letters : (calling : Calling) (text : List ℕ) (place : ℕ)
+    → is_lettered (tail_table calling) OfTail text ≡ true
+    → mixed (tail_table calling) place (45 ∷ text) ≡ Err (Usage UnknownOption place)
+tail_letters calling text place is =
+    let P : List ℕ → Type 0 = λ text. mixed (tail_table calling) place (45 ∷ text) ≡ Err (Usage UnknownOption place) in
     let either_way : (nat_lt 0 (length (leading_digits text)) ≡ true) ⊎ (is_among without_digits text ≡ true) = grind (arith, nat_tests) in
     elim either_way [
-      | inl some ↦ begins_with_digit P text some (λ byte rest least most. unknown_first tail_table place byte rest
-          (tail_has_no_digit byte least most) (grind (arith, nat_tests)))
+      | inl some ↦ begins_with_digit P text some (λ byte rest least most. unknown_first (tail_table calling) place byte rest
+          (tail_has_no_digit calling byte least most) (grind (arith, nat_tests)))
       | inr among ↦ begins_with_unit P without_digits text among (refl, (refl, (refl, (refl, tt))))
     ]
 

@@ -1,8 +1,9 @@
 pub mod CalledLemmas
-mod CallingLemmas
+pub mod CallingLemmas
 pub mod ChoiceLemmas
 pub mod CsplitLemmas
 mod LetteredLemmas
+mod ShortLemmas
 pub mod LimitLemmas
 pub mod MeaningLemmas
 pub mod SpellingLemmas

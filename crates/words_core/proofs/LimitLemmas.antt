@@ -198,18 +198,18 @@ settled-can : (calling : Calling) (which : Tool) (given : Given) → AreSound gi
 settled-can calling which given sound = about-can which (topic_in given.options) (work_for calling which given) (work-can calling which given sound)
 
 -- options without a value ask for nothing beyond the limits, in each tool's table
-tools-safe : (name : List ℕ) → IfSome (row_named tools name) (λ row. AreSafe row.options)
+tools-safe : (calling : Calling) (name : List ℕ) → IfSome (row_named (tools calling) name) (λ row. AreSafe row.options)
 unfolding tools
-tools-safe name = search rules
+tools-safe calling name = search rules
 
 -- the settings that were read of words can be done
 pub read-can : (calling : Calling) (name : List ℕ) {rows : List ToolRow} {row : ToolRow} (words : List (List ℕ))
-    {given : Given} (result : Result Settings Fault) → rows ≡ tools → Some row ≡ row_named rows name
+    {given : Given} (result : Result Settings Fault) → rows ≡ tools calling → Some row ≡ row_named rows name
     → given_by calling row words ≡ Ok given
     → IfOk result (λ settings. settings_for calling row.tool given ≡ Ok settings)
     → IfOk result CanRun
 read-can calling name {row = row} words {given} (Ok settings) all named read is =
-    let known : Some row ≡ row_named tools name = rw all at named in
-    let safe : AreSafe row.options = rw (← known) at (tools-safe name) in
+    let known : Some row ≡ row_named (tools calling) name = rw all at named in
+    let safe : AreSafe row.options = rw (← known) at (tools-safe calling name) in
     rw is at (settled-can calling row.tool given ((gives row.options words 1 (start_of calling row.number) given read).0 safe))
 read-can calling name words (Err fault) all named read is = tt

@@ -30,6 +30,7 @@ use Rattle.words_core.specs.{
   Lettered.with_letters,
   Spelling.{Meaning, before, said, valued, lettered, option_lettered, cluster, after_equals, named, dashed, foremost},
   Spelling.{given_at, mixed, meaning_of},
+  Value.{followed_in, on_broken_in},
 }
 use Rattle.words_core.proofs.SpellingLemmas.{either}
 use Rattle.words_core.specs.declared.choice.Choice.TheVariants as choice
@@ -142,6 +143,8 @@ as-sound make (Err fault) is = tt
 
 choice-sound : (kind : Kind) (text : List ℕ) → IfOk (choice_in kind text) IsSound
 choice-sound kind.Divided text = as-sound (λ division. choice.Divided division) (division_in text) (division-sound text)
+choice-sound (kind.Follow calling) text = as-sound (λ followed. choice.Follow followed) (followed_in calling text) (anything (followed_in calling text))
+choice-sound (kind.OnBroken calling) text = as-sound (λ on_broken. choice.OnBroken on_broken) (on_broken_in calling text) (anything (on_broken_in calling text))
 choice-sound which text = search rules
 
 module _ (rows : List OptionRow) (place : ℕ) where

@@ -24,17 +24,17 @@ use Rattle.words_core.specs.{
 use Rattle.words_core.proofs.LetteredLemmas.{HasParts, not_empty, parts}
 
 with_unit : (text digits letters : List ℕ) → HasParts text digits letters → is_number digits ≡ true
-    → are_of_tail letters ≡ true → is_start OwnName tail_table OfTail text ≡ true
+    → are_of_tail letters ≡ true → is_start OwnName (tail_table OwnName) OfTail text ≡ true
 with_unit text digits letters is number of_tail =
     let some = (and_parts (nat_lt 0 (length digits)) _ number).0 in
     rw (is.0, is.1, of_tail, some, or-true (is_number text)) refl
 
 -- what digits and letters ask for
-asked_so : (sign : Sign) (text : List ℕ) {digits letters : List ℕ} (place amount : ℕ) → HasParts text digits letters
-    → is_number digits ≡ true → value_of digits * (unit_in letters).1 ≡ amount
-    → with_letters tail_table sign place text
-    ≡ counted_with (unit_in letters).0 place (switches tail_table place letters) (counted (sized sign amount))
-asked_so sign text {digits = digits} place amount is number many = rw (is.0, is.1, not_empty digits number, many) refl
+asked_so : (calling : Calling) (sign : Sign) (text : List ℕ) {digits letters : List ℕ} (place amount : ℕ)
+    → HasParts text digits letters → is_number digits ≡ true → value_of digits * (unit_in letters).1 ≡ amount
+    → with_letters (tail_table calling) sign place text
+    ≡ counted_with (unit_in letters).0 place (switches (tail_table calling) place letters) (counted (sized sign amount))
+asked_so calling sign text {digits = digits} place amount is number many = rw (is.0, is.1, not_empty digits number, many) refl
 
 pub sized_so : (sign : Sign) (amount : ℕ) → amount ≤ 2 ^ 63 - 1
     → sized sign amount ≡ Ok (record { sign = sign; amount = amount })
@@ -52,12 +52,13 @@ no_letters digits number =
     subst HasNone nil (parts digits [] (and_parts (nat_lt 0 (length digits)) _ number).1 refl)
 
 pub digits_start : (digits : List ℕ) (place : ℕ) → is_number digits ≡ true
-    → foremost OwnName tail_table (Amount Lines) OfTail place (43 ∷ digits)
-    ≡ given_at place (counted_with Lines place (switches tail_table place []) (counted (sized Plus (value_of digits))))
+    → foremost OwnName (tail_table OwnName) (Amount Lines) OfTail place (43 ∷ digits)
+    ≡ given_at place
+    (counted_with Lines place (switches (tail_table OwnName) place []) (counted (sized Plus (value_of digits))))
 unfolding foremost
 digits_start digits place number =
-    let starts : is_start OwnName tail_table OfTail digits ≡ true = rw number refl in
-    rw (starts, asked_so Plus digits place (value_of digits) (no_letters digits number) number (omega arith)) refl
+    let starts : is_start OwnName (tail_table OwnName) OfTail digits ≡ true = rw number refl in
+    rw (starts, asked_so OwnName Plus digits place (value_of digits) (no_letters digits number) number (omega arith)) refl
 
 pub digits_count : (digits : List ℕ) → is_number digits ≡ true → count_of digits ≡ sized Plain (value_of digits)
 unfolding count_of factor_of
@@ -74,13 +75,13 @@ digits_count (digit ∷ digits) number =
 pub letters_start : (digits letters : List ℕ) (place amount : ℕ) → is_number digits ≡ true
     → prefix_len is_ascii_digit letters ≡ 0 → are_of_tail letters ≡ true
     → value_of digits * (unit_in letters).1 ≡ amount
-    → foremost OwnName tail_table (Amount Lines) OfTail place (43 ∷ digits ++ letters)
+    → foremost OwnName (tail_table OwnName) (Amount Lines) OfTail place (43 ∷ digits ++ letters)
     ≡ given_at place
-    (counted_with (unit_in letters).0 place (switches tail_table place letters) (counted (sized Plus amount)))
+    (counted_with (unit_in letters).0 place (switches (tail_table OwnName) place letters) (counted (sized Plus amount)))
 unfolding foremost
 letters_start digits letters place amount number none of_tail many =
     let is = parts digits letters (and_parts (nat_lt 0 (length digits)) _ number).1 none in
-    rw (with_unit (digits ++ letters) digits letters is number of_tail, asked_so Plus (digits ++ letters) place amount is number many) refl
+    rw (with_unit (digits ++ letters) digits letters is number of_tail, asked_so OwnName Plus (digits ++ letters) place amount is number many) refl
 
 not_all : (digits : List ℕ) (letter : ℕ) (letters : List ℕ) → is_ascii_digit letter ≡ false
     → list_all is_ascii_digit (digits ++ letter ∷ letters) ≡ false
@@ -90,9 +91,9 @@ not_all (digit ∷ digits) letter letters other = rw (not_all digits letter lett
 pub letters_last : (calling : Calling) (digits : List ℕ) (letter : ℕ) (letters : List ℕ) (place amount : ℕ)
     → is_number digits ≡ true → is_ascii_digit letter ≡ false → are_of_tail (letter ∷ letters) ≡ true
     → value_of digits * (unit_in (letter ∷ letters)).1 ≡ amount
-    → foremost calling tail_table (Amount Lines) OfTail place (45 ∷ digits ++ letter ∷ letters)
+    → foremost calling (tail_table calling) (Amount Lines) OfTail place (45 ∷ digits ++ letter ∷ letters)
     ≡ given_at place
-    (counted_with (unit_in (letter ∷ letters)).0 place (switches tail_table place (letter ∷ letters))
+    (counted_with (unit_in (letter ∷ letters)).0 place (switches (tail_table calling) place (letter ∷ letters))
     (counted (sized Plain amount)))
 unfolding foremost
 letters_last calling digits letter letters place amount number other of_tail many =
@@ -100,5 +101,5 @@ letters_last calling digits letter letters place amount number other of_tail man
     let is = parts digits (letter ∷ letters) whole.1 (rw other refl) in
     let no_number : is_number (digits ++ letter ∷ letters) ≡ false = rw
     (not_all digits letter letters other, and-false (nat_lt 0 (length (digits ++ letter ∷ letters)))) refl in
-    let lettered : is_lettered tail_table OfTail (digits ++ letter ∷ letters) ≡ true = rw (is.0, is.1, of_tail, whole.0) refl in
-    rw (no_number, lettered, asked_so Plain (digits ++ letter ∷ letters) place amount is number many) refl
+    let lettered : is_lettered (tail_table calling) OfTail (digits ++ letter ∷ letters) ≡ true = rw (is.0, is.1, of_tail, whole.0) refl in
+    rw (no_number, lettered, asked_so calling Plain (digits ++ letter ∷ letters) place amount is number many) refl

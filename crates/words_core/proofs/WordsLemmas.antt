@@ -23,7 +23,7 @@ after_first words = texts (take (length words - 1) (drop 1 words))
 
 pub returned : (calling : Calling) (words : List (Bor (List ℕ))) (none : Bor (List ℕ)) {rows : List ToolRow}
     {row : ToolRow} {given : Given} (result : Result Settings Fault)
-    → 1 ≤ length words → rows ≡ tools → Some row ≡ row_named rows (get_or words 0 none).now
+    → 1 ≤ length words → rows ≡ tools calling → Some row ≡ row_named rows (get_or words 0 none).now
     → given_by calling row (after_first words) ≡ Ok given
     → IfOk result (λ settings. settings_for calling row.tool given ≡ Ok settings)
     → IfErr result (IsRefused HasBadOperands (settings_for calling row.tool given))

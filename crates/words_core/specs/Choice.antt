@@ -48,7 +48,7 @@ or_bad_format (Some format) = Ok (choice.Format (written format))
 -- what an option of this kind asks for with this value
 abbrev pub choice_in : Kind → List ℕ → Result Choice UsageKind
 choice_in (kind.Amount unit) value = asking (λ count. choice.Amount unit count) (counted (count_of value))
-choice_in kind.Follow value = asking (λ followed. choice.Follow followed) (followed_in value)
+choice_in (kind.Follow calling) value = asking (λ followed. choice.Follow followed) (followed_in calling value)
 choice_in kind.Looks value =
     asking (λ looks. choice.Looks looks) (then_check (up_to (2 ^ 63 - 1) (digits_of value)) not_zero)
 choice_in kind.Pause value = asking (λ pause. choice.Pause pause) (pause_in value)
@@ -65,5 +65,5 @@ choice_in kind.Separator value = asking (λ byte. choice.Separator byte) (byte_i
 choice_in kind.Ending value = asking (λ ending. choice.Ending (text ending)) (ending_in value)
 choice_in kind.Prefix value = Ok (choice.Prefix (text value))
 choice_in kind.Format value = or_bad_format (format_in value)
-choice_in kind.OnBroken value = asking (λ on_broken. choice.OnBroken on_broken) (on_broken_in value)
+choice_in (kind.OnBroken calling) value = asking (λ on_broken. choice.OnBroken on_broken) (on_broken_in calling value)
 choice_in kind.NoEffect value = asking (λ _. choice.NoEffect) (up_to (2 ^ 63 - 1) (digits_of value))

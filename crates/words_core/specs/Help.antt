@@ -6,6 +6,7 @@ use Rattle.words_core.specs.{
   declared.{settings.Topic.{Topic, TheVariants.{Help, Version}}, table.Takes.Takes},
   Table.{OptionRow, ToolRow, program_table, row_named, tools},
 }
+use Rattle.ports_core.specs.declared.calling.Calling.TheVariants as calling
 use Rattle.words_core.specs.declared.table.Takes.TheVariants as takes
 
 -- what is typed, filled with blanks to 30 characters
@@ -46,15 +47,15 @@ tool_help row =
 
 abbrev pub program_help : List ℕ
 program_help =
-    codes "Usage: cutters TOOL [OPTION]... [OPERAND]...\ncutters is these tools in one program.\n\n" ++ tool_lines tools
-    ++ option_lines program_table ++ codes "\nThe manual: man cutters\n"
+    codes "Usage: cutters TOOL [OPTION]... [OPERAND]...\ncutters is these tools in one program.\n\n"
+    ++ tool_lines (tools calling.Cutters) ++ option_lines program_table ++ codes "\nThe manual: man cutters\n"
 
 abbrev pub help_by : Option ToolRow → List ℕ
 help_by None = program_help
 help_by (Some row) = tool_help row
 
 abbrev pub help_of : Tool → List ℕ
-help_of tool = help_by (row_named tools (tool_name tool))
+help_of tool = help_by (row_named (tools calling.Cutters) (tool_name tool))
 
 -- the text of the version
 

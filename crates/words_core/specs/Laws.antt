@@ -1,6 +1,6 @@
 -- Definitions for the laws: which options ask for what, and the operands among words.
 use Rattle.std.specs.{
-  Prelude.{◌≡◌, ◌≢◌, ℕ, ◌+◌, ◌<◌, ◌==◌, not, ◌&&◌, Bool, true, false, List, [], ◌∷◌, ◌++◌, All, length},
+  Prelude.{◌≡◌, ◌≢◌, ◌↔◌, ℕ, ◌+◌, ◌<◌, ◌==◌, not, ◌&&◌, Bool, true, false, List, [], ◌∷◌, ◌++◌, All, length},
   Prelude.{codes, if◌then◌else◌, Option, Some, None, Result, Ok, Err, ◌⊎◌},
   Char.is_ascii_digit,
   List.{Contains, list_all, list_any},
@@ -36,6 +36,7 @@ use Rattle.words_core.specs.{
   Table.{OptionRow, alone, option_called, option_named, tail_table, tee_table},
   TailWords.unfollowed,
   TeeWords.{TeeAsked, fresh},
+  Value.{value_by, value_in, values_from},
   Words.settings_of,
 }
 use Rattle.words_core.specs.declared.choice.Choice.TheVariants as choice
@@ -254,7 +255,7 @@ by_own_name other = other
 
 -- whether the first of these words of `tail` says where it begins (43 is a `+`)
 abbrev pub begin_with_start : List (List ℕ) → Bool
-begin_with_start ((byte ∷ text) ∷ words) = byte == 43 && is_start OwnName tail_table OfTail text
+begin_with_start ((byte ∷ text) ∷ words) = byte == 43 && is_start OwnName (tail_table OwnName) OfTail text
 begin_with_start words = false
 
 -- whether words of `tee` have no fault, and don't say what is done once an output is broken
@@ -263,7 +264,21 @@ say_nothing (Ok given) = not (has says_on_broken given.options)
 say_nothing (Err fault) = false
 
 abbrev pub leave_open : List (List ℕ) → Bool
-leave_open words = say_nothing (spelled tee_table words 1 Reading)
+leave_open words = say_nothing (spelled (tee_table Cutters) words 1 Reading)
+
+-- with this fault, of one of these words or of the line as a whole, `cutters` refuses them
+abbrev pub RefusedWith : UsageKind → List (List ℕ) → Type 0
+RefusedWith kind words = (place : ℕ) × (settings_of Cutters words ≡ Err (Usage kind place))
+
+-- Of these values one in full is taken exactly, however the program is called; by a tool's own name the only one that begins with
+-- a text is taken by this text, and `cutters` takes no other texts than the values in full.
+pub record AreCutShort {A : Type 0} (values : List (List ℕ × A)) : Type 0 where
+  pub full : (calling : Calling) (text : List ℕ) (value : A) → value_in values text ≡ Some value
+      → value_by calling values text ≡ Some value
+  pub short : (text : List ℕ) (value : A) → value_in values text ≡ None
+      → (value_by OwnName values text ≡ Some value)
+      ↔ ((name : List ℕ) × (values_from text values ≡ (name, value) ∷ []))
+  pub cutters : (text : List ℕ) → value_by Cutters values text ≡ value_in values text
 
 -- What options ask for if they are given alone. `head`, `tail`, `split` and `csplit` read standard input, and `csplit`
 -- has the operand `1`. A `tail` that follows, or that is given a number as its first word, and `tee` have the file `f`.
@@ -288,10 +303,11 @@ abbrev pub FollowAsks : List (List ℕ) → TailSettings → Type 0
 FollowAsks words asked = (calling : Calling)
     → settings_of calling (codes "tail" ∷ words ++ codes "f" ∷ []) ≡ Ok (Tail asked)
 
--- `tail` by its own name follows the file `f` in this way or not at all, and `cutters tail` refuses these words
-abbrev pub RefusedBut : List (List ℕ) → Option Followed → Type 0
-RefusedBut words followed =
-    (settings_of Cutters (codes "tail" ∷ words ++ codes "f" ∷ []) ≡ Err (Usage BadFollow 0))
+-- `tail` by its own name follows the file `f` in this way or not at all, and `cutters tail` refuses these words, the word
+-- at this place
+abbrev pub RefusedBut : ℕ → List (List ℕ) → Option Followed → Type 0
+RefusedBut place words followed =
+    (settings_of Cutters (codes "tail" ∷ words ++ codes "f" ∷ []) ≡ Err (Usage BadFollow place))
     × (settings_of OwnName (codes "tail" ∷ words ++ codes "f" ∷ [])
     ≡ Ok (Tail (record following { followed = followed })))
 

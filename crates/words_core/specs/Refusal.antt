@@ -1,10 +1,6 @@
 -- What a tool adds by its own name to a message that refuses words: which letter is no option, for which option a value
 -- was, or what a value may be. It follows from the words alone.
-use Rattle.std.specs.{
-  Char.is_ascii_digit,
-  Prelude.{ℕ, ◌-◌, ◌==◌, ◌||◌, nat_lt, Bool, true, false, List, [], ◌∷◌, ◌++◌, codes, is_some, take},
-  Prelude.{Option, Some, None, Result, Ok, Err, if◌then◌else◌, slice_index_or},
-}
+use Rattle.std.specs.{Char.is_ascii_digit, Prelude.{ℕ, ◌-◌, ◌==◌, ◌||◌, nat_lt, Bool, true, false, List, [], ◌∷◌, ◌++◌, codes, is_some, take}, Prelude.{Option, Some, None, Result, Err, if◌then◌else◌, slice_index_or}}
 use Rattle.ports_core.specs.{
   Text.in_quotes,
   declared.{
@@ -27,7 +23,7 @@ word_at words place = slice_index_or words place []
 -- the tool that words name
 abbrev pub row_of : List (List ℕ) → Option ToolRow
 row_of [] = None
-row_of (name ∷ words) = row_named tools name
+row_of (name ∷ words) = row_named (tools OwnName) name
 
 -- Which letter of several in one word is no option's: the first such. 45 is a hyphen. A word that begins with two is a
 -- long option, and one that begins with a hyphen and a digit has a number; of these nothing is said.
@@ -58,7 +54,7 @@ lacks_value given = false
 
 abbrev pub end_with_option : List (List ℕ) → Bool
 end_with_option [] = false
-end_with_option (name ∷ words) = elim (row_named tools name) [
+end_with_option (name ∷ words) = elim (row_named (tools OwnName) name) [
   | Some row ↦ lacks_value (given_by OwnName row words)
   | None ↦ false
 ]
@@ -67,10 +63,12 @@ abbrev pub for_option : List (List ℕ) → ℕ → List ℕ
 for_option words place =
     if end_with_option (take place words) then codes " for " ++ in_quotes (word_at words (place - 1)) else []
 
--- What `--follow` may be, after the word that says something else. A fault of the line as a whole is told at place 0.
+-- What `--follow` may be, after the word that says something else. A fault of the line as a whole is told at place 0: by its own
+-- name `tail` refuses to follow only standard input.
 abbrev pub for_follow : List (List ℕ) → ℕ → List ℕ
 for_follow words place =
-    if place == 0 then [] else codes " " ++ in_quotes (word_at words place) ++ codes ": name or descriptor"
+    if place == 0 then codes ": cannot follow standard input"
+    else codes " " ++ in_quotes (word_at words place) ++ codes ": name or descriptor"
 
 -- what is said of this kind of fault, which stands in the word at this place
 abbrev pub detail_of : Calling → List (List ℕ) → UsageKind → ℕ → List ℕ

@@ -9,6 +9,7 @@ use Rattle.std.specs.{
   List.starts_with,
 }
 use Rattle.ports_core.specs.declared.{
+  calling.Calling.Calling,
   fault.UsageKind.{UsageKind, TheVariants.{UnknownOption, AmbiguousOption}},
   tool.Tool.{Tool, TheVariants.{Head, Tail, Split, Csplit, Tee}},
   alphabet.Alphabet.TheVariants.{Digits as Decimal, Hex as Hexadecimal},
@@ -90,14 +91,14 @@ head_table =
     ∷ quiet_row ∷ verbose_row ∷ zero_row ∷ help_row ∷ version_row ∷ []
 
 -- the options of `tail`: those of `head`, and how files are followed
-abbrev pub tail_table : List OptionRow
-tail_table =
+abbrev pub tail_table : Calling → List OptionRow
+tail_table calling =
     option (codes "-n" ∷ codes "--lines" ∷ []) (Value (Amount Lines)) (codes "COUNT")
     (codes "write COUNT lines; with + all from line COUNT on")
     ∷ option (codes "-c" ∷ codes "--bytes" ∷ []) (Value (Amount Bytes)) (codes "COUNT")
     (codes "write COUNT bytes; with + all from byte COUNT on")
     ∷ quiet_row ∷ verbose_row ∷ zero_row
-    ∷ option (codes "-f" ∷ codes "--follow" ∷ []) (Optional (asks.Follow Descriptor) Follow) (codes "HOW")
+    ∷ option (codes "-f" ∷ codes "--follow" ∷ []) (Optional (asks.Follow Descriptor) (Follow calling)) (codes "HOW")
     (codes "follow what is appended, by descriptor or name")
     ∷ option (codes "-F" ∷ []) (Nothing asks.FollowNames) [] (codes "the same as --follow=name --retry")
     ∷ option (codes "--retry" ∷ []) (Nothing asks.Retry) [] (codes "with --follow=name, wait for missing names")
@@ -155,17 +156,18 @@ csplit_table =
     ∷ help_row ∷ version_row ∷ []
 
 -- the options of `tee`
-abbrev pub tee_table : List OptionRow
-tee_table =
+abbrev pub tee_table : Calling → List OptionRow
+tee_table calling =
     option (codes "-a" ∷ codes "--append" ∷ []) (Nothing asks.Append) [] (codes "append to the files")
-    ∷ option (codes "-p" ∷ codes "--output-error" ∷ []) (Optional (asks.OnBroken WarnNoPipe) OnBroken) (codes "MODE")
+    ∷ option (codes "-p" ∷ codes "--output-error" ∷ [])
+    (Optional (asks.OnBroken WarnNoPipe) (OnBroken calling)) (codes "MODE")
     (codes "go on (warn) or exit once an output is broken")
     ∷ help_row ∷ version_row ∷ []
 
 -- The tools. A hyphen and digits as the first word count lines for `head`, `tail` and `split`; for `head` and `tail`
 -- letters may follow the digits.
-unfoldable pub tools : List ToolRow
-tools =
+unfoldable pub tools : Calling → List ToolRow
+tools calling =
     record {
       name = codes "head";
       tool = Head;
@@ -177,7 +179,7 @@ tools =
     ∷ record {
       name = codes "tail";
       tool = Tail;
-      options = tail_table;
+      options = tail_table calling;
       number = Some (Amount Lines, OfTail);
       operands = codes "[FILE]...";
       does = codes "writes the last lines or bytes, follows files";
@@ -201,7 +203,7 @@ tools =
     ∷ record {
       name = codes "tee";
       tool = Tee;
-      options = tee_table;
+      options = tee_table calling;
       number = None;
       operands = codes "[FILE]...";
       does = codes "copies its input to standard output and files";

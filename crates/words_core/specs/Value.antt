@@ -2,13 +2,15 @@
 -- too large, and that before 0.
 use Rattle.std.specs.{
   Prelude.{ℕ, ◌+◌, ◌-◌, ◌*◌, ◌/◌, ◌^◌, ◌==◌, ◌&&◌, Bool, nat_lt, nat_le, min, codes, length, List, [], ◌∷◌},
-  Prelude.{Option, Some, None, Result, Ok, Err, if◌then◌else◌, bytes_eq},
+  Prelude.{Option, Some, None, Result, Ok, Err, if◌then◌else◌, bytes_eq, eqb, filter, ok_or},
   Char.{is_ascii_digit, is_digit},
-  List.{list_all, list_any},
+  List.{list_all, list_any, starts_with},
+  Option.option_or,
   Str.Parse.digits_value,
 }
 use Rattle.seg_core.specs.Count.{after_digits, count_of, digits_of, leading_digits, value_of}
 use Rattle.ports_core.specs.declared.{
+  calling.Calling.{Calling, TheVariants.{Cutters, OwnName}},
   on_broken.OnBroken.OnBroken,
   fault.UsageKind.{UsageKind, TheVariants.{BadNumber, NumberTooLarge, BadSeparator, BadSuffix, BadFollow, BadMode}},
 }
@@ -45,20 +47,48 @@ byte_in text = if bytes_eq text (codes "\\0") then Ok 0 else Err BadSeparator
 abbrev pub ending_in : List ℕ → Result (List ℕ) UsageKind
 ending_in text = if list_any (λ byte. byte == 47) text then Err BadSuffix else Ok text
 
+-- One of a few values, by its text. By a tool's own name the text may be cut short, where one value alone begins so.
+
+-- the value of this text
+abbrev pub value_in : {A : Type 0} → List (List ℕ × A) → List ℕ → Option A
+value_in [] text = None
+value_in (value ∷ values) text = if bytes_eq value.0 text then Some value.1 else value_in values text
+
+-- the values that begin so
+abbrev pub values_from : {A : Type 0} → List ℕ → List (List ℕ × A) → List (List ℕ × A)
+values_from start values = filter (λ value. starts_with eqb value.0 start) values
+
+-- the only one of these values
+abbrev pub only_value : {A : Type 0} → List (List ℕ × A) → Option A
+only_value (value ∷ []) = Some value.1
+only_value values = None
+
+-- the value that is cut short to this text
+abbrev pub beginning_in : {A : Type 0} → Calling → List (List ℕ × A) → List ℕ → Option A
+beginning_in Cutters values text = None
+beginning_in OwnName values text = only_value (values_from text values)
+
+-- the value of this text, or else the one that is cut short to it
+abbrev pub value_by : {A : Type 0} → Calling → List (List ℕ × A) → List ℕ → Option A
+value_by calling values text = option_or (value_in values text) (beginning_in calling values text)
+
 -- what is followed
-abbrev pub followed_in : List ℕ → Result Followed UsageKind
-followed_in text =
-    if bytes_eq text (codes "descriptor") then Ok followed.Descriptor
-    else (if bytes_eq text (codes "name") then Ok followed.Name else Err BadFollow)
+
+abbrev pub follow_values : List (List ℕ × Followed)
+follow_values = (codes "descriptor", followed.Descriptor) ∷ (codes "name", followed.Name) ∷ []
+
+abbrev pub followed_in : Calling → List ℕ → Result Followed UsageKind
+followed_in calling text = ok_or (value_by calling follow_values text) BadFollow
 
 -- what is done once an output is broken
-abbrev pub on_broken_in : List ℕ → Result OnBroken UsageKind
-on_broken_in text =
-    if bytes_eq text (codes "warn") then Ok on_broken.Warn
-    else (if bytes_eq text (codes "exit") then Ok on_broken.Exit
-    else (if bytes_eq text (codes "warn-nopipe") then Ok on_broken.WarnNoPipe
-    else (if bytes_eq text (codes "exit-nopipe") then Ok on_broken.ExitNoPipe
-    else Err BadMode)))
+
+abbrev pub on_broken_values : List (List ℕ × OnBroken)
+on_broken_values =
+    (codes "warn", on_broken.Warn) ∷ (codes "exit", on_broken.Exit) ∷ (codes "warn-nopipe", on_broken.WarnNoPipe)
+    ∷ (codes "exit-nopipe", on_broken.ExitNoPipe) ∷ []
+
+abbrev pub on_broken_in : Calling → List ℕ → Result OnBroken UsageKind
+on_broken_in calling text = ok_or (value_by calling on_broken_values text) BadMode
 
 -- the number of a process
 abbrev pub process_in : List ℕ → Result ℕ UsageKind

@@ -3,7 +3,7 @@ use Rattle.std.specs.{
   Prelude.{ℕ, ◌-◌, ◌^◌, Bool, true, false, List, [], ◌∷◌, Option, Some, None, option_map, Result, Ok, Err},
 }
 use Rattle.ports_core.specs.declared.{
-  calling.Calling.Calling,
+  calling.Calling.{Calling, TheVariants.Cutters},
   tool.Tool.Tool,
   fault.{Fault.{Fault, TheVariants.Usage}, UsageKind.TheVariants.{MissingTool, UnknownTool}},
 }
@@ -29,7 +29,7 @@ use Rattle.words_core.specs.declared.choice.Choice.TheVariants as choice
 
 -- the tool of this name
 abbrev pub tool_named : List ℕ → Option Tool
-tool_named name = option_map (λ row. row.tool) (row_named tools name)
+tool_named name = option_map (λ row. row.tool) (row_named (tools Cutters) name)
 
 -- what options and operands ask of a tool
 abbrev pub work_for : Calling → Tool → Given → Result Settings Fault
@@ -81,7 +81,7 @@ tool_settings calling name words (Some row) = then_check (given_by calling row w
 -- what the words ask for, or what is wrong with them
 abbrev pub settings_of : Calling → List (List ℕ) → Result Settings Fault
 settings_of calling [] = Err (Usage MissingTool 0)
-settings_of calling (name ∷ words) = tool_settings calling name words (row_named tools name)
+settings_of calling (name ∷ words) = tool_settings calling name words (row_named (tools calling) name)
 
 -- whether inputs are followed, and how often they are looked at if they are
 

@@ -2,3 +2,4 @@ pub mod Choice
 pub mod Spelling
 pub mod SplitWords
 pub mod Format
+pub mod Value

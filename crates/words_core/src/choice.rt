@@ -9,7 +9,7 @@ use crate::value::{
     Followed, MOST_LOOKS, WIDEST, not_zero, read_amount, read_byte, read_ending, read_followed,
     read_hex, read_number, read_on_broken, read_pause, read_process, read_size,
 };
-use ports_core::{Alphabet, OnBroken, UsageKind};
+use ports_core::{Alphabet, Calling, OnBroken, UsageKind};
 use seg_core::count::Count;
 use seg_core::digits::GREATEST;
 use seg_core::unit::Unit;
@@ -80,8 +80,8 @@ pub enum Choice<'a> {
 pub enum Kind {
     /// As many lines or bytes: a count, with or without a sign.
     Amount(Unit),
-    /// Following: `descriptor` or `name`.
-    Follow,
+    /// Following: `descriptor` or `name`; by the tool's own name also cut short.
+    Follow(Calling),
     /// How often inputs are looked at: digits, 1 to 2^63-1.
     Looks,
     /// How long inputs are waited for: seconds, digits which may have a `.` before, among or after them.
@@ -111,8 +111,8 @@ pub enum Kind {
     Prefix,
     /// A text with one conversion of C's `printf`, which writes a number.
     Format,
-    /// `warn`, `warn-nopipe`, `exit` or `exit-nopipe`.
-    OnBroken,
+    /// `warn`, `warn-nopipe`, `exit` or `exit-nopipe`; by the tool's own name also cut short.
+    OnBroken(Calling),
     /// Nothing: digits, 0 to 2^63-1, which have no effect.
     NoEffect,
 }
@@ -130,7 +130,7 @@ pub(crate) fn read_choice(kind: Kind, text: &str) -> Result<Choice<'_>, UsageKin
     let bytes = text.as_bytes();
     match kind {
         Kind::Amount(unit) => Ok(Choice::Amount(unit, read_amount(bytes)?)),
-        Kind::Follow => Ok(Choice::Follow(read_followed(text)?)),
+        Kind::Follow(calling) => Ok(Choice::Follow(read_followed(calling, text)?)),
         Kind::Looks => Ok(Choice::Looks(not_zero(read_number(bytes, MOST_LOOKS)?)?)),
         Kind::Pause => Ok(Choice::Pause(read_pause(bytes)?)),
         Kind::Process => Ok(Choice::Process(read_process(bytes)?)),
@@ -148,7 +148,7 @@ pub(crate) fn read_choice(kind: Kind, text: &str) -> Result<Choice<'_>, UsageKin
         Kind::Ending => Ok(Choice::Ending(read_ending(text)?)),
         Kind::Prefix => Ok(Choice::Prefix(text)),
         Kind::Format => Ok(Choice::Format(read_format(text).ok_or(UsageKind::BadFormat)?)),
-        Kind::OnBroken => Ok(Choice::OnBroken(read_on_broken(text)?)),
+        Kind::OnBroken(calling) => Ok(Choice::OnBroken(read_on_broken(calling, text)?)),
         Kind::NoEffect => {
             read_number(bytes, GREATEST)?;
             Ok(Choice::NoEffect)

@@ -8,7 +8,7 @@ ghost use Rattle.words_core.specs.{
 
 use crate::settings::Topic;
 use crate::table::{OptionRow, Takes, ToolRow, all_tools, find_row, program_options};
-use ports_core::{Fault, Tool};
+use ports_core::{Calling, Fault, Tool};
 use std::alloc::{AllocError, Global};
 
 /// The version of the program, as the file `VERSION` has it.
@@ -55,7 +55,7 @@ fn after_name(tool: Tool) -> &'static [u8]
 fn help_of(alloc: Global, tool: Tool) -> Result<Vec<u8>, AllocError>
     ensures { IfOk result (λ text. text.items ≡ help_of tool) }
 {
-    match find_row(all_tools(), tool.name()) {
+    match find_row(all_tools(Calling::Cutters), tool.name()) {
         Some(row) => tool_help(alloc, row),
         None => program_help(alloc),
     }
@@ -87,7 +87,7 @@ fn program_help(alloc: Global) -> Result<Vec<u8>, AllocError>
         alloc,
         b"Usage: cutters TOOL [OPTION]... [OPERAND]...\ncutters is these tools in one program.\n\n",
     )?;
-    write_tools(&mut text, all_tools())?;
+    write_tools(&mut text, all_tools(Calling::Cutters))?;
     write_options(alloc, &mut text, program_options())?;
     text.extend_from_slice(b"\nThe manual: man cutters\n")?;
     Ok(text)

@@ -6,7 +6,7 @@ ghost use Rattle.std.specs.{
 };
 ghost use Rattle.ports_core.specs.declared.fault.UsageKind.{
   UsageKind,
-  TheVariants.{AmbiguousOption, BadFollow, MissingValue, NumberTooLarge, SuffixTooShort, TwoWays, UnknownOption},
+  TheVariants.{AmbiguousOption, BadFollow, BadMode, MissingValue, NumberTooLarge, SuffixTooShort, TwoWays, UnknownOption},
 };
 ghost use Rattle.words_core.specs.{
   declared.{
@@ -22,7 +22,7 @@ ghost use Rattle.words_core.specs.{
   Format.{Format, format_in},
   Laws.{AreAlike, AreAmong, AreNames, CsplitAsks, EndsAsk, FollowAsks, Gives, HasLetters, IsLetter, IsLong},
   Laws.{IsNumberWithLetters, IsSwitch, IsTold, LastDecides, LeaveTheRest, MeanTheSame, NumberAsks, OnBrokenAsks},
-  Laws.{RefusedBut, SplitAsks, StartAsks, TeeAsks, amount_of, appends, as_operands, as_wide, begin_with_start, counts},
+  Laws.{AreCutShort, RefusedBut, RefusedWith, SplitAsks, StartAsks, TeeAsks, amount_of, appends, as_operands, as_wide, begin_with_start, counts},
   Laws.{by_own_name, counts_looks, counts_pause, drops_sizes, elides_files, ends_with_zero, following, fresh_file, gives_ending},
   Laws.{gives_format, has, heads, how_many, is_plain, keeps_files, kind_of, leave_open, leaves_lines_out, names_prefix},
   Laws.{names_process, plain_style, retries, says_followed, says_on_broken, separates, spells, tells_of_files},
@@ -34,7 +34,7 @@ ghost use Rattle.words_core.specs.{
   Table.{OptionRow, alone, beginning, begins_one, head_table, option_called, option_named, tail_table, tools},
   TailWords.{retry_by, tail_of, unfollowed},
   TeeWords.{tee_asked, tee_of},
-  Value.{byte_in, counted, ending_in, hex_in, pause_in, size_in, then_check, up_to},
+  Value.{byte_in, counted, ending_in, follow_values, hex_in, on_broken_values, pause_in, size_in, then_check, up_to},
   Words.{settings_for, settings_of, tool_named},
 };
 ghost use Rattle.seg_core.specs.{
@@ -198,9 +198,11 @@ pub fn beginnings_are_of_one_option()
 
 /// In each tool's table a name belongs to its own option and to no other, and all names of an option mean the same.
 pub fn names_mean_the_same()
-    ensures own { All (λ tool. All (λ row. All (λ name. option_named tool.options name ≡ Some row.takes) row.names)
-        tool.options) tools }
-    ensures alike { All (λ tool. All (λ row. AreAlike tool.options row.names) tool.options) tools }
+    ensures own { (calling : Calling)
+        → All (λ tool. All (λ row. All (λ name. option_named tool.options name ≡ Some row.takes) row.names)
+        tool.options) (tools calling) }
+    ensures alike { (calling : Calling)
+        → All (λ tool. All (λ row. AreAlike tool.options row.names) tool.options) (tools calling) }
 {}
 
 /// The value of an option is spelled in four ways: right after its letter, if the value isn't empty, or in the next
@@ -329,10 +331,10 @@ pub fn letters_ask()
     ensures head { (text : List ℕ) → (is_lettered head_table OfHead text ≡ true)
         ↔ ((digits options : List ℕ) × (unit : Measured × ℕ) × (digits ≢ [])
         × HasLetters head_table text digits options unit) }
-    ensures tail { (text : List ℕ) → is_lettered tail_table OfTail text ≡ true
-        → IsNumberWithLetters tail_table text }
-    ensures start { (text : List ℕ) → is_start Calling.OwnName tail_table OfTail text ≡ true
-        → IsNumberWithLetters tail_table text }
+    ensures tail { (calling : Calling) (text : List ℕ) → is_lettered (tail_table calling) OfTail text ≡ true
+        → IsNumberWithLetters (tail_table calling) text }
+    ensures start { (text : List ℕ) → is_start Calling.OwnName (tail_table Calling.OwnName) OfTail text ≡ true
+        → IsNumberWithLetters (tail_table Calling.OwnName) text }
     ensures several { (calling : Calling) → settings_of calling (codes "head" ∷ codes "-5cq" ∷ [])
         ≡ Ok (Settings.Head (record ten_of_input {
           unit = Unit.Bytes;
@@ -353,24 +355,33 @@ pub fn letters_ask()
         }))) }
 {}
 
-/// What words mean doesn't depend on how the program is called, with four exceptions: a first word of `tail` that is a
+/// What words mean doesn't depend on how the program is called, with five exceptions: a first word of `tail` that is a
 /// `+` and what may follow it; what may be followed with and without `--retry`; how patterns of `csplit` may be
-/// spelled, and whether they may cut one line past the last; and what `tee` does once an output is broken, if no option
-/// says it.
+/// spelled, and whether they may cut one line past the last; what `tee` does once an output is broken, if no option
+/// says it; and values of `--follow` and `--output-error` that are cut short, which `cutters` refuses.
 #[tactic(auto, unfolding(crate::specs::Spelling::foremost, crate::specs::Table::tools))]
 pub fn callings_mean_the_same()
     ensures none { MeanTheSame [] }
     ensures unknown { (name : List ℕ) (words : List (List ℕ)) → tool_named name ≡ None → MeanTheSame (name ∷ words) }
     ensures head { (words : List (List ℕ)) → MeanTheSame (codes "head" ∷ words) }
     ensures tail { (words : List (List ℕ)) → begin_with_start words ≡ false → MeanTheSame (codes "tail" ∷ words)
-        ⊎ (settings_of Calling.Cutters (codes "tail" ∷ words) ≡ Err (Fault.Usage BadFollow 0)) }
+        ⊎ RefusedWith BadFollow (codes "tail" ∷ words) }
     ensures split { (words : List (List ℕ)) → MeanTheSame (codes "split" ∷ words) }
     ensures csplit { (words : List (List ℕ)) → settings_of Calling.OwnName (codes "csplit" ∷ words)
         ≡ by_own_name (settings_of Calling.Cutters (codes "csplit" ∷ words)) }
-    ensures tee { (words : List (List ℕ)) → leave_open words ≡ false → MeanTheSame (codes "tee" ∷ words) }
+    ensures tee { (words : List (List ℕ)) → leave_open words ≡ false → MeanTheSame (codes "tee" ∷ words)
+        ⊎ RefusedWith BadMode (codes "tee" ∷ words) }
     ensures left_open { (given : Given) → has says_on_broken given.options ≡ false
         → tee_asked Calling.OwnName given
         ≡ record (tee_asked Calling.Cutters given) { on_broken = OnBroken.Signal } }
+{}
+
+/// A value of `--follow` or `--output-error` in full is taken exactly, however the program is called. By a tool's own name a
+/// text that isn't a value in full stands for the only value that begins so. If several begin so, or none, it is refused, as
+/// `cutters` refuses each value that isn't in full (GNU's).
+pub fn values_may_be_cut_short()
+    ensures follow { AreCutShort follow_values }
+    ensures on_broken { AreCutShort on_broken_values }
 {}
 
 /// What digits and letters as a first word ask of `tail`: after a hyphen this many of the last lines or bytes, and
@@ -407,8 +418,8 @@ pub fn starts_ask()
 pub fn letters_take_no_option_away()
     ensures head { (text : List ℕ) (place : ℕ) → is_lettered head_table OfHead text ≡ true
         → mixed head_table place (codes "-" ++ text) ≡ Err (Fault.Usage UnknownOption place) }
-    ensures tail { (text : List ℕ) (place : ℕ) → is_lettered tail_table OfTail text ≡ true
-        → mixed tail_table place (codes "-" ++ text) ≡ Err (Fault.Usage UnknownOption place) }
+    ensures tail { (calling : Calling) (text : List ℕ) (place : ℕ) → is_lettered (tail_table calling) OfTail text ≡ true
+        → mixed (tail_table calling) place (codes "-" ++ text) ≡ Err (Fault.Usage UnknownOption place) }
 {}
 
 /// What each option of `head` and `tail` asks for, if it is given alone, and what is asked for without any: lines and
@@ -450,10 +461,12 @@ pub fn tail_options_ask()
     ensures names { FollowAsks (codes "-F" ∷ []) (record following { followed = Some Followed.Name }) }
     ensures retry { FollowAsks (codes "--follow=name" ∷ codes "--retry" ∷ [])
         (record following { followed = Some Followed.Name }) }
-    ensures names_alone { RefusedBut (codes "--follow=name" ∷ []) (Some Followed.PresentName) }
-    ensures retry_alone { RefusedBut (codes "--retry" ∷ []) None }
-    ensures retry_files { RefusedBut (codes "-f" ∷ codes "--retry" ∷ []) (Some Followed.FirstFile) }
-    ensures last_files { RefusedBut (codes "-F" ∷ codes "-f" ∷ []) (Some Followed.FirstFile) }
+    ensures names_alone { RefusedBut 0 (codes "--follow=name" ∷ []) (Some Followed.PresentName) }
+    ensures retry_alone { RefusedBut 0 (codes "--retry" ∷ []) None }
+    ensures short_files { RefusedBut 1 (codes "--follow=d" ∷ []) (Some Followed.Descriptor) }
+    ensures short_names { RefusedBut 1 (codes "--follow=nam" ∷ []) (Some Followed.PresentName) }
+    ensures retry_files { RefusedBut 0 (codes "-f" ∷ codes "--retry" ∷ []) (Some Followed.FirstFile) }
+    ensures last_files { RefusedBut 0 (codes "-F" ∷ codes "-f" ∷ []) (Some Followed.FirstFile) }
     ensures last_names { FollowAsks (codes "-f" ∷ codes "-F" ∷ [])
         (record following { followed = Some Followed.Name }) }
     ensures looks { (value : List ℕ) → is_number value ≡ true → 1 ≤ value_of value → value_of value ≤ 2 ^ 63 - 1
@@ -573,6 +586,10 @@ pub fn tee_options_ask()
     ensures warn { OnBrokenAsks (codes "--output-error=warn" ∷ []) OnBroken.Warn }
     ensures exit { OnBrokenAsks (codes "--output-error=exit" ∷ []) OnBroken.Exit }
     ensures exit_nopipe { OnBrokenAsks (codes "--output-error=exit-nopipe" ∷ []) OnBroken.ExitNoPipe }
+    ensures short_mode { TeeAsks Calling.OwnName (codes "--output-error=exit-" ∷ [])
+        (record (fresh_file Calling.OwnName) { on_broken = OnBroken.ExitNoPipe }) }
+    ensures two_modes { (calling : Calling) → settings_of calling (codes "tee" ∷ codes "--output-error=ex" ∷ [])
+        ≡ Err (Fault.Usage BadMode 1) }
 {}
 
 /// A hyphen and digits as the only word mean what `-n` means with these digits for `head` and `tail`, and what `-l`

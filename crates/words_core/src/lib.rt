@@ -37,7 +37,7 @@ pub use laws::{
     numbers_keep_their_width, one_way_at_most, operands_follow_the_end, operands_keep_their_order,
     operands_may_mix, options_stand_anywhere, reading_ends, some_have_no_effect, split_options_ask,
     starts_ask, tail_options_ask, tee_options_ask, values_are_spelled_alike,
-    words_are_the_arguments,
+    values_may_be_cut_short, words_are_the_arguments,
 };
 pub use refusal::detail_of;
 pub use settings::{Headers, Settings, Topic};

@@ -53,7 +53,7 @@ fn row_of(words: &[&str]) -> Option<&'static ToolRow>
     ensures { option_map (λ row. tool_seen row.now) result ≡ row_of (map (λ word. word.now) words.now) }
 {
     match words {
-        [name, ..] => find_row(all_tools(), name),
+        [name, ..] => find_row(all_tools(Calling::OwnName), name),
         [] => None,
     }
 }
@@ -113,12 +113,12 @@ fn quoted_letter(alloc: Global, letter: u8) -> Result<Vec<u8>, AllocError>
     Ok(Vec::new(alloc))
 }
 
-/// A text about what `--follow` may be, after the word that it refuses.
+/// What `--follow` may be, after the word that it refuses; or that standard input can't be followed, if no word is named.
 fn for_follow(alloc: Global, words: &[&str], place: usize) -> Result<Vec<u8>, AllocError>
     ensures { IfOk result (λ text. text.items ≡ for_follow (map (λ word. word.now) words.now) place) }
 {
     if place == 0 {
-        return Ok(Vec::new(alloc));
+        return Vec::from_slice(alloc, b": cannot follow standard input");
     }
     let mut text = Vec::from_slice(alloc, b" ")?;
     write_quoted(&mut text, word_at(words, place))?;
@@ -160,7 +160,7 @@ fn end_with_option(alloc: Global, words: &[&str]) -> Result<bool, Fault>
     let [name, words @ ..] = words else {
         return Ok(false);
     };
-    let Some(row) = find_row(all_tools(), name) else {
+    let Some(row) = find_row(all_tools(Calling::OwnName), name) else {
         return Ok(false);
     };
     match read_given(alloc, Calling::OwnName, row, words) {

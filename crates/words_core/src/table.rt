@@ -12,7 +12,7 @@ ghost use Rattle.words_core.specs.{
 use crate::choice::{Choice, Kind};
 use crate::settings::{Headers, Topic};
 use crate::value::Followed;
-use ports_core::{Alphabet, OnBroken, Tool, UsageKind};
+use ports_core::{Alphabet, Calling, OnBroken, Tool, UsageKind};
 use seg_core::unit::Unit;
 
 /// Whether an option takes a value, and what it asks for.
@@ -133,65 +133,124 @@ const HEAD: &[OptionRow] = &[
     VERSION,
 ];
 
+/// The last lines, in `tail`.
+const LAST_LINES: OptionRow = OptionRow {
+    names: &["-n", "--lines"],
+    takes: Takes::Value(Kind::Amount(Unit::Lines)),
+    value: "COUNT",
+    does: "write COUNT lines; with + all from line COUNT on",
+};
+
+/// The last bytes, in `tail`.
+const LAST_BYTES: OptionRow = OptionRow {
+    names: &["-c", "--bytes"],
+    takes: Takes::Value(Kind::Amount(Unit::Bytes)),
+    value: "COUNT",
+    does: "write COUNT bytes; with + all from byte COUNT on",
+};
+
+/// Following, in `tail`.
+const FOLLOW: OptionRow = OptionRow {
+    names: &["-f", "--follow"],
+    takes: Takes::Optional(
+        Choice::Follow(Followed::Descriptor),
+        Kind::Follow(Calling::Cutters),
+    ),
+    value: "HOW",
+    does: "follow what is appended, by descriptor or name",
+};
+
+/// The same, called by its own name.
+const OWN_FOLLOW: OptionRow = OptionRow {
+    names: &["-f", "--follow"],
+    takes: Takes::Optional(
+        Choice::Follow(Followed::Descriptor),
+        Kind::Follow(Calling::OwnName),
+    ),
+    value: "HOW",
+    does: "follow what is appended, by descriptor or name",
+};
+
+/// Following names that are looked for, in `tail`.
+const NAMES: OptionRow = OptionRow {
+    names: &["-F"],
+    takes: Takes::Nothing(Choice::FollowNames),
+    value: "",
+    does: "the same as --follow=name --retry",
+};
+
+/// Looking for names, in `tail`.
+const RETRY: OptionRow = OptionRow {
+    names: &["--retry"],
+    takes: Takes::Nothing(Choice::Retry),
+    value: "",
+    does: "with --follow=name, wait for missing names",
+};
+
+/// A number of looks, in `tail`.
+const LOOKS: OptionRow = OptionRow {
+    names: &["--looks"],
+    takes: Takes::Value(Kind::Looks),
+    value: "NUMBER",
+    does: "end after NUMBER checks of what is followed",
+};
+
+/// A pause, in `tail`.
+const PAUSE: OptionRow = OptionRow {
+    names: &["-s", "--sleep-interval"],
+    takes: Takes::Value(Kind::Pause),
+    value: "SECONDS",
+    does: "check what is followed within this time",
+};
+
+/// A process, in `tail`.
+const PROCESS: OptionRow = OptionRow {
+    names: &["--pid"],
+    takes: Takes::Value(Kind::Process),
+    value: "PID",
+    does: "end once the process PID is gone",
+};
+
+/// An option without effect, in `tail`.
+const UNCHANGED: OptionRow = OptionRow {
+    names: &["--max-unchanged-stats"],
+    takes: Takes::Value(Kind::NoEffect),
+    value: "NUMBER",
+    does: "taken without effect",
+};
+
 /// The options of `tail`: those of `head`, and how files are followed.
 const TAIL: &[OptionRow] = &[
-    OptionRow {
-        names: &["-n", "--lines"],
-        takes: Takes::Value(Kind::Amount(Unit::Lines)),
-        value: "COUNT",
-        does: "write COUNT lines; with + all from line COUNT on",
-    },
-    OptionRow {
-        names: &["-c", "--bytes"],
-        takes: Takes::Value(Kind::Amount(Unit::Bytes)),
-        value: "COUNT",
-        does: "write COUNT bytes; with + all from byte COUNT on",
-    },
+    LAST_LINES,
+    LAST_BYTES,
     QUIET,
     VERBOSE,
     ZERO_TERMINATED,
-    OptionRow {
-        names: &["-f", "--follow"],
-        takes: Takes::Optional(Choice::Follow(Followed::Descriptor), Kind::Follow),
-        value: "HOW",
-        does: "follow what is appended, by descriptor or name",
-    },
-    OptionRow {
-        names: &["-F"],
-        takes: Takes::Nothing(Choice::FollowNames),
-        value: "",
-        does: "the same as --follow=name --retry",
-    },
-    OptionRow {
-        names: &["--retry"],
-        takes: Takes::Nothing(Choice::Retry),
-        value: "",
-        does: "with --follow=name, wait for missing names",
-    },
-    OptionRow {
-        names: &["--looks"],
-        takes: Takes::Value(Kind::Looks),
-        value: "NUMBER",
-        does: "end after NUMBER checks of what is followed",
-    },
-    OptionRow {
-        names: &["-s", "--sleep-interval"],
-        takes: Takes::Value(Kind::Pause),
-        value: "SECONDS",
-        does: "check what is followed within this time",
-    },
-    OptionRow {
-        names: &["--pid"],
-        takes: Takes::Value(Kind::Process),
-        value: "PID",
-        does: "end once the process PID is gone",
-    },
-    OptionRow {
-        names: &["--max-unchanged-stats"],
-        takes: Takes::Value(Kind::NoEffect),
-        value: "NUMBER",
-        does: "taken without effect",
-    },
+    FOLLOW,
+    NAMES,
+    RETRY,
+    LOOKS,
+    PAUSE,
+    PROCESS,
+    UNCHANGED,
+    HELP,
+    VERSION,
+];
+
+/// The same, called by its own name.
+const OWN_TAIL: &[OptionRow] = &[
+    LAST_LINES,
+    LAST_BYTES,
+    QUIET,
+    VERBOSE,
+    ZERO_TERMINATED,
+    OWN_FOLLOW,
+    NAMES,
+    RETRY,
+    LOOKS,
+    PAUSE,
+    PROCESS,
+    UNCHANGED,
     HELP,
     VERSION,
 ];
@@ -325,66 +384,114 @@ const CSPLIT: &[OptionRow] = &[
     VERSION,
 ];
 
+/// Appending, in `tee`.
+const APPEND: OptionRow = OptionRow {
+    names: &["-a", "--append"],
+    takes: Takes::Nothing(Choice::Append),
+    value: "",
+    does: "append to the files",
+};
+
+/// What is done once an output is broken, in `tee`.
+const ON_BROKEN: OptionRow = OptionRow {
+    names: &["-p", "--output-error"],
+    takes: Takes::Optional(
+        Choice::OnBroken(OnBroken::WarnNoPipe),
+        Kind::OnBroken(Calling::Cutters),
+    ),
+    value: "MODE",
+    does: "go on (warn) or exit once an output is broken",
+};
+
+/// The same, called by its own name.
+const OWN_ON_BROKEN: OptionRow = OptionRow {
+    names: &["-p", "--output-error"],
+    takes: Takes::Optional(
+        Choice::OnBroken(OnBroken::WarnNoPipe),
+        Kind::OnBroken(Calling::OwnName),
+    ),
+    value: "MODE",
+    does: "go on (warn) or exit once an output is broken",
+};
+
 /// The options of `tee`.
-const TEE: &[OptionRow] = &[
-    OptionRow {
-        names: &["-a", "--append"],
-        takes: Takes::Nothing(Choice::Append),
-        value: "",
-        does: "append to the files",
-    },
-    OptionRow {
-        names: &["-p", "--output-error"],
-        takes: Takes::Optional(Choice::OnBroken(OnBroken::WarnNoPipe), Kind::OnBroken),
-        value: "MODE",
-        does: "go on (warn) or exit once an output is broken",
-    },
-    HELP,
-    VERSION,
-];
+const TEE: &[OptionRow] = &[APPEND, ON_BROKEN, HELP, VERSION];
+
+/// The same, called by its own name.
+const OWN_TEE: &[OptionRow] = &[APPEND, OWN_ON_BROKEN, HELP, VERSION];
+
+/// The tool `head`.
+const HEAD_TOOL: ToolRow = ToolRow {
+    name: "head",
+    tool: Tool::Head,
+    options: HEAD,
+    number: Some((Kind::Amount(Unit::Lines), Letters::OfHead)),
+    operands: "[FILE]...",
+    does: "writes the first lines or bytes of files",
+};
+
+/// The tool `tail`.
+const TAIL_TOOL: ToolRow = ToolRow {
+    name: "tail",
+    tool: Tool::Tail,
+    options: TAIL,
+    number: Some((Kind::Amount(Unit::Lines), Letters::OfTail)),
+    operands: "[FILE]...",
+    does: "writes the last lines or bytes, follows files",
+};
+
+/// The same, called by its own name.
+const OWN_TAIL_TOOL: ToolRow = ToolRow {
+    options: OWN_TAIL,
+    ..TAIL_TOOL
+};
+
+/// The tool `split`.
+const SPLIT_TOOL: ToolRow = ToolRow {
+    name: "split",
+    tool: Tool::Split,
+    options: SPLIT,
+    number: Some((Kind::LinesEach, Letters::Never)),
+    operands: "[FILE [PREFIX]]",
+    does: "cuts a file into pieces",
+};
+
+/// The tool `csplit`.
+const CSPLIT_TOOL: ToolRow = ToolRow {
+    name: "csplit",
+    tool: Tool::Csplit,
+    options: CSPLIT,
+    number: None,
+    operands: "FILE OPERAND...",
+    does: "cuts a file at patterns and line numbers",
+};
+
+/// The tool `tee`.
+const TEE_TOOL: ToolRow = ToolRow {
+    name: "tee",
+    tool: Tool::Tee,
+    options: TEE,
+    number: None,
+    operands: "[FILE]...",
+    does: "copies its input to standard output and files",
+};
+
+/// The same, called by its own name.
+const OWN_TEE_TOOL: ToolRow = ToolRow {
+    options: OWN_TEE,
+    ..TEE_TOOL
+};
 
 /// The tools.
-pub const TOOLS: &[ToolRow] = &[
-    ToolRow {
-        name: "head",
-        tool: Tool::Head,
-        options: HEAD,
-        number: Some((Kind::Amount(Unit::Lines), Letters::OfHead)),
-        operands: "[FILE]...",
-        does: "writes the first lines or bytes of files",
-    },
-    ToolRow {
-        name: "tail",
-        tool: Tool::Tail,
-        options: TAIL,
-        number: Some((Kind::Amount(Unit::Lines), Letters::OfTail)),
-        operands: "[FILE]...",
-        does: "writes the last lines or bytes, follows files",
-    },
-    ToolRow {
-        name: "split",
-        tool: Tool::Split,
-        options: SPLIT,
-        number: Some((Kind::LinesEach, Letters::Never)),
-        operands: "[FILE [PREFIX]]",
-        does: "cuts a file into pieces",
-    },
-    ToolRow {
-        name: "csplit",
-        tool: Tool::Csplit,
-        options: CSPLIT,
-        number: None,
-        operands: "FILE OPERAND...",
-        does: "cuts a file at patterns and line numbers",
-    },
-    ToolRow {
-        name: "tee",
-        tool: Tool::Tee,
-        options: TEE,
-        number: None,
-        operands: "[FILE]...",
-        does: "copies its input to standard output and files",
-    },
+pub const TOOLS: &[ToolRow] = &[HEAD_TOOL, TAIL_TOOL, SPLIT_TOOL, CSPLIT_TOOL, TEE_TOOL];
+
+/// The tools, called by their own names.
+const OWN_TOOLS: &[ToolRow] = &[
+    HEAD_TOOL,
+    OWN_TAIL_TOOL,
+    SPLIT_TOOL,
+    CSPLIT_TOOL,
+    OWN_TEE_TOOL,
 ];
 
 /// The options of the program: those of the manual.
@@ -394,11 +501,14 @@ pub fn program_options() -> &'static [OptionRow]
     PROGRAM
 }
 
-/// The table of the tools: that of the manuals.
-pub fn all_tools() -> &'static [ToolRow]
-    ensures { map tool_seen result.now ≡ tools }
+/// The table of the tools, by how the program was called: that of the manuals.
+pub fn all_tools(calling: Calling) -> &'static [ToolRow]
+    ensures { map tool_seen result.now ≡ tools calling }
 {
-    TOOLS
+    match calling {
+        Calling::Cutters => TOOLS,
+        Calling::OwnName => OWN_TOOLS,
+    }
 }
 
 /// The tool of this name in a table.

@@ -1,17 +1,18 @@
 //! What the value of an option says (POSIX.1-2017, XBD 12.1; XCU head, tail and split; the suffixes of counts are
 //! GNU's).
 ghost use Rattle.std.specs.{
-  Prelude.{◌≡◌, ◌≤◌, ◌+◌, ◌-◌, ◌*◌, ◌^◌, ℕ, Ok, Err, true, IfOk, IfErr, min, option_map},
+  Prelude.{◌≡◌, ◌≤◌, ◌+◌, ◌-◌, ◌*◌, ◌^◌, [], ◌∷◌, ℕ, Ok, Err, true, IfOk, IfErr, IfNone, IfSome, map, min, option_map},
   Char.is_ascii_digit,
   List.list_all,
 };
 ghost use Rattle.seg_core.specs.Count.{count_of, digits_of};
 ghost use Rattle.words_core.specs.{
   Value.{byte_in, counted, ending_in, followed_in, fraction_in, fraction_of, hex_in, is_zero, milliseconds, not_zero},
-  Value.{number_fault, on_broken_in, process_in, pause_in, size_in, up_to},
+  Value.{number_fault, on_broken_in, only_value, process_in, pause_in, size_in, up_to, value_by, value_in, values_from},
+  inner.Value.value_seen,
 };
 
-use ports_core::{OnBroken, UsageKind};
+use ports_core::{Calling, OnBroken, UsageKind};
 use seg_core::count::{Count, CountFault, read_count};
 use seg_core::digits::{GREATEST, leading_number, read_digits};
 
@@ -33,6 +34,20 @@ pub(crate) const WIDEST: u64 = 255;
 
 /// The greatest number of looks.
 pub const MOST_LOOKS: u64 = GREATEST;
+
+/// What may be followed, as the value of `--follow` says it.
+const FOLLOW_VALUES: &[(&str, Followed)] = &[
+    ("descriptor", Followed::Descriptor),
+    ("name", Followed::Name),
+];
+
+/// What may be done once an output is broken, as the value of `--output-error` says it.
+const ON_BROKEN_VALUES: &[(&str, OnBroken)] = &[
+    ("warn", OnBroken::Warn),
+    ("exit", OnBroken::Exit),
+    ("warn-nopipe", OnBroken::WarnNoPipe),
+    ("exit-nopipe", OnBroken::ExitNoPipe),
+];
 
 /// The largest number that a process can have.
 const LAST_PROCESS: u64 = 0x7fff_ffff;
@@ -119,29 +134,70 @@ pub(crate) fn read_ending(text: &str) -> Result<&str, UsageKind>
 }
 
 /// Reads what is followed.
-pub(crate) fn read_followed(text: &str) -> Result<Followed, UsageKind>
-    ensures { result ≡ followed_in text.now }
+pub(crate) fn read_followed(calling: Calling, text: &str) -> Result<Followed, UsageKind>
+    ensures { result ≡ followed_in calling text.now }
 {
-    if text == "descriptor" {
-        return Ok(Followed::Descriptor);
-    }
-    if text == "name" {
-        return Ok(Followed::Name);
-    }
-    Err(UsageKind::BadFollow)
+    find_value(calling, FOLLOW_VALUES, text).ok_or(UsageKind::BadFollow)
 }
 
 /// Reads what a run does once an output is broken.
-pub(crate) fn read_on_broken(text: &str) -> Result<OnBroken, UsageKind>
-    ensures { result ≡ on_broken_in text.now }
+pub(crate) fn read_on_broken(calling: Calling, text: &str) -> Result<OnBroken, UsageKind>
+    ensures { result ≡ on_broken_in calling text.now }
 {
-    match text {
-        "warn" => Ok(OnBroken::Warn),
-        "exit" => Ok(OnBroken::Exit),
-        "warn-nopipe" => Ok(OnBroken::WarnNoPipe),
-        "exit-nopipe" => Ok(OnBroken::ExitNoPipe),
-        _ => Err(UsageKind::BadMode),
+    find_value(calling, ON_BROKEN_VALUES, text).ok_or(UsageKind::BadMode)
+}
+
+/// The value of this text, or else, by a tool's own name, the only one that begins so.
+fn find_value<A: Copy>(calling: Calling, values: &[(&str, A)], text: &str) -> Option<A>
+    ensures { result ≡ value_by calling (map value_seen values.now) text.now }
+{
+    match (value_in(values, text), calling) {
+        (None, Calling::OwnName) => only_value_from(values, text),
+        (found, _) => found,
     }
+}
+
+/// The value of this text.
+fn value_in<A: Copy>(values: &[(&str, A)], text: &str) -> Option<A>
+    ensures { result ≡ value_in (map value_seen values.now) text.now }
+{
+    for value in values {
+        if value.0 == text {
+            return Some(value.1);
+        }
+    }
+    None
+}
+
+/// The only value that begins so.
+fn only_value_from<A: Copy>(values: &[(&str, A)], start: &str) -> Option<A>
+    ensures { result ≡ only_value (values_from start.now (map value_seen values.now)) }
+{
+    let (found, rest) = first_value_from(values, start)?;
+    match first_value_from(rest, start) {
+        None => Some(found.1),
+        Some(_) => None,
+    }
+}
+
+/// The first value that begins so, and those after it.
+fn first_value_from<'a, 'b, A: Copy>(
+    values: &'a [(&'b str, A)],
+    start: &str,
+) -> Option<(&'a (&'b str, A), &'a [(&'b str, A)])>
+    ensures none { IfNone result (values_from start.now (map value_seen values.now) ≡ []) }
+    ensures some { IfSome result
+        (λ found. values_from start.now (map value_seen values.now)
+        ≡ value_seen found.0.now ∷ values_from start.now (map value_seen found.1.now)) }
+{
+    let mut left = values;
+    while let [value, rest @ ..] = left {
+        if value.0.as_bytes().starts_with(start.as_bytes()) {
+            return Some((value, rest));
+        }
+        left = rest;
+    }
+    None
 }
 
 /// Reads seconds: digits, which may have a `.` before, among or after them. Returns them as milliseconds, rounded up, 2^63-1 at

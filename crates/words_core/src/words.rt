@@ -57,7 +57,7 @@ pub fn read_words_as<'a>(
     let [name, words @ ..] = words else {
         return Err(Fault::Usage(UsageKind::MissingTool, 0));
     };
-    let Some(row) = find_row(all_tools(), name) else {
+    let Some(row) = find_row(all_tools(calling), name) else {
         return settle_program(name);
     };
     let spelled = read_given(alloc, calling, row, words)?;
@@ -90,7 +90,7 @@ impl Settings<'_> {
 pub fn find_tool(name: &str) -> Option<Tool>
     ensures { result ≡ tool_named name.now }
 {
-    match find_row(all_tools(), name) {
+    match find_row(all_tools(Calling::Cutters), name) {
         Some(row) => Some(row.tool),
         None => None,
     }

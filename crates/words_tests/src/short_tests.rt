@@ -257,7 +257,7 @@ fn given<'a>(
     name: &str,
     words: &[&'a str],
 ) -> Option<Spelled<'a>> {
-    match find_row(all_tools(), name) {
+    match find_row(all_tools(calling), name) {
         Some(tool) => read_given(alloc, calling, tool, words).ok(),
         None => None,
     }

@@ -176,16 +176,16 @@ type OwnRow<'a> = (&'a [&'a str], Option<Followed>);
 #[test]
 fn follows_by_its_own_name_what_cutters_refuses(rt: HostRuntime) {
     for row in BY_OWN_NAME {
-        follows_alone(&rt, rt.alloc(), row);
+        follows_alone(&rt, rt.alloc(), row, 0);
     }
 }
 
-/// Checks that this is followed by `tail`'s own name, and that `cutters` refuses the words.
-fn follows_alone(rt: &impl Abort, alloc: Global, row: &OwnRow<'_>) {
+/// Checks that this is followed by `tail`'s own name, and that `cutters` refuses the words, of which it tells the one at this place.
+fn follows_alone(rt: &impl Abort, alloc: Global, row: &OwnRow<'_>, place: usize) {
     let (words, followed) = *row;
     let wanted = Wanted::Follows(followed, MOST_LOOKS);
     check_called(rt, alloc, Calling::OwnName, words, &wanted);
-    let refused = [(words, UsageKind::BadFollow, 0)];
+    let refused = [(words, UsageKind::BadFollow, place)];
     refuse_called(rt, alloc, Calling::Cutters, &refused);
 }
 
@@ -197,6 +197,25 @@ const BY_OWN_NAME: &[OwnRow<'static>] = &[
     (&["tail", "--retry"], None),
     (&["tail", "--retry", "-f"], None),
     (&["tail", "--retry", "-f", "-"], None),
+];
+
+#[test]
+fn takes_values_cut_short_by_its_own_name(rt: HostRuntime) {
+    for row in CUT_SHORT {
+        follows_alone(&rt, rt.alloc(), row, 1);
+    }
+}
+
+const CUT_SHORT: &[OwnRow<'static>] = &[
+    (&["tail", "--follow=n", "f"], Some(Followed::PresentName)),
+    (
+        &["tail", "--follow=nam", "--retry", "f"],
+        Some(Followed::Name),
+    ),
+    (
+        &["tail", "--fo=d", "--follow=descripto", "f"],
+        Some(Followed::Descriptor),
+    ),
 ];
 
 #[test]
@@ -218,6 +237,7 @@ const REFUSED: &[Refused<'static>] = &[
     (&["tail", "-f", "-", "-"], UsageKind::BadFollow, 0),
     (&["tail", "f", "--follow=names"], UsageKind::BadFollow, 2),
     (&["tail", "--follow=", "f"], UsageKind::BadFollow, 1),
+    (&["tail", "--follow=ame", "f"], UsageKind::BadFollow, 1),
     (&["tail", "--retry=f"], UsageKind::UnexpectedValue, 1),
     (&["tail", "--looks=0", "-f", "f"], UsageKind::Zero, 1),
     (

@@ -1,6 +1,6 @@
 //! What the words after `tee` ask for.
 use crate::asked::{Asked, check, check_called};
-use crate::refused::{Refused, refuse};
+use crate::refused::{Refused, refuse, refuse_called};
 use ports_core::{Calling, Mode, OnBroken, UsageKind};
 use std::alloc::Global;
 use std::process::Abort;
@@ -108,6 +108,31 @@ const BREAKS: &[(&[&str], OnBroken)] = &[
 ];
 
 #[test]
+fn takes_modes_cut_short_by_its_own_name(rt: HostRuntime) {
+    for row in CUT_SHORT {
+        takes_short(&rt, rt.alloc(), row);
+    }
+}
+
+/// Checks that this is done by `tee`'s own name once an output is broken, and that `cutters` refuses the first word.
+fn takes_short(rt: &impl Abort, alloc: Global, row: &(&[&str], OnBroken)) {
+    let (words, on_broken) = *row;
+    let wanted = Wanted::OnBroken(on_broken);
+    check_called(rt, alloc, Calling::OwnName, words, &wanted);
+    let refused = [(words, UsageKind::BadMode, 1)];
+    refuse_called(rt, alloc, Calling::Cutters, &refused);
+}
+
+const CUT_SHORT: &[(&[&str], OnBroken)] = &[
+    (&["tee", "--output-error=warn-", "f"], OnBroken::WarnNoPipe),
+    (&["tee", "--output-error=exit-n"], OnBroken::ExitNoPipe),
+    (
+        &["tee", "--out=exit-nopip", "--output-error=warn"],
+        OnBroken::Warn,
+    ),
+];
+
+#[test]
 fn cutters_goes_on_unless_an_option_says_otherwise(rt: HostRuntime) {
     leave_open(&rt, rt.alloc(), Calling::Cutters, OnBroken::Warn);
 }
@@ -147,6 +172,8 @@ const REFUSED: &[Refused<'static>] = &[
     (&["tee", "f", "--output-error="], UsageKind::BadMode, 2),
     (&["tee", "--output-error=EXIT"], UsageKind::BadMode, 1),
     (&["tee", "--output-error=exi"], UsageKind::BadMode, 1),
+    (&["tee", "--output-error=w"], UsageKind::BadMode, 1),
+    (&["tee", "--output-error=nopipe"], UsageKind::BadMode, 1),
     (&["tee", "--output-error=exit "], UsageKind::BadMode, 1),
     (&["tee", "--append=f"], UsageKind::UnexpectedValue, 1),
 ];

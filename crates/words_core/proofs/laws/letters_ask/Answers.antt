@@ -11,6 +11,7 @@ use Rattle.seg_core.specs.{
   Count.{after_digits, is_number, leading_digits},
   declared.unit.Unit.{Unit as Measured, TheVariants.Lines},
 }
+use Rattle.ports_core.specs.declared.calling.Calling.{Calling, TheVariants.OwnName}
 use Rattle.words_core.{
   specs.declared.{
     settings.Headers.TheVariants.{Always, Never},
@@ -155,36 +156,40 @@ head_is text digits options some has =
     let (others, letters, units, few, is, say) = parted head_table text digits options has in
     rw (is.0, is.1, some_digits digits some, say.4, lt-ltb units 2 few, say.3) (all_known options others)
 
-f_switch : IsOther tail_table 102
-f_switch = (refl, refl, choice.Follow Descriptor, record { takes = takes.Optional (choice.Follow Descriptor) kind.Follow; named = refl; alone = refl; ascii = omega arith; no_hyphen = omega arith })
+f_switch : (calling : Calling) → IsOther (tail_table calling) 102
+f_switch calling = (refl, refl, choice.Follow Descriptor, record { takes = takes.Optional (choice.Follow Descriptor) (kind.Follow calling); named = refl; alone = refl; ascii = omega arith; no_hyphen = omega arith })
 
-with_f : (letter : ℕ) {unit : Measured × ℕ} → unit_of letter ≡ Some unit → HasShape tail_table (letter ∷ 102 ∷ [])
-with_f letter says = of_first tail_table letter (102 ∷ []) says (f_switch, tt)
+with_f : (calling : Calling) (letter : ℕ) {unit : Measured × ℕ} → unit_of letter ≡ Some unit
+    → HasShape (tail_table calling) (letter ∷ 102 ∷ [])
+with_f calling letter says = of_first (tail_table calling) letter (102 ∷ []) says (f_switch calling, tt)
 
-without_f : (letter : ℕ) {unit : Measured × ℕ} → unit_of letter ≡ Some unit → HasShape tail_table (letter ∷ [])
-without_f letter says = of_first tail_table letter [] says tt
+without_f : (calling : Calling) (letter : ℕ) {unit : Measured × ℕ} → unit_of letter ≡ Some unit
+    → HasShape (tail_table calling) (letter ∷ [])
+without_f calling letter says = of_first (tail_table calling) letter [] says tt
 
-tail_shape : (text : List ℕ) → is_lettered tail_table OfTail text ≡ true → IsNumberWithLetters tail_table text
-tail_shape text is =
+tail_shape : (calling : Calling) (text : List ℕ) → is_lettered (tail_table calling) OfTail text ≡ true
+    → IsNumberWithLetters (tail_table calling) text
+tail_shape calling text is =
     let among = (and_parts (are_of_tail (after_digits text)) _ is).0 in
-    is_number_with tail_table text (begins_with_unit (HasShape tail_table)
+    is_number_with (tail_table calling) text (begins_with_unit (HasShape (tail_table calling))
     (codes "f" ∷ codes "b" ∷ codes "bf" ∷ codes "c" ∷ codes "cf" ∷ codes "l" ∷ codes "lf" ∷ []) (after_digits text) among (
-      of_others tail_table (102 ∷ []) (f_switch, tt),
+      of_others (tail_table calling) (102 ∷ []) (f_switch calling, tt),
       (
-        without_f 98 refl,
-        (with_f 98 refl, (without_f 99 refl, (with_f 99 refl, (without_f 108 refl, (with_f 108 refl, tt))))),
+        without_f calling 98 refl,
+        (with_f calling 98 refl, (without_f calling 99 refl, (with_f calling 99 refl, (without_f calling 108 refl, (with_f calling 108 refl, tt))))),
       ),
     ))
 
-start_shape : (text : List ℕ) (number lettered : Bool) → is_number text ≡ number
-    → is_lettered tail_table OfTail text ≡ lettered
-    → (number || (lettered || is_among (codes "c" ∷ codes "cf" ∷ []) text)) ≡ true → IsNumberWithLetters tail_table text
-start_shape text true lettered number of_tail is =
-    (text, [], (Lines, 1), of_lines (sym (append-nil text)) (and_parts (nat_lt 0 (length text)) _ number).1 (All-from_recursion (IsOther tail_table) [] tt))
-start_shape text false true number of_tail is = tail_shape text of_tail
-start_shape text false false number of_tail is =
-    begins_with_unit (IsNumberWithLetters tail_table) (codes "c" ∷ codes "cf" ∷ []) text is
-    (is_number_with tail_table (codes "c") (without_f 99 refl), (is_number_with tail_table (codes "cf") (with_f 99 refl), tt))
+start_shape : (calling : Calling) (text : List ℕ) (number lettered : Bool) → is_number text ≡ number
+    → is_lettered (tail_table calling) OfTail text ≡ lettered
+    → (number || (lettered || is_among (codes "c" ∷ codes "cf" ∷ []) text)) ≡ true
+    → IsNumberWithLetters (tail_table calling) text
+start_shape calling text true lettered number of_tail is =
+    (text, [], (Lines, 1), of_lines (sym (append-nil text)) (and_parts (nat_lt 0 (length text)) _ number).1 (All-from_recursion (IsOther (tail_table calling)) [] tt))
+start_shape calling text false true number of_tail is = tail_shape calling text of_tail
+start_shape calling text false false number of_tail is =
+    begins_with_unit (IsNumberWithLetters (tail_table calling)) (codes "c" ∷ codes "cf" ∷ []) text is
+    (is_number_with (tail_table calling) (codes "c") (without_f calling 99 refl), (is_number_with (tail_table calling) (codes "cf") (with_f calling 99 refl), tt))
 
 pub returns-clause-asks : goal.returns-clause-asks
 returns-clause-asks c = letters_ask
@@ -205,4 +210,4 @@ pub returns-clause-tail : goal.returns-clause-tail
 returns-clause-tail c = tail_shape
 
 pub returns-clause-start : goal.returns-clause-start
-returns-clause-start c text is = start_shape text (is_number text) (is_lettered tail_table OfTail text) refl refl is
+returns-clause-start c text is = start_shape OwnName text (is_number text) (is_lettered (tail_table OwnName) OfTail text) refl refl is

@@ -5,4 +5,4 @@ pub returns-clause-head : goal.returns-clause-head
 returns-clause-head c text place is = head_letters text place is
 
 pub returns-clause-tail : goal.returns-clause-tail
-returns-clause-tail c text place is = tail_letters text place is
+returns-clause-tail c calling text place is = tail_letters calling text place is

@@ -5,6 +5,7 @@ use Rattle.std.{
   },
   specs.List.AllByRecursion,
 }
+use Rattle.ports_core.specs.declared.calling.Calling.{Calling}
 use Rattle.words_core.specs.{
   Laws.AreAlike,
   Spelling.{mixed, onward, spelled},
@@ -14,17 +15,17 @@ use Rattle.words_core.proofs.laws.names_mean_the_same.Goals as goal
 
 -- What is true of each row of each table.
 
-abbrev Each : (List OptionRow → OptionRow → Type 0) → Type 0
-Each P = AllByRecursion (λ tool. AllByRecursion (P tool.options) tool.options) tools
+abbrev Each : Calling → (List OptionRow → OptionRow → Type 0) → Type 0
+Each calling P = AllByRecursion (λ tool. AllByRecursion (P tool.options) tool.options) (tools calling)
 
-each_row : (P Q : List OptionRow → OptionRow → Type 0)
-    → ((rows : List OptionRow) (row : OptionRow) → P rows row → Q rows row) → Each P
-    → All (λ tool. All (Q tool.options) tool.options) tools
-each_row P Q is each =
+each_row : (calling : Calling) (P Q : List OptionRow → OptionRow → Type 0)
+    → ((rows : List OptionRow) (row : OptionRow) → P rows row → Q rows row) → Each calling P
+    → All (λ tool. All (Q tool.options) tool.options) (tools calling)
+each_row calling P Q is each =
     let Rows : ToolRow → Type 0 = λ tool. AllByRecursion (P tool.options) tool.options in
     All-weaker Rows (λ tool. All (Q tool.options) tool.options)
     (λ tool here. All-weaker (P tool.options) (Q tool.options) (is tool.options) tool.options (All-from_recursion (P tool.options) tool.options here))
-    tools (All-from_recursion Rows tools each)
+    (tools calling) (All-from_recursion Rows (tools calling) each)
 
 -- Each name is found.
 
@@ -34,9 +35,9 @@ IsFound rows row name = option_named rows name ≡ Some row.takes
 abbrev AreFound : List OptionRow → OptionRow → Type 0
 AreFound rows row = AllByRecursion (IsFound rows row) row.names
 
-all_found : Each AreFound
+all_found : (calling : Calling) → Each calling AreFound
 unfolding tools
-all_found = search rules
+all_found calling = search rules
 
 -- Each name of an option means what its first name means.
 
@@ -50,9 +51,9 @@ IsFirst rows row name = (place : ℕ) → mixed rows place name ≡ mixed rows p
 abbrev AreFirst : List OptionRow → OptionRow → Type 0
 AreFirst rows row = AllByRecursion (IsFirst rows row) row.names
 
-all_first : Each AreFirst
+all_first : (calling : Calling) → Each calling AreFirst
 unfolding tools
-all_first = search rules
+all_first calling = search rules
 
 are_alike : (rows : List OptionRow) (row : OptionRow) → AreFirst rows row → AreAlike rows row.names
 are_alike rows row each one other words place has_one has_other =
@@ -61,7 +62,7 @@ are_alike rows row each one other words place has_one has_other =
     (All-contains (IsFirst rows row) row.names one all has_one place ∙ sym (All-contains (IsFirst rows row) row.names other all has_other place))
 
 pub returns-clause-own : goal.returns-clause-own
-returns-clause-own c = each_row AreFound (λ rows row. All (IsFound rows row) row.names) (λ rows row. All-from_recursion (IsFound rows row) row.names) all_found
+returns-clause-own c calling = each_row calling AreFound (λ rows row. All (IsFound rows row) row.names) (λ rows row. All-from_recursion (IsFound rows row) row.names) (all_found calling)
 
 pub returns-clause-alike : goal.returns-clause-alike
-returns-clause-alike c = each_row AreFirst (λ rows row. AreAlike rows row.names) are_alike all_first
+returns-clause-alike c calling = each_row calling AreFirst (λ rows row. AreAlike rows row.names) are_alike (all_first calling)

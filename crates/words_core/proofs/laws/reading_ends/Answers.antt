@@ -72,9 +72,9 @@ returns c = record {
   left = leave_the_rest;
   last = last_ends;
   head = λ calling words. rw (nothing_more head_table words 2) (refl, refl);
-  tail = λ calling words. rw (nothing_more tail_table words 2) (refl, refl);
+  tail = λ calling words. rw (nothing_more (tail_table calling) words 2) (refl, refl);
   split = λ calling words. rw (nothing_more split_table words 2) (refl, refl);
   csplit = λ calling words. rw (nothing_more csplit_table words 2) (refl, refl);
-  tee = λ calling words. rw (nothing_more tee_table words 2) (refl, refl);
+  tee = λ calling words. rw (nothing_more (tee_table calling) words 2) (refl, refl);
   program = λ calling words. (refl, refl);
 }

@@ -6,6 +6,7 @@ use Rattle.seg_core.specs.{
   declared.{count.Sign.TheVariants.{Plain, Plus}, unit.Unit.Unit as Measured},
   Count.{is_number, value_of},
 }
+use Rattle.ports_core.specs.declared.calling.Calling.TheVariants.{Cutters}
 use Rattle.words_core.{
   specs.{Laws.NumberAsks, Lettered.{are_of_tail, unit_in, unit_of}, Spelling.foremost, Table.{tail_table, tools}},
   proofs.{
@@ -75,4 +76,4 @@ returns-clause-too_large c digits words number large = rw (digits_start digits 1
 
 pub returns-clause-cutters : goal.returns-clause-cutters
 unfolding tools foremost
-returns-clause-cutters c text = rw (plus_is_name tail_table 1 text)
+returns-clause-cutters c text = rw (plus_is_name (tail_table Cutters) 1 text)
