@@ -1,4 +1,4 @@
-ghost use Rattle.std.specs.Prelude.{◌≡◌, ◌⊎◌, ◌≤◌, ◌∷◌, ◌++◌, [], Bool, false, IsTrue};
+ghost use Rattle.std.specs.Prelude.{◌≡◌, ◌⊎◌, ◌≤◌, ◌∷◌, ◌++◌, [], false, IsTrue};
 ghost use Rattle.watch_core.specs.{
   DirWatchState.{DirWatchState, files_by, seen},
   Watched.{CanBreak, is_watchable},
@@ -101,7 +101,7 @@ impl<R: Files<File = File> + Clock + Drop> Model for DirWatch<R> {
 impl<R: Files<File = File> + Clock + Drop> DirWatch<R> {
     /// No name and no look. The system is asked what standard input is. It takes no memory.
     pub fn new(runtime: R, alloc: Global) -> Self
-        ensures { (fed : Bool) × (result ≡ no_turns fed) }
+        ensures { result ≡ no_turns result.fed }
     {
         let fed = is_file(&runtime);
         DirWatch {
