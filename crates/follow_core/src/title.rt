@@ -1,6 +1,6 @@
 //! The text under which a name is shown.
 ghost use Rattle.std.specs.Prelude.{◌≡◌};
-ghost use Rattle.follow_core.specs.Title.title;
+ghost use Rattle.follow_core.specs.Title.{title};
 
 use watch_core::is_input;
 

@@ -427,7 +427,7 @@ impl Watch for MemWatch {
     ghost fed = { λ watch. is_fed watch };
 
     fn has_input(&self) -> bool {
-        let first = 1.min(self.worlds.len() - 1);
+        let first = 1usize.min(self.worlds.len() - 1);
         let file = world_in(&self.worlds, first).file_of(STANDARD_INPUT);
         file.is_some()
     }

@@ -1,6 +1,6 @@
 //! Standard input as a name that is watched.
 ghost use Rattle.std.specs.Prelude.{◌≡◌};
-ghost use Rattle.watch_core.specs.Watched.is_input;
+ghost use Rattle.watch_core.specs.Watched.{is_input};
 
 use ports_core::{STANDARD_INPUT, standard_input_place};
 use std::fs;
