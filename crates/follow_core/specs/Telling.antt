@@ -9,7 +9,7 @@ use Rattle.ports_core.specs.{
   declared.tool.Tool.TheVariants.Tail,
   Message.Prints,
 }
-use Rattle.follow_core.specs.Title.title
+use Rattle.follow_core.specs.Title.{title}
 
 -- `tail`, called so
 abbrev pub tail_by : Calling → Speaker
