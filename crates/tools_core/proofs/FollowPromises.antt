@@ -197,7 +197,7 @@ follows_text {run} {count} {options} {followed} {name} follows bare named keeps_
     let ways = ways_of 0 (is_name followed) (start_of options) in
     let shows = paused run followed follows.read.0 in
     wrote_text ways name shows count run.seen run.watched run.outputs keeps_bytes
-    (rw (bare, named, follows.well) at (rw follows.read.1 at follows.ends))
+    (rw (bare, named, follows.well) at (rw (follows.read.1, follows.read.2) at follows.ends))
 
 pub tells_all : (run : Run) (options : EndsAsked) (followed : Followed) (name came : List ℕ) (file n : ℕ)
     → Follows run (n + 1) options followed → IsBare options → options.names ≡ name ∷ []
@@ -230,7 +230,7 @@ tells_all run options followed name came file n follows bare named grows is =
 
 -- A run of the program is a run of one of both kinds, by what its words ask for.
 
-pub ends_at : (run : Run) {looks : Option ℕ} → IsOfProgram run → looks_at (settings_of run.calling run.words) ≡ looks
-    → ProgramEndsAt run.calling true true true run.words run.world.laid
+pub ends_at : (run : Run) {looks : Option ℕ} → IsOfProgram run → looks_at run.calling run.fed (settings_of run.calling run.words) ≡ looks
+    → ProgramEndsAt run.calling run.fed true true true run.words run.world.laid
     (source_of run.world.standard ∷ []) run.inputs run.shows run.seen run.watched run.outputs run.status looks
 ends_at run ends is = rw (← is) ends

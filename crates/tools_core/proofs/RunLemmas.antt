@@ -27,7 +27,7 @@ use Rattle.words_core.specs.{
   CsplitWords.{HasBadOperand, csplit_asked, CsplitAsked},
   EndsWords.{ends_asked, EndsAsked},
   SplitWords.split_asked,
-  TailWords.tail_asked,
+  TailWords.{followed_by, tail_asked},
   TeeWords.{tee_asked},
   Given.Given,
   Refusal.{detail_of, word_at},
@@ -269,7 +269,7 @@ shows_by-waiting Cutters Name milliseconds shows = refl
 shows_by-waiting Cutters PresentName milliseconds shows = refl
 shows_by-waiting Cutters FirstFile milliseconds shows = refl
 
-module _ (calling : Calling) (told_in told : Bool) (words : List (List ℕ)) (looks : ℕ)
+module _ (calling : Calling) (fed told_in told : Bool) (words : List (List ℕ)) (looks : ℕ)
     (shows : ℕ → Snapshot) (seen : List Snapshot) (watched : List Watched) (new : List Slot) (status : ℕ)
     (unseen : seen ≡ []) (unwatched : watched ≡ []) where
   -- words that weren't read for want of memory
@@ -291,21 +291,21 @@ module _ (calling : Calling) (told_in told : Bool) (words : List (List ℕ)) (lo
 
   unread_files : (meant : Result Settings Fault) → settings_of calling words ≡ meant
       → RefusesFor calling told words Memory new status
-      → FollowingEndsAt calling told_in told words looks shows seen watched new status meant
-  unread_files (Ok (Tail asked)) is refuses = unread_tail asked asked.followed (by_words calling words is).0 refuses
+      → FollowingEndsAt calling fed told_in told words looks shows seen watched new status meant
+  unread_files (Ok (Tail asked)) is refuses = unread_tail asked (followed_by calling fed asked) (by_words calling words is).0 refuses
   unread_files (Ok (Csplit asked)) is refuses = inr (unseen, unwatched, (Memory, lacks_memory asked, refuses))
   unread_files (Ok asked) is refuses = inl (tt, (unseen, unwatched, refused_memory words (Usage BadFollow 0) refuses))
   unread_files (Err fault) is refuses = (unseen, unwatched, refused_memory words fault refuses)
 
   operands_unread : (settings : Settings) (fault : Fault) → HasBadOperands settings fault
       → RefusesFor calling told words fault new status
-      → FollowingEndsAt calling told_in told words looks shows seen watched new status (Ok settings)
+      → FollowingEndsAt calling fed told_in told words looks shows seen watched new status (Ok settings)
   operands_unread (Csplit asked) fault bad refuses = inr (unseen, unwatched, (fault, bad, refuses))
   operands_unread asked fault bad refuses = absurd bad
 
   pub refused_words : {fault : Fault} → IsRefused HasBadOperands (settings_of calling words) fault
       → RefusesFor calling told words fault new status
-      → FollowingEnds calling told_in told words looks shows seen watched new status
+      → FollowingEnds calling fed told_in told words looks shows seen watched new status
   refused_words (inr (inl is)) refuses = rw is (unseen, unwatched, refuses)
   refused_words {fault} (inr (inr (settings, is, bad))) refuses = rw is (operands_unread settings fault bad refuses)
   refused_words (inl is) refuses = unread_files (settings_of calling words) refl (rw is at refuses)
@@ -313,19 +313,19 @@ module _ (calling : Calling) (told_in told : Bool) (words : List (List ℕ)) (lo
 -- Which of both runs the words ask for.
 
 -- what words leave that are refused, whichever run they ask for
-pub program_refuses : (calling : Calling) (told_in told_watched : Bool) {told : Bool}
+pub program_refuses : (calling : Calling) (fed told_in told_watched : Bool) {told : Bool}
     (words : List (List ℕ)) (laid : ℕ → List ℕ → Option Content) {sources : List Source} (shows : ℕ → Snapshot)
     {seen : List Snapshot} {watched : List Watched} {fault : Fault} {new : List Slot} {status : ℕ} → IsFresh sources
     → seen ≡ [] → watched ≡ [] → IsRefused HasBadOperands (settings_of calling words) fault
     → RefusesFor calling told words fault new status
-    → ProgramEnds calling told_in told_watched told words laid sources sources shows seen watched new status
-program_refuses calling told_in told_watched {told} words laid {sources} shows {seen} {watched} {new} {status} fresh
-    unseen unwatched refused refuses = by (looks_at (settings_of calling words)) where
+    → ProgramEnds calling fed told_in told_watched told words laid sources sources shows seen watched new status
+program_refuses calling fed told_in told_watched {told} words laid {sources} shows {seen} {watched} {new} {status} fresh
+    unseen unwatched refused refuses = by (looks_at calling fed (settings_of calling words)) where
       by : (asked : Option ℕ)
-          → ProgramEndsAt calling told_in told_watched told words laid sources sources shows seen watched new
+          → ProgramEndsAt calling fed told_in told_watched told words laid sources sources shows seen watched new
           status asked
       by (Some looks) =
-          (refl, refused_words calling _ _ words looks shows _ _ _ _ unseen unwatched refused refuses)
+          (refl, refused_words calling fed _ _ words looks shows _ _ _ _ unseen unwatched refused refuses)
       by None =
           let all = refused_or_memory calling told_in told words laid sources new status fresh refused refuses in
           (unseen, unwatched, all)

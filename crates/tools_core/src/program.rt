@@ -12,8 +12,8 @@ use watch_core::Watch;
 use words_core::read_words_as;
 
 /// Runs what the words ask for, which are read once, as the program is called so: `tail` that follows files as `run_follow` does, in
-/// as many looks as its words say, and all else as `run` does. Where files are followed no input is opened, and else no file is
-/// watched. It returns the status.
+/// as many looks as its words say, and all else as `run` does. By its own name `tail` follows standard input, too, where the watch has it.
+/// Where files are followed no input is opened, and else no file is watched. It returns the status.
 pub fn run_words<I: Inputs, W: Watch, O: Outs>(
     alloc: Global,
     calling: Calling,
@@ -26,7 +26,7 @@ pub fn run_words<I: Inputs, W: Watch, O: Outs>(
     requires unseen { W.seen watch.old ≡ [] }
     requires unwatched { W.watched watch.old ≡ [] }
     requires outputs { O.slots outs.old ≡ streams }
-    ensures ends { ProgramEnds calling I.told W.told O.told (map (λ word. word.now) words.now)
+    ensures ends { ProgramEnds calling (W.fed watch.old) I.told W.told O.told (map (λ word. word.now) words.now)
         (I.laid inputs.old)
         (I.sources inputs.old) (I.sources inputs.new) (W.shows watch.old) (W.seen watch.new) (W.watched watch.new)
         (O.slots outs.new) result }
@@ -40,10 +40,12 @@ pub fn run_words<I: Inputs, W: Watch, O: Outs>(
 {
     match read_words_as(alloc, calling, words) {
         Ok(settings) => {
-            if settings.follows() {
+            let fed = settings.asks_input(calling) && watch.has_input();
+            if settings.follows(calling, fed) {
                 follow_asked(
                     alloc,
                     calling,
+                    fed,
                     words,
                     &settings,
                     watch,

@@ -351,8 +351,9 @@ pub fn letters_ask()
 {}
 
 /// What words mean doesn't depend on how the program is called, but for four things: a first word of `tail` that is a `+` and
-/// what may follow it, what may be followed with and without `--retry`, how patterns of `csplit` may be spelled and whether they
-/// may cut one line past the last, and what `tee` does once an output is broken where no option says it.
+/// what may follow it, what may be followed with and without `--retry` or beside standard input, how patterns of `csplit` may be
+/// spelled and whether they may cut one line past the last, and what `tee` does once an output is broken where no option says it. The
+/// same settings may be followed by one name alone: `followed_by` says so of standard input.
 #[tactic(auto, unfolding(crate::specs::Spelling::foremost, crate::specs::Table::tools))]
 pub fn callings_mean_the_same()
     ensures none { MeanTheSame [] }
@@ -428,8 +429,9 @@ pub fn ends_options_ask()
 
 /// What the options of `tail` for following ask for, and what is asked for without any: files that are opened once, or names,
 /// and by `cutters` these only with `--retry`; by its own name names while they lead to a file, or the first file to which each leads;
-/// as many looks as can be, or this many; pauses of a second at most, or of this many
-/// milliseconds; the end of this process (POSIX.1-2017, XCU tail; GNU coreutils manual).
+/// the file that is standard input, by `cutters` only where there is no other input, and never by name; as many looks as can be, or
+/// this many; pauses of a second at most, or of this many milliseconds; the end of this process (POSIX.1-2017, XCU tail; GNU coreutils
+/// manual).
 #[tactic(auto, unfolding(crate::specs::Spelling::foremost, crate::specs::Table::tools, seg_core::specs::Count::digits_of))]
 pub fn tail_options_ask()
     ensures nothing { (calling : Calling) → settings_of calling (codes "tail" ∷ []) ≡ Ok (Settings.Tail (record {
@@ -440,6 +442,16 @@ pub fn tail_options_ask()
       process = None;
     })) }
     ensures follows { FollowAsks (codes "-f" ∷ []) following }
+    ensures input { (calling : Calling) → settings_of calling (codes "tail" ∷ codes "-f" ∷ [])
+        ≡ Ok (Settings.Tail (record (unfollowed ten_of_input) { followed = Some Followed.Descriptor })) }
+    ensures among { settings_of Calling.Cutters (codes "tail" ∷ codes "-f" ∷ codes "f" ∷ codes "-" ∷ [])
+        ≡ Err (Fault.Usage BadFollow 0) }
+    ensures own_among { settings_of Calling.OwnName (codes "tail" ∷ codes "-f" ∷ codes "f" ∷ codes "-" ∷ [])
+        ≡ Ok (Settings.Tail (record (unfollowed (ten_lines (codes "f" ∷ codes "-" ∷ []))) {
+          followed = Some Followed.Descriptor;
+        })) }
+    ensures unnamed { (calling : Calling) → settings_of calling (codes "tail" ∷ codes "-F" ∷ codes "-" ∷ [])
+        ≡ Err (Fault.Usage BadFollow 0) }
     ensures long { FollowAsks (codes "--follow" ∷ []) following }
     ensures descriptor { FollowAsks (codes "--follow=descriptor" ∷ []) following }
     ensures names { FollowAsks (codes "-F" ∷ []) (record following { followed = Some Followed.Name }) }
