@@ -2,7 +2,7 @@
 use Rattle.std.proofs.{
   lemmas.{Grind.common_steps, Bool.{or_parts, cases_lt, false≢true}},
   Common.{◌≡◌, ℕ, ◌+◌, ◌<◌, ◌≤◌, max, zero, suc, Bool, true, false, List, [], ◌∷◌, ◌++◌, length, drop, Option, Some},
-  Common.{refl, sym, ◌∙◌, ap, subst, arith, append_assoc, ◌&&◌, cond, is_some, not, ◌||◌, inl, inr, rules},
+  Common.{refl, sym, ◌∙◌, ap, subst, arith, append_assoc, ◌&&◌, cond, is_some, not, ◌||◌, inl, inr, nat_lt, rules},
   Math.Seq.drop-append_seam as drop_front,
 }
 use Rattle.watch_core.specs.{Snapshot.{Snapshot, waiting}, Watched.Watched}
@@ -18,7 +18,7 @@ use Rattle.follow_core.specs.{
 }
 use Rattle.follow_core.proofs.{AgreeLemmas.grown, RunLemmas.text_is_gains, LookLemmas.{failed_sound, looks_give_text}}
 use Rattle.tools_core.{
-  specs.Promises.{OnlyGrows, Follows, IsBare, IsOfProgram, Run, showing},
+  specs.Promises.{AsksToFollow, OnlyGrows, Follows, IsBare, IsOfProgram, Run, showing},
   specs.Following.{is_name, pause_by, start_of},
   specs.Program.{ProgramEndsAt, looks_at},
   specs.Tasks.{is_plus},
@@ -230,7 +230,17 @@ tells_all run options followed name came file n follows bare named grows is =
 
 -- A run of the program is a run of one of both kinds, by what its words ask for.
 
-pub ends_at : (run : Run) {looks : Option ℕ} → IsOfProgram run → looks_at run.calling run.fed (settings_of run.calling run.words) ≡ looks
+or_true : (test : Bool) → (test || true) ≡ true
+or_true true = refl
+or_true false = refl
+
+pub asks_looks : {run : Run} {options : EndsAsked} {followed : Followed} {looks : ℕ}
+    → (read : AsksToFollow run options followed looks)
+    → looks_at run.calling run.fed (settings_of run.calling run.words) ≡ Some looks
+asks_looks {options = options} read = rw (read.1, read.2, or_true (nat_lt 1 (length options.names))) refl
+
+pub ends_at : (run : Run) {looks : Option ℕ} → IsOfProgram run
+    → looks_at run.calling run.fed (settings_of run.calling run.words) ≡ looks
     → ProgramEndsAt run.calling run.fed true true true run.words run.world.laid
     (source_of run.world.standard ∷ []) run.inputs run.shows run.seen run.watched run.outputs run.status looks
 ends_at run ends is = rw (← is) ends
