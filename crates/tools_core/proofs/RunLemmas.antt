@@ -2,7 +2,8 @@
 use Rattle.std.{
   specs.Option.unwrap_or,
   proofs.Common.{◌≡◌, ℕ, List, [], ◌∷◌, Option, Some, None, option_map, Result, Ok, Err, refl, ◌∙◌, ap, subst},
-  proofs.Common.{take, Bool, true, false, length, map, Bor, inl, inr, codes, arith, max},
+  proofs.Common.{take, Bool, true, false, length, map, Bor, inl, inr, codes, arith, max, ◌&&◌, if◌then◌else◌},
+  proofs.Math.Bool.and-false,
 }
 use Rattle.ports_core.specs.{
   declared.fault.{Fault.{Fault, TheVariants.{Memory, Usage, Write}}, UsageKind.{UsageKind, TheVariants.BadFollow}},
@@ -27,7 +28,7 @@ use Rattle.words_core.specs.{
   CsplitWords.{HasBadOperand, csplit_asked, CsplitAsked},
   EndsWords.{ends_asked, EndsAsked},
   SplitWords.split_asked,
-  TailWords.{followed_by, tail_asked},
+  TailWords.{followed_by, has_hyphen, tail_asked},
   TeeWords.{tee_asked},
   Given.Given,
   Refusal.{detail_of, word_at},
@@ -35,7 +36,7 @@ use Rattle.words_core.specs.{
   Value.then_check,
   Table.{ToolRow, row_named, tools},
   Words.{about_or, topic_in, work_for, program_asked, settings_for, settings_of, tool_settings, topic_named, CanRun},
-  Words.{HasBadOperands, looks},
+  Words.{HasBadOperands, asks_input, follows, looks},
 }
 use Rattle.words_core.proofs.LimitLemmas.{read-can}
 use Rattle.follow_core.{proofs.LookedLemmas.{ends_by, most_made}, specs.{Ending.{no_room as no_room_yet, shows_by}, declared.run.Method.{Method, TheVariants.{Descriptor, Name, PresentName, FirstFile}}}}
@@ -311,6 +312,55 @@ module _ (calling : Calling) (fed told_in told : Bool) (words : List (List ℕ))
   refused_words (inl is) refuses = unread_files (settings_of calling words) refl (rw is at refuses)
 
 -- Which of both runs the words ask for.
+
+-- Whether standard input can be watched matters only where that is asked.
+
+asked_alike : {asked : TailSettings} (fed : Bool) (followed : Option Followed) (hyphen : Bool)
+    → asked.followed ≡ followed → has_hyphen asked.ends.names ≡ hyphen
+    → followed_by OwnName (asks_input OwnName (Tail asked) && fed) asked ≡ followed_by OwnName fed asked
+asked_alike {asked} false followed hyphen is there = rw (and-false (asks_input OwnName (Tail asked))) refl
+asked_alike true None true is there = rw (is, there) refl
+asked_alike true None false is there = rw (is, there) refl
+asked_alike true (Some how) true is there = rw (is, there) refl
+asked_alike true (Some how) false is there = rw (is, there) refl
+
+followed_alike : (calling : Calling) (fed : Bool) (asked : TailSettings)
+    → followed_by calling (asks_input calling (Tail asked) && fed) asked ≡ followed_by calling fed asked
+followed_alike Cutters fed asked = refl
+followed_alike OwnName fed asked = asked_alike fed asked.followed (has_hyphen asked.ends.names) refl refl
+
+follows_alike : (calling : Calling) (fed : Bool) (settings : Settings)
+    → follows calling (asks_input calling settings && fed) settings ≡ follows calling fed settings
+follows_alike calling fed (Tail asked) = rw (followed_alike calling fed asked) refl
+follows_alike calling fed settings = refl
+
+ends_alike : {calling : Calling} {fed told_in told : Bool} {words : List (List ℕ)} {looks : ℕ} {shows : ℕ → Snapshot}
+    {seen : List Snapshot} {watched : List Watched} {new : List Slot} {status : ℕ} (settings : Settings)
+    → FollowingEndsAt calling (asks_input calling settings && fed) told_in told words looks shows seen watched new
+    status (Ok settings)
+    → FollowingEndsAt calling fed told_in told words looks shows seen watched new status (Ok settings)
+ends_alike {calling} {fed} (Tail asked) ends = rw (followed_alike calling fed asked) at ends
+ends_alike settings ends = ends
+
+-- in how many looks these settings ask to follow files
+pub looks_as : {calling : Calling} {fed is_fed test : Bool} {words : List (List ℕ)} {settings : Settings}
+    → settings_of calling words ≡ Ok settings → is_fed ≡ (asks_input calling settings && fed)
+    → follows calling is_fed settings ≡ test
+    → looks_at calling fed (settings_of calling words) ≡ (if test then Some (looks settings) else None)
+looks_as {calling} {fed} {settings = settings} read is so =
+    rw (read, ← follows_alike calling fed settings, ← is, so) refl
+
+-- what is left where they do
+pub program_follows : {calling : Calling} {fed is_fed told_in told_watched told : Bool} {words : List (List ℕ)}
+    {laid : ℕ → List ℕ → Option Content} {sources : List Source} {shows : ℕ → Snapshot} {seen : List Snapshot}
+    {watched : List Watched} {new : List Slot} {status : ℕ} (settings : Settings)
+    → settings_of calling words ≡ Ok settings → is_fed ≡ (asks_input calling settings && fed)
+    → follows calling is_fed settings ≡ true
+    → FollowingEndsAt calling is_fed told_watched told words (looks settings) shows seen watched new status
+    (Ok settings)
+    → ProgramEnds calling fed told_in told_watched told words laid sources sources shows seen watched new status
+program_follows settings read is can ends =
+    rw (looks_as read is can, read) (refl, ends_alike settings (rw is at ends))
 
 -- what words leave that are refused, whichever run they ask for
 pub program_refuses : (calling : Calling) (fed told_in told_watched : Bool) {told : Bool}

@@ -1,15 +1,16 @@
 //! The whole program: which of both runs its words ask for.
-ghost use Rattle.std.specs.Prelude.{◌≡◌, ◌≤◌, [], false, length, map};
+ghost use Rattle.std.specs.Prelude.{◌≡◌, ◌≤◌, ◌&&◌, [], false, length, map};
 ghost use Rattle.ports_core.specs.{Slot.streams, Source.{source_at, IsFresh}, Inputs.{AsksAtMost, largest_piece}};
 ghost use Rattle.run_core.specs.{Input.has_dash, Reading.count_after};
 ghost use Rattle.tools_core.specs.{Outcome.names_read, Program.ProgramEnds};
+ghost use Rattle.words_core.specs.Words.{asks_input};
 
 use crate::follow::follow_asked;
 use crate::run::{refuse_words, run_tool};
 use ports_core::{Calling, Inputs, Outs};
 use std::alloc::Global;
 use watch_core::Watch;
-use words_core::read_words_as;
+use words_core::{Settings, read_words_as};
 
 /// Runs what the words ask for, which are read once, as the program is called so: `tail` that follows files as `run_follow` does, in
 /// as many looks as its words say, and all else as `run` does. By its own name `tail` follows standard input, too, where the watch has it.
@@ -40,7 +41,7 @@ pub fn run_words<I: Inputs, W: Watch, O: Outs>(
 {
     match read_words_as(alloc, calling, words) {
         Ok(settings) => {
-            let fed = settings.asks_input(calling) && watch.has_input();
+            let fed = is_fed(calling, &settings, watch);
             if settings.follows(calling, fed) {
                 follow_asked(
                     alloc,
@@ -58,4 +59,11 @@ pub fn run_words<I: Inputs, W: Watch, O: Outs>(
         }
         Err(fault) => refuse_words(alloc, calling, words, &fault, outs),
     }
+}
+
+/// Whether standard input is a file that can be watched, where that matters.
+fn is_fed<W: Watch>(calling: Calling, settings: &Settings<'_>, watch: &W) -> bool
+    ensures { result ≡ (asks_input calling settings.now && W.fed watch.now) }
+{
+    settings.asks_input(calling) && watch.has_input()
 }
