@@ -203,12 +203,12 @@ IsHead run options sign n = Does run (Head (counted options sign n))
 abbrev pub IsTail : Run → EndsAsked → Sign → ℕ → Type 0
 IsTail run options sign n = (followed : Option Followed) × (looks : ℕ) × (pause : ℕ) × (process : Option ℕ)
     × Does run (Tail (record {
-  ends = counted options sign n;
-  followed = followed;
-  looks = looks;
-  pause = pause;
-  process = process;
-}))
+      ends = counted options sign n;
+      followed = followed;
+      looks = looks;
+      pause = pause;
+      process = process;
+    }))
 
 -- no header is written: an option says so, or there is one input and none asks for headers
 abbrev pub IsBare : EndsAsked → Type 0

@@ -121,13 +121,13 @@ same_tee (Err fault) is = refl
 
 -- what is followed is the same, except where `cutters` refuses it
 
-own_file : (how : Followed) (names : List (List ℕ)) → (by_file how OwnName names ≡ by_file how Cutters names)
-    ⊎ (by_file how Cutters names ≡ bad_follow)
-own_file how [] = inl refl
-own_file how (name ∷ []) = inl refl
-own_file how (name ∷ next ∷ names) = either (has_hyphen (name ∷ next ∷ names)) where
-  either : (some : Bool) → (Ok (Some how) ≡ (if some then bad_follow else Ok (Some how)))
-      ⊎ ((if some then bad_follow else Ok (Some how)) ≡ bad_follow)
+own_file : (names : List (List ℕ)) → (by_file OwnName names ≡ by_file Cutters names)
+    ⊎ (by_file Cutters names ≡ bad_follow)
+own_file [] = inl refl
+own_file (name ∷ []) = inl refl
+own_file (name ∷ next ∷ names) = either (has_hyphen (name ∷ next ∷ names)) where
+  either : (some : Bool) → (Ok (Some Descriptor) ≡ (if some then bad_follow else Ok (Some Descriptor)))
+      ⊎ ((if some then bad_follow else Ok (Some Descriptor)) ≡ bad_follow)
   either true = inr refl
   either false = inl refl
 
@@ -136,7 +136,7 @@ own_follow : (followed : Option Followed) (retry : Bool) (names : List (List ℕ
     ⊎ (followed_in followed retry Cutters names ≡ bad_follow)
 own_follow None false names = inl refl
 own_follow None true names = inr refl
-own_follow (Some Descriptor) false names = own_file Descriptor names
+own_follow (Some Descriptor) false names = own_file names
 own_follow (Some Descriptor) true names = inr refl
 own_follow (Some Name) true names = inl refl
 own_follow (Some Name) false names = inr refl

@@ -47,12 +47,12 @@ has_hyphen names = list_any (λ name. bytes_eq name (codes "-")) names
 abbrev pub bad_follow : {A : Type 0} → Result A Fault
 bad_follow = Err (Usage BadFollow 0)
 
--- Standard input has no name that could be followed. By `cutters` it may be the only input whose file is to be followed;
--- by its own name `tail` takes it among others, too.
+-- Files may be followed, but by `cutters` not if standard input is one of several. Names may be if standard input, which
+-- has none, isn't among them.
 
-abbrev pub by_file : Followed → Calling → List (List ℕ) → Result (Option Followed) Fault
-by_file how Cutters (name ∷ next ∷ names) = if has_hyphen (name ∷ next ∷ names) then bad_follow else Ok (Some how)
-by_file how calling names = Ok (Some how)
+abbrev pub by_file : Calling → List (List ℕ) → Result (Option Followed) Fault
+by_file Cutters (name ∷ next ∷ names) = if has_hyphen (name ∷ next ∷ names) then bad_follow else Ok (Some Descriptor)
+by_file calling names = Ok (Some Descriptor)
 
 abbrev pub by_name : Followed → List (List ℕ) → Result (Option Followed) Fault
 by_name how names = if has_hyphen names then bad_follow else Ok (Some how)
@@ -63,8 +63,8 @@ by_name how names = if has_hyphen names then bad_follow else Ok (Some how)
 abbrev pub followed_in : Option Followed → (retry : Bool) → Calling → List (List ℕ) → Result (Option Followed) Fault
 followed_in None false calling names = Ok None
 followed_in None true OwnName names = Ok None
-followed_in (Some Descriptor) false calling names = by_file Descriptor calling names
-followed_in (Some Descriptor) true OwnName names = by_file FirstFile OwnName names
+followed_in (Some Descriptor) false calling names = by_file calling names
+followed_in (Some Descriptor) true OwnName names = Ok (Some FirstFile)
 followed_in (Some Name) true calling names = by_name Name names
 followed_in (Some Name) false OwnName names = by_name PresentName names
 followed_in followed retry calling names = bad_follow

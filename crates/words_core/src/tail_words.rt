@@ -122,11 +122,9 @@ fn check_following(
 {
     match (calling, followed, retry) {
         (_, None, false) | (Calling::OwnName, None, true) => Ok(None),
-        (_, Some(Followed::Descriptor), false) => follow_files(Followed::Descriptor, calling, names),
+        (_, Some(Followed::Descriptor), false) => follow_files(calling, names),
         (_, Some(Followed::Name), true) => follow_names(Followed::Name, names),
-        (Calling::OwnName, Some(Followed::Descriptor), true) => {
-            follow_files(Followed::FirstFile, calling, names)
-        }
+        (Calling::OwnName, Some(Followed::Descriptor), true) => Ok(Some(Followed::FirstFile)),
         (Calling::OwnName, Some(Followed::Name), false) => {
             follow_names(Followed::PresentName, names)
         }
@@ -134,13 +132,13 @@ fn check_following(
     }
 }
 
-/// Follows files so; by `cutters` standard input can't be one of several.
-fn follow_files(how: Followed, calling: Calling, names: &[&str]) -> Result<Option<Followed>, Fault>
-    ensures { result ≡ by_file how calling (map (λ name. name.now) names.now) }
+/// Follows files. By `cutters` standard input can't be one of several.
+fn follow_files(calling: Calling, names: &[&str]) -> Result<Option<Followed>, Fault>
+    ensures { result ≡ by_file calling (map (λ name. name.now) names.now) }
 {
     match (calling, names) {
         (Calling::Cutters, [_, _, ..]) if has_hyphen(names) => Err(BAD_FOLLOW),
-        _ => Ok(Some(how)),
+        _ => Ok(Some(Followed::Descriptor)),
     }
 }
 
