@@ -3,7 +3,7 @@ use Rattle.std.proofs.{
   lemmas.{Grind.common_steps, Bool.{or_parts, cases_lt, false≢true}},
   Common.{◌≡◌, ℕ, ◌+◌, ◌<◌, ◌≤◌, max, zero, suc, Bool, true, false, List, [], ◌∷◌, ◌++◌, length, drop, Option, Some},
   Common.{refl, sym, ◌∙◌, ap, subst, arith, append_assoc, ◌&&◌, cond, is_some, not, ◌||◌, inl, inr, nat_lt, rules},
-  Math.Seq.drop-append_seam as drop_front,
+  Math.{Bool.or-true, Seq.drop-append_seam as drop_front},
 }
 use Rattle.watch_core.specs.{Snapshot.{Snapshot, waiting}, Watched.Watched}
 use Rattle.follow_core.specs.{
@@ -230,14 +230,10 @@ tells_all run options followed name came file n follows bare named grows is =
 
 -- A run of the program is a run of one of both kinds, by what its words ask for.
 
-or_true : (test : Bool) → (test || true) ≡ true
-or_true true = refl
-or_true false = refl
-
 pub asks_looks : {run : Run} {options : EndsAsked} {followed : Followed} {looks : ℕ}
     → (read : AsksToFollow run options followed looks)
     → looks_at run.calling run.fed (settings_of run.calling run.words) ≡ Some looks
-asks_looks {options = options} read = rw (read.1, read.2, or_true (nat_lt 1 (length options.names))) refl
+asks_looks {options = options} read = rw (read.1, read.2, or-true (nat_lt 1 (length options.names))) refl
 
 pub ends_at : (run : Run) {looks : Option ℕ} → IsOfProgram run
     → looks_at run.calling run.fed (settings_of run.calling run.words) ≡ looks
