@@ -121,8 +121,8 @@ same_tee (Err fault) is = refl
 
 -- what is followed is the same, except where `cutters` refuses it
 
-own_file : (names : List (List ℕ)) → (by_file OwnName names ≡ by_file Cutters names)
-    ⊎ (by_file Cutters names ≡ bad_follow)
+own_file : (names : List (List ℕ)) → (by_file names OwnName ≡ by_file names Cutters)
+    ⊎ (by_file names Cutters ≡ bad_follow)
 own_file [] = inl refl
 own_file (name ∷ []) = inl refl
 own_file (name ∷ next ∷ names) = either (has_hyphen (name ∷ next ∷ names)) where

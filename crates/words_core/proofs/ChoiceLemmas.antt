@@ -19,7 +19,7 @@ use Rattle.words_core.specs.{
   EndsWords.{EndsAsked, ends_by, names_asked, ten_lines},
   SplitWords.{SplitAsked, delim_by, is_way, no_options, only_way, separator_in, split_by, thousand_lines, way_in},
   SplitWords.way_of,
-  TailWords.{retry_by, tail_by, tail_of, unfollowed},
+  TailWords.{retry_by, tail_by, unfollowed},
   TeeWords.{TeeAsked, fresh, tee_by},
   Words.{about_or, or_later, settings_for, topic_in, topic_of, work_for},
   Laws.{LastDecides, amount_of, appends, counts, counts_looks, counts_pause, names_process, drops_sizes},

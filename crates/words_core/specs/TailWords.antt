@@ -1,6 +1,6 @@
 -- What options and operands ask of `tail`, or what is wrong with them.
 use Rattle.std.specs.{
-  Prelude.{ℕ, ◌-◌, ◌^◌, Bool, true, false, List, [], ◌∷◌, codes, Option, Some, None, Result, Ok, Err, if◌then◌else◌},
+  Prelude.{ℕ, ◌-◌, ◌^◌, Bool, true, false, List, ◌∷◌, codes, Option, Some, None, Result, Ok, Err, if◌then◌else◌},
   Prelude.bytes_eq,
   List.list_any,
 }
@@ -50,9 +50,9 @@ bad_follow = Err (Usage BadFollow 0)
 -- Files may be followed, but by `cutters` not if standard input is one of several. Names may be if standard input, which
 -- has none, isn't among them.
 
-abbrev pub by_file : Calling → List (List ℕ) → Result (Option Followed) Fault
-by_file Cutters (name ∷ next ∷ names) = if has_hyphen (name ∷ next ∷ names) then bad_follow else Ok (Some Descriptor)
-by_file calling names = Ok (Some Descriptor)
+abbrev pub by_file : List (List ℕ) → Calling → Result (Option Followed) Fault
+by_file (name ∷ next ∷ names) Cutters = if has_hyphen (name ∷ next ∷ names) then bad_follow else Ok (Some Descriptor)
+by_file names calling = Ok (Some Descriptor)
 
 abbrev pub by_name : Followed → List (List ℕ) → Result (Option Followed) Fault
 by_name how names = if has_hyphen names then bad_follow else Ok (Some how)
@@ -63,7 +63,7 @@ by_name how names = if has_hyphen names then bad_follow else Ok (Some how)
 abbrev pub followed_in : Option Followed → (retry : Bool) → Calling → List (List ℕ) → Result (Option Followed) Fault
 followed_in None false calling names = Ok None
 followed_in None true OwnName names = Ok None
-followed_in (Some Descriptor) false calling names = by_file calling names
+followed_in (Some Descriptor) false calling names = by_file names calling
 followed_in (Some Descriptor) true OwnName names = Ok (Some FirstFile)
 followed_in (Some Name) true calling names = by_name Name names
 followed_in (Some Name) false OwnName names = by_name PresentName names

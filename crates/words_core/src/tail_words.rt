@@ -122,7 +122,7 @@ fn check_following(
 {
     match (calling, followed, retry) {
         (_, None, false) | (Calling::OwnName, None, true) => Ok(None),
-        (_, Some(Followed::Descriptor), false) => follow_files(calling, names),
+        (_, Some(Followed::Descriptor), false) => follow_files(names, calling),
         (_, Some(Followed::Name), true) => follow_names(Followed::Name, names),
         (Calling::OwnName, Some(Followed::Descriptor), true) => Ok(Some(Followed::FirstFile)),
         (Calling::OwnName, Some(Followed::Name), false) => {
@@ -133,11 +133,11 @@ fn check_following(
 }
 
 /// Follows files. By `cutters` standard input can't be one of several.
-fn follow_files(calling: Calling, names: &[&str]) -> Result<Option<Followed>, Fault>
-    ensures { result ≡ by_file calling (map (λ name. name.now) names.now) }
+fn follow_files(names: &[&str], calling: Calling) -> Result<Option<Followed>, Fault>
+    ensures { result ≡ by_file (map (λ name. name.now) names.now) calling }
 {
-    match (calling, names) {
-        (Calling::Cutters, [_, _, ..]) if has_hyphen(names) => Err(BAD_FOLLOW),
+    match (names, calling) {
+        ([_, _, ..], Calling::Cutters) if has_hyphen(names) => Err(BAD_FOLLOW),
         _ => Ok(Some(Followed::Descriptor)),
     }
 }
