@@ -230,10 +230,10 @@ tells_all run options followed name came file n follows bare named grows is =
 
 -- A run of the program is a run of one of both kinds, by what its words ask for.
 
-pub asks_looks : {run : Run} {options : EndsAsked} {followed : Followed} {looks : ℕ}
+pub asks_looks : (run : Run) {options : EndsAsked} {followed : Followed} {looks : ℕ}
     → (read : AsksToFollow run options followed looks)
     → looks_at run.calling run.fed (settings_of run.calling run.words) ≡ Some looks
-asks_looks {options = options} read = rw (read.1, read.2, or-true (nat_lt 1 (length options.names))) refl
+asks_looks run {options = options} read = rw (read.1, read.2, or-true (nat_lt 1 (length options.names))) refl
 
 pub ends_at : (run : Run) {looks : Option ℕ} → IsOfProgram run
     → looks_at run.calling run.fed (settings_of run.calling run.words) ≡ looks

@@ -315,52 +315,53 @@ module _ (calling : Calling) (fed told_in told : Bool) (words : List (List ℕ))
 
 -- Whether standard input can be watched matters only where that is asked.
 
-asked_alike : {asked : TailSettings} (fed : Bool) (followed : Option Followed) (hyphen : Bool)
+asked_alike : (asked : TailSettings) (fed : Bool) (followed : Option Followed) (hyphen : Bool)
     → asked.followed ≡ followed → has_hyphen asked.ends.names ≡ hyphen
     → followed_by OwnName (asks_input OwnName (Tail asked) && fed) asked ≡ followed_by OwnName fed asked
-asked_alike {asked} false followed hyphen is there = rw (and-false (asks_input OwnName (Tail asked))) refl
-asked_alike true None true is there = rw (is, there) refl
-asked_alike true None false is there = rw (is, there) refl
-asked_alike true (Some how) true is there = rw (is, there) refl
-asked_alike true (Some how) false is there = rw (is, there) refl
+asked_alike asked false followed hyphen is there = rw (and-false (asks_input OwnName (Tail asked))) refl
+asked_alike asked true None true is there = rw (is, there) refl
+asked_alike asked true None false is there = rw (is, there) refl
+asked_alike asked true (Some how) true is there = rw (is, there) refl
+asked_alike asked true (Some how) false is there = rw (is, there, there) refl
 
 followed_alike : (calling : Calling) (fed : Bool) (asked : TailSettings)
     → followed_by calling (asks_input calling (Tail asked) && fed) asked ≡ followed_by calling fed asked
 followed_alike Cutters fed asked = refl
-followed_alike OwnName fed asked = asked_alike fed asked.followed (has_hyphen asked.ends.names) refl refl
+followed_alike OwnName fed asked = asked_alike asked fed asked.followed (has_hyphen asked.ends.names) refl refl
 
 follows_alike : (calling : Calling) (fed : Bool) (settings : Settings)
     → follows calling (asks_input calling settings && fed) settings ≡ follows calling fed settings
 follows_alike calling fed (Tail asked) = rw (followed_alike calling fed asked) refl
 follows_alike calling fed settings = refl
 
-ends_alike : {calling : Calling} {fed told_in told : Bool} {words : List (List ℕ)} {looks : ℕ} {shows : ℕ → Snapshot}
-    {seen : List Snapshot} {watched : List Watched} {new : List Slot} {status : ℕ} (settings : Settings)
-    → FollowingEndsAt calling (asks_input calling settings && fed) told_in told words looks shows seen watched new
-    status (Ok settings)
-    → FollowingEndsAt calling fed told_in told words looks shows seen watched new status (Ok settings)
-ends_alike {calling} {fed} (Tail asked) ends = rw (followed_alike calling fed asked) at ends
-ends_alike settings ends = ends
-
 -- in how many looks these settings ask to follow files
-pub looks_as : {calling : Calling} {fed is_fed test : Bool} {words : List (List ℕ)} {settings : Settings}
+pub looks_as : (calling : Calling) (fed : Bool) {is_fed test : Bool} (words : List (List ℕ)) (settings : Settings)
     → settings_of calling words ≡ Ok settings → is_fed ≡ (asks_input calling settings && fed)
     → follows calling is_fed settings ≡ test
     → looks_at calling fed (settings_of calling words) ≡ (if test then Some (looks settings) else None)
-looks_as {calling} {fed} {settings = settings} read is so =
-    rw (read, ← follows_alike calling fed settings, ← is, so) refl
+looks_as calling fed words settings read is so = rw (read, ← follows_alike calling fed settings, ← is, so) refl
 
--- what is left where they do
-pub program_follows : {calling : Calling} {fed is_fed told_in told_watched told : Bool} {words : List (List ℕ)}
-    {laid : ℕ → List ℕ → Option Content} {sources : List Source} {shows : ℕ → Snapshot} {seen : List Snapshot}
-    {watched : List Watched} {new : List Slot} {status : ℕ} (settings : Settings)
-    → settings_of calling words ≡ Ok settings → is_fed ≡ (asks_input calling settings && fed)
-    → follows calling is_fed settings ≡ true
-    → FollowingEndsAt calling is_fed told_watched told words (looks settings) shows seen watched new status
-    (Ok settings)
-    → ProgramEnds calling fed told_in told_watched told words laid sources sources shows seen watched new status
-program_follows settings read is can ends =
-    rw (looks_as read is can, read) (refl, ends_alike settings (rw is at ends))
+module _ (calling : Calling) (fed told_in told_watched told : Bool) (words : List (List ℕ)) (shows : ℕ → Snapshot)
+    (seen : List Snapshot) (watched : List Watched) (new : List Slot) (status : ℕ) where
+  abbrev pub FollowsSo : Bool → ℕ → Settings → Type 0
+  FollowsSo is_fed looks settings =
+      FollowingEndsAt calling is_fed told_watched told words looks shows seen watched new status (Ok settings)
+
+  ends_alike : (settings : Settings) (looks : ℕ) → FollowsSo (asks_input calling settings && fed) looks settings
+      → FollowsSo fed looks settings
+  ends_alike (Tail asked) looks ends = rw (followed_alike calling fed asked) at ends
+  ends_alike settings looks ends = ends
+
+  -- what is left where they do
+  pub program_follows : (laid : ℕ → List ℕ → Option Content) (sources : List Source) {is_fed : Bool} {count : ℕ}
+      (settings : Settings)
+      → settings_of calling words ≡ Ok settings → is_fed ≡ (asks_input calling settings && fed)
+      → follows calling is_fed settings ≡ true → count ≡ looks settings → FollowsSo is_fed count settings
+      → ProgramEnds calling fed told_in told_watched told words laid sources sources shows seen watched new status
+  program_follows laid sources {count} settings read is can often ends =
+      let so = subst (λ those. FollowsSo those count settings) is ends in
+      let as_often = subst (λ n. FollowsSo (asks_input calling settings && fed) n settings) often so in
+      rw (looks_as calling fed words settings read is can, read) (refl, ends_alike settings (looks settings) as_often)
 
 -- what words leave that are refused, whichever run they ask for
 pub program_refuses : (calling : Calling) (fed told_in told_watched : Bool) {told : Bool}

@@ -1,4 +1,4 @@
-use Rattle.std.proofs.Common.{map}
+use Rattle.std.proofs.Common.{false, map}
 use Rattle.ports_core.specs.declared.calling.Calling.TheVariants.{Cutters}
 use Rattle.tools_core.proofs.RunLemmas.{refused_words}
 use Rattle.tools_core.proofs.follow.run_follow.Goals as goal

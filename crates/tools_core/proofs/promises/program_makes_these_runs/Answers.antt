@@ -6,6 +6,6 @@ pub returns : goal.returns
 returns c = record {
   runs = λ run asked ends read none. grind (arith, common_steps, ends_at);
   followed = λ run options followed looks ends read well.
-      let (same, done) = ends_at run ends (asks_looks read) in
+      let (same, done) = ends_at run ends (asks_looks run read) in
       (record { looks = looks; read = read; ends = done; well = well }, same);
 }
