@@ -15,11 +15,12 @@ use Rattle.ports_core.specs.{
 use Rattle.ports_core.proofs.{MessageLemmas.printed_open, WriteLemmas.{broke_later, none_written, written_both}}
 use Rattle.follow_core.specs.{
   Sharing.{CameTo, WroteBy},
-  Telling.{IsFailure, SaysFailure, Tells, TellsAll, failure_text, tail_by},
+  Telling.{IsFailure, SaysFailure, Tells, TellsAll, failure_message, failure_text, tail_by},
   Followed.{has_header, is_empty, is_last},
   Printing.{PrinterState, Short, broke as short_broke, no_room},
   inner.Giving.{IsFront, Came, Puts, printer_under, text_under},
   Notice.notice_of,
+  Title.title,
   declared.notice.Notice.Notice,
 }
 use Rattle.ports_core.specs.declared.fault.Fault.TheVariants as fault
@@ -41,13 +42,13 @@ unreasoned Cutters why is = rw (alike (is_endless why) (codes "memory exhausted"
 -- of a name that can't be read, or opened
 pub failure_said : {told : Bool} {calling : Calling} {why : Reason} (read : Bool) (place : ℕ) (name : List ℕ)
     {old new : List Slot}
-    → SaysOn told (tail_by calling) why (message_of (if read then fault.Read place else fault.Open place) name) old new
+    → SaysOn told (tail_by calling) why (failure_message (if read then fault.Read place else fault.Open place) name) old new
     → OnError (Tells told calling (failure_text (if read then fault.Read place else fault.Open place) name)) old new
 failure_said {calling} {why} read place name says = λ output error others are.
     let said = says output error others are in
     (said.0, record { said = said.1.said; is = inr (name, by read said.1.is); printed = said.1.printed }, said.2) where
       by : (read : Bool) {text : List ℕ} → (text ≡ line_of (tail_by calling) why
-          (message_of (if read then fault.Read place else fault.Open place) name))
+          (failure_message (if read then fault.Read place else fault.Open place) name))
           ⊎ (text ≡ line_of (tail_by calling) why (message_of fault.Memory []))
           → let line = failure_text (if read then fault.Read place else fault.Open place) name in SaysFailure calling
           (fault.Open 0) name line text ⊎ SaysFailure calling (fault.Read 0) name line text
@@ -186,7 +187,7 @@ front_same {X} {given} is = search rules
 pub puts : {told opened : Bool} {printer : PrinterState} {after : PrinterState} {name bytes : List ℕ}
     {old mid new : List Slot} {due : Bool} (over : Option Fault)
     → due ≡ has_header printer.headers printer.last opened name bytes
-    → mid ≡ with_written 0 (told_of told (if due then header_of name (is_none printer.last) else [])) old
+    → mid ≡ with_written 0 (told_of told (if due then header_of (title name) (is_none printer.last) else [])) old
     → CameTo told bytes mid new over
     → after ≡ record printer { last = if due then Some name else printer.last }
     → Puts told opened printer name bytes old after new over

@@ -22,7 +22,7 @@ use Rattle.follow_core.specs.{
   Share.{Due, Share, due_later, failure_line, failure_of, given_by, is_unopened, led_before, missing_share},
   Share.{no_share, share_by},
   Printing.PrinterState,
-  Telling.{Tells, failure_text, tail_by},
+  Telling.{Tells, failure_message, failure_text, tail_by},
 }
 use Rattle.follow_core.proofs.{
   RunLemmas.last_from-append,
@@ -50,7 +50,6 @@ use Rattle.watch_core.{
 use Rattle.ports_core.{
   specs.{
     Slot.{Slot, changed_at},
-    Text.message_of,
     Message.{OnError, SaysOn},
     declared.{reason.Reason.Reason, fault.Fault.{Fault, TheVariants.Open}},
   },
@@ -120,7 +119,7 @@ module _ {told_in told : Bool} {ways : Ways} {before : List Look} {snapshot : Sn
       (is_first before) printer name (due.came ++ due.led) (given_by due snapshot opened fate) old after mid
       (Some (Broke why))
       → (is_first before ≡ true → (file : ℕ) × Found snapshot name (opens_as (Some file)))
-      → ((reason : Reason) × SaysOn told (tail_by printer.calling) reason (message_of why name) mid new)
+      → ((reason : Reason) × SaysOn told (tail_by printer.calling) reason (failure_message why name) mid new)
       → Looked told_in told ways before snapshot name printer old after new true fate
   looked_broke place {new} {why} fate broke fault openly ends there says =
       let line = fault_line place name fate broke in record {
@@ -314,7 +313,7 @@ pub first_missing : {told_in told : Bool} {ways : Ways} {snapshot : Snapshot} {p
     {printer : PrinterState} {slots slots_new : List Slot} {old new : List Watched} {is_there : Bool} {reason : Reason}
     → Reopens told_in snapshot old new place is_there → is_there ≡ false → (watched_at old place).name ≡ name
     → IsTrue (is_watchable old place) → SaysOn told (tail_by printer.calling) reason
-    (message_of (Open place) name) slots slots_new
+    (failure_message (Open place) name) slots slots_new
     → Visits told_in told ways snapshot place name New old printer slots
     (if ways.by_name then Followed 0 else Left) new printer slots_new (Ok true)
 first_missing {told_in} {told} {ways} {snapshot} {place} {name} {printer} {slots} {slots_new} {old} {new} reopens gone named can says =

@@ -4,7 +4,7 @@ use Rattle.std.specs.{
   Prelude.{bytes_eq, if◌then◌else◌},
 }
 use Rattle.ports_core.specs.Text.{header_of}
-use Rattle.follow_core.specs.{Look.{Ways, Look}, Share.{Share, bytes_of, lines_of, shares_of}}
+use Rattle.follow_core.specs.{Look.{Ways, Look}, Share.{Share, bytes_of, lines_of, shares_of}, Title.title}
 
 abbrev pub is_empty : List ℕ → Bool
 is_empty [] = true
@@ -23,7 +23,7 @@ has_header headers last is_opened name bytes = headers
 
 abbrev pub text_with : Bool → Option (List ℕ) → (is_opened : Bool) → (name bytes : List ℕ) → List ℕ
 text_with headers last is_opened name bytes =
-    (if has_header headers last is_opened name bytes then header_of name (is_none last) else []) ++ bytes
+    (if has_header headers last is_opened name bytes then header_of (title name) (is_none last) else []) ++ bytes
 
 -- whose the last header is after that
 abbrev pub last_with : Bool → Option (List ℕ) → (is_opened : Bool) → (name bytes : List ℕ) → Option (List ℕ)

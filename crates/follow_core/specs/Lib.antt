@@ -1,6 +1,7 @@
 pub mod Version
 pub mod Run
 pub mod Gain
+pub mod Title
 pub mod Notice
 pub mod Event
 pub mod Look

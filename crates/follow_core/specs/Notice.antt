@@ -5,6 +5,7 @@ use Rattle.follow_core.specs.{
   declared.notice.Notice.{Notice, TheVariants.{Truncated, Replaced, Inaccessible, Appeared}},
   Version.{Entry, version, gap},
   Run.goes_on,
+  Title.title,
 }
 
 abbrev pub notice_words : Notice → List ℕ
@@ -19,7 +20,7 @@ line_of words name = tool_name Tail ++ codes ": " ++ in_quotes name ++ codes ": 
 
 -- the line that tells it
 abbrev pub notice_of : Notice → List ℕ → List ℕ
-notice_of notice name = line_of (notice_words notice) name
+notice_of notice name = line_of (notice_words notice) (title name)
 
 -- What is told between two neighbours: nothing within a run and between gaps; where another run follows, whether it is
 -- of the same file.

@@ -2,21 +2,26 @@
 use Rattle.std.specs.Prelude.{◌≡◌, ◌⊎◌, ℕ, Bool, List, [], ◌∷◌}
 use Rattle.ports_core.specs.{
   Slot.Slot,
-  Text.{line_of, message_of},
+  Text.{Message, line_of, message_of},
   declared.calling.{Calling.{Calling, TheVariants.Cutters}, Speaker.Speaker},
   declared.fault.Fault.{Fault, TheVariants.{Memory, Open, Read}},
   declared.reason.Reason.{Reason, TheVariants.Other},
   declared.tool.Tool.TheVariants.Tail,
   Message.Prints,
 }
+use Rattle.follow_core.specs.Title.{title}
 
 -- `tail`, called so
 abbrev pub tail_by : Calling → Speaker
 tail_by calling = record { calling = calling; tool = Tail }
 
--- the line that tells that a call on a name failed, without a reason
+-- the message that tells that a call on a name failed
+abbrev pub failure_message : Fault → List ℕ → Message
+failure_message fault name = message_of fault (title name)
+
+-- its line, without a reason
 abbrev pub failure_text : Fault → List ℕ → List ℕ
-failure_text fault name = line_of (tail_by Cutters) Other (message_of fault name)
+failure_text fault name = line_of (tail_by Cutters) Other (failure_message fault name)
 
 abbrev pub IsFailure : List ℕ → Type 0
 IsFailure line = (name : List ℕ) × ((line ≡ failure_text (Open 0) name) ⊎ (line ≡ failure_text (Read 0) name))
@@ -25,7 +30,7 @@ IsFailure line = (name : List ℕ) × ((line ≡ failure_text (Open 0) name) ⊎
 -- by its own name; where memory for the message is exhausted, the line that says so stands in its place.
 abbrev pub SaysFailure : Calling → Fault → (name line said : List ℕ) → Type 0
 SaysFailure calling fault name line said = (line ≡ failure_text fault name)
-    × (((why : Reason) × (said ≡ line_of (tail_by calling) why (message_of fault name)))
+    × (((why : Reason) × (said ≡ line_of (tail_by calling) why (failure_message fault name)))
     ⊎ (said ≡ failure_text Memory []))
 
 -- a failure is said so, and any other line as it is, which has no other in its place

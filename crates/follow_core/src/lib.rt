@@ -8,6 +8,7 @@ mod notice;
 mod printer;
 mod run;
 mod start;
+mod title;
 mod visitor;
 
 pub use follow::{Follow, Phase};

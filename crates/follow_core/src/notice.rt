@@ -1,6 +1,7 @@
 ghost use Rattle.std.specs.Prelude.{◌≡◌, IfOk, IfErr};
 ghost use Rattle.follow_core.specs.Notice.{line_of, notice_of, notice_words};
 
+use crate::title::title;
 use ports_core::{Fault, Tool, write_quoted};
 use std::alloc::{AllocError, Global};
 
@@ -40,7 +41,7 @@ pub fn notice_line(alloc: Global, notice: Notice, name: &str) -> Result<Vec<u8>,
     ensures ok { IfOk result (λ text. text.items ≡ notice_of notice name.now) }
     ensures err { IfErr result (λ fault. fault ≡ Fault.Memory) }
 {
-    Ok(written(alloc, notice.words(), name)?)
+    Ok(written(alloc, notice.words(), title(name))?)
 }
 
 fn written(alloc: Global, words: &str, name: &str) -> Result<Vec<u8>, AllocError>

@@ -7,8 +7,10 @@ ghost use Rattle.follow_core.specs.{
   Printing.{PrinterState, Short, fresh_printer},
   inner.Giving.{Puts, over_by, over_in},
   Followed.{has_header, is_last},
+  Title.title,
 };
 
+use crate::title::title;
 use ports_core::{Calling, Fault, Outs, header, write_whole};
 use std::alloc::Global;
 use std::marker::Model;
@@ -95,19 +97,19 @@ impl Printer {
     fn show<O: Outs>(&mut self, due: bool, name: &str, outs: &mut O) -> Result<(), Fault>
         requires { IsTrue (is_writable (O.slots outs.old) 0) }
         ensures out { OnOk result (O.slots outs.new
-            ≡ with_written 0 (told_of O.told (if due then header_of name.now (is_none self.old.last) else []))
+            ≡ with_written 0 (told_of O.told (if due then header_of (title name.now) (is_none self.old.last) else []))
             (O.slots outs.old)) }
         ensures last { OnOk result (self.new
             ≡ record self.old { last = if due then Some name.now else self.old.last }) }
         ensures writable { OnOk result (IsTrue (is_writable (O.slots outs.new) 0)) }
         ensures short { IfErr result
-            (Short O.told (if due then header_of name.now (is_none self.old.last) else []) (O.slots outs.old)
+            (Short O.told (if due then header_of (title name.now) (is_none self.old.last) else []) (O.slots outs.old)
             (O.slots outs.new)) }
     {
         if !due {
             return Ok(());
         }
-        let Ok(text) = header(self.alloc, name, self.is_first()) else {
+        let Ok(text) = header(self.alloc, title(name), self.is_first()) else {
             return Err(Fault::Memory);
         };
         let Ok(kept) = String::from_str(self.alloc, name) else {

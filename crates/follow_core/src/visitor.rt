@@ -4,7 +4,7 @@ ghost use Rattle.std.specs.{
   Prelude.{IfErr, Some},
 };
 ghost use Rattle.ends_core.specs.Ends.{tail_of};
-ghost use Rattle.ports_core.specs.{Slot.{is_open, is_writable, slot_at}, Message.SaysOn, Text.message_of};
+ghost use Rattle.ports_core.specs.{Slot.{is_open, is_writable, slot_at}, Message.SaysOn};
 ghost use Rattle.watch_core.specs.{Snapshot.latest, Watched.{is_readable, is_watchable, open_contents, watched_at}};
 ghost use Rattle.follow_core.specs.{
   declared.name.Standing.TheVariants.{New, Followed},
@@ -17,13 +17,14 @@ ghost use Rattle.follow_core.specs.{
   },
   Sharing.CanPrint,
   Look.{is_sought, ways_of},
-  Telling.tail_by,
+  Telling.{failure_message, tail_by},
 };
 
 use crate::name::Standing;
 use crate::notice::{Notice, notice_line};
 use crate::printer::Printer;
 use crate::start::Start;
+use crate::title::title;
 use ports_core::{Calling, Fault, Outs, PIECE, Reason, Speaker, Tool, print, say};
 use std::alloc::Global;
 use std::marker::Model;
@@ -331,14 +332,14 @@ impl Visitor {
     /// Tells that a call on a name failed, and why, if `tail` was called by its own name.
     fn say_failure<O: Outs>(&self, fault: &Fault, why: Reason, name: &str, outs: &mut O)
         requires { is_open (slot_at (O.slots outs.old) 1).state ≡ true }
-        ensures { SaysOn O.told (tail_by self.now.calling) why (message_of fault.now name.now) (O.slots outs.old)
+        ensures { SaysOn O.told (tail_by self.now.calling) why (failure_message fault.now name.now) (O.slots outs.old)
             (O.slots outs.new) }
     {
         let speaker = Speaker {
             calling: self.printer.calling(),
             tool: Tool::Tail,
         };
-        say(self.alloc, speaker, why, fault, name, outs);
+        say(self.alloc, speaker, why, fault, title(name), outs);
     }
 }
 

@@ -1,7 +1,7 @@
 -- A watch in memory sees at each look what was planned for it.
 use Rattle.std.proofs.{
   Common.{◌≡◌, ℕ, ◌+◌, ◌-◌, ◌<◌, ◌≤◌, ◌⊎◌, inl, inr, min, zero, suc, Bool, true, false, List, [], ◌∷◌},
-  Common.{◌++◌, Option},
+  Common.{◌++◌, Option, codes},
   Common.{Some, None, length, refl, if◌then◌else◌, sym, ◌∙◌, ap, subst, arith, get_or, set, length-append, is_some, not, option_map},
   lemmas.{Bool.cases_lt, Grind.common_steps},
 }
@@ -14,7 +14,7 @@ use Rattle.watch_core.{
 }
 use Rattle.ports_core.specs.declared.reason.Reason.{Reason}
 use Rattle.mem_core.specs.{
-  MemWatchState.{MemWatchState, world_at, seen_by, seen, shown_by, shown_in, shows},
+  MemWatchState.{MemWatchState, is_fed, world_at, seen_by, seen, shown_by, shown_in, shows},
   declared.mem_watch.{Leading.{Leading, TheVariants.{Plain, Forgiving, Clinging, Keeping}}, Manner.Manner},
   inner.Leading.{CanFail, fails_by, forgiven, led_at},
 }
@@ -388,6 +388,15 @@ gone_next {worlds} {turns} {next} {manner} {within} process is inside at there g
     ∙ ap (λ n. world_at worlds (suc n)) (sym (length-seen manner within worlds turns)))
     ∙ shown_lacks manner worlds (length (seen_by manner within worlds turns)) process
     ∙ ap (λ (those : MemWatchState). (shows those (length (seen those))).lacks process) is
+
+-- standard input is a file where its name leads to one in the files of the first look
+pub fed_now : {watch : MemWatchState} {worlds : List World} {turns first : ℕ} {names : List Watched} {world : World}
+    {manner : Manner} {within : ℕ} {why : Reason} {file : Option ℕ} {fed : Bool}
+    → record { worlds = worlds; turns = turns; watched = names; manner = manner; within = within; why = why }
+    ≡ watch → 0 < length worlds → first ≡ min 1 (length worlds - 1) → world ≡ world_at worlds first
+    → file ≡ led_to world.links (codes "-") → fed ≡ is_some file → fed ≡ is_fed watch
+fed_now {worlds} {first} is some at there leads fed = fed ∙ ap is_some (leads ∙ ap (λ (those : World). led_to those.links (codes "-"))
+    (there ∙ at_last worlds 1 first some at)) ∙ ap is_fed is
 
 pub turned : {watch : MemWatchState} {worlds : List World} (new : List World) (turns : ℕ) {n : ℕ} {names : List Watched}
     {manner : Manner} {within : ℕ} {why : Reason}

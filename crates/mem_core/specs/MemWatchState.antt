@@ -1,8 +1,8 @@
 -- What contracts see of a watch in memory.
-use Rattle.std.specs.Prelude.{ℕ, zero, suc, Bool, false, List, [], ◌∷◌, ◌++◌, length, if◌then◌else◌}
+use Rattle.std.specs.Prelude.{ℕ, zero, suc, Bool, false, List, [], ◌∷◌, ◌++◌, codes, is_some, length, if◌then◌else◌}
 use Rattle.watch_core.specs.{
   Snapshot.{Snapshot, clinging, forgiving, insisting, waiting},
-  Edits.{Edit, append, bar, truncate, replace, remove, end, World, empty_world, edited_by, seen_in},
+  Edits.{Edit, append, bar, truncate, replace, remove, end, World, empty_world, edited_by, led_to, seen_in},
   Watched.Watched,
 }
 use Rattle.ports_core.specs.declared.reason.Reason.{Reason, TheVariants.Other}
@@ -63,6 +63,10 @@ seen watch = seen_by watch.manner watch.within watch.worlds watch.turns
 
 abbrev pub shows : MemWatchState → ℕ → Snapshot
 shows watch n = waiting watch.within (shown_in watch.manner watch.worlds n)
+
+-- standard input is a file where its name leads to one at the first look
+abbrev pub is_fed : MemWatchState → Bool
+is_fed watch = is_some (led_to (world_at watch.worlds 1).links (codes "-"))
 
 -- one more look is planned, after these edits
 abbrev pub with_look : List Edit → MemWatchState → MemWatchState

@@ -9,14 +9,14 @@ ghost use Rattle.watch_core.specs.{
 };
 ghost use Rattle.mem_core.specs.{
   inner.Leading.{CanFail, fails_by, forgiven, led_at},
-  MemWatchState.{MemWatchState, edit_of, no_looks, seen, shows, with_look, world_at},
+  MemWatchState.{MemWatchState, edit_of, is_fed, no_looks, seen, shows, with_look, world_at},
 };
 ghost use Rattle.ports_core.specs.Slot.{changed_at};
 
 use crate::Edit;
 use crate::failing::fails;
 use crate::mem_world::MemWorld;
-use ports_core::{Fault, Reason};
+use ports_core::{Fault, Reason, STANDARD_INPUT};
 use std::alloc::{AllocError, Global};
 use std::marker::Model;
 use watch_core::{Broken, Seen, Watch};
@@ -136,7 +136,7 @@ impl MemName {
 
 /// Files in memory, with visible bytes, whose changes are planned look by look. For tests, a call can be made to fail, unless it forgives.
 /// If it clings, that is a call on an open file. If it does neither, a look at a name that is barred fails, and so does opening it. It
-/// keeps the files of each look, and takes memory for all of them.
+/// keeps the files of each look, and takes memory for all of them. Standard input is a file if the name `-` leads to one at the first look.
 #[derive(Drop)]
 pub struct MemWatch {
     alloc: Global,
@@ -423,6 +423,14 @@ impl Watch for MemWatch {
     ghost rested = { λ watch. 0 };
 
     ghost told = { true };
+
+    ghost fed = { λ watch. is_fed watch };
+
+    fn has_input(&self) -> bool {
+        let first = 1usize.min(self.worlds.len() - 1);
+        let file = world_in(&self.worlds, first).file_of(STANDARD_INPUT);
+        file.is_some()
+    }
 
     fn turn(&mut self) -> Result<(), Fault> {
         let Some(turns) = self.turns.checked_add(1) else {

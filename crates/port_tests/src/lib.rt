@@ -24,6 +24,8 @@ mod reading;
 #[cfg(test)]
 mod seek_tests;
 #[cfg(test)]
+mod standard_input_tests;
+#[cfg(test)]
 mod watch_tests;
 #[cfg(test)]
 mod writing;

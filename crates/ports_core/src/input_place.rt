@@ -18,7 +18,7 @@ const ROOM: usize = 64;
 
 /// The place in its file at which standard input is read next, as the system says. None where it doesn't say so. It takes no
 /// memory.
-pub(crate) fn standard_input_place(files: &impl Files) -> Option<u64> {
+pub fn standard_input_place(files: &impl Files) -> Option<u64> {
     let mut state = fs::open(files, STANDARD_INPUT_STATE).ok()?;
     let mut buffer = [0u8; ROOM];
     let count = fill(&mut state, &mut buffer)?;

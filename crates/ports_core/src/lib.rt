@@ -50,6 +50,7 @@ pub use file_writer::{Current, FileWriter, Keeps, Opening, Tells};
 pub use form::{Base, Filling, Form};
 pub use guarded::Guarded;
 pub use input_files::{InputFiles, id_of};
+pub use input_place::standard_input_place;
 pub use inputs::{Inputs, STANDARD_INPUT, pass_over};
 pub use laws::{digits_fill_with_zeros, names_are_in_order, no_name_is_given_twice, one_is_agreed};
 pub use length::{MOST_BYTES, PIECE, fed_with};

@@ -15,9 +15,9 @@ use Rattle.watch_core.{
   proofs.NameLemmas.{name_changes, name_there, names_within},
 }
 
-pub one_changes : {watch : DirWatchState} {names : List Watched} {manner : Manner} {within rested : ℕ}
+pub one_changes : {watch : DirWatchState} {names : List Watched} {manner : Manner} {within rested : ℕ} {fed : Bool}
     (turns place : ℕ) (change : Watched → Watched) {item new : Watched}
-    → record { turns = turns; watched = names; manner = manner; within = within; rested = rested } ≡ watch
+    → record { turns = turns; watched = names; manner = manner; within = within; rested = rested; fed = fed } ≡ watch
     → IsTrue (is_watchable watch.watched place)
     → item ≡ get_or names place item → new ≡ change item → set names place new ≡ changed_at place change watch.watched
 one_changes {watch} {names} turns place change {item} {new} is can at changed =
@@ -49,14 +49,16 @@ pub finds_forgiven : {manner : Manner} (within n : ℕ) (name : List ℕ) (findi
 finds_forgiven {manner} within n name finding forgives = finds_any manner within n name finding (unlike forgives)
 
 pub forgives_now : {watch : DirWatchState} {names : List Watched} {turns : ℕ} {manner : Manner} {within rested : ℕ}
-    → record { turns = turns; watched = names; manner = manner; within = within; rested = rested } ≡ watch
+    {fed : Bool}
+    → record { turns = turns; watched = names; manner = manner; within = within; rested = rested; fed = fed } ≡ watch
     → Forgives manner → Forgives watch.manner
 forgives_now is forgives = subst (λ (those : DirWatchState). Forgives those.manner) is forgives
 
 -- or what is there
 
 pub insists_now : {watch : DirWatchState} {names : List Watched} {turns : ℕ} {manner : Manner} {within rested : ℕ}
-    → record { turns = turns; watched = names; manner = manner; within = within; rested = rested } ≡ watch
+    {fed : Bool}
+    → record { turns = turns; watched = names; manner = manner; within = within; rested = rested; fed = fed } ≡ watch
     → watch.manner ≡ Insisting → manner ≡ Insisting
 insists_now is insists = ap (λ (those : DirWatchState). those.manner) is ∙ insists
 
@@ -109,23 +111,23 @@ clings_all Clinging within = λ i. λ n. record (files_by Clinging within) { lea
 clings_all Insisting within = λ i. λ n. record (files_by Clinging within) { leads = λ name. led_nowhere (suc n) i }
 
 pub may_break : {watch : DirWatchState} {names : List Watched} {turns : ℕ} {manner : Manner} {within rested : ℕ}
-    (name : List ℕ)
-    → record { turns = turns; watched = names; manner = manner; within = within; rested = rested } ≡ watch
+    {fed : Bool} (name : List ℕ)
+    → record { turns = turns; watched = names; manner = manner; within = within; rested = rested; fed = fed } ≡ watch
     → (manner ≡ Forgiving → has_zero name ≡ true) → (latest (seen watch)).breaks name ≡ true
 may_break {turns} {manner} name is unforgiven =
     subst (λ (those : DirWatchState). (latest (seen those)).breaks name ≡ true) is (breaks_any manner name _ turns unforgiven)
 
 -- where it doesn't forgive
 pub unforgiven : {watch : DirWatchState} {names : List Watched} {turns : ℕ} {manner : Manner} {within rested : ℕ}
-    {forgives : Bool} (name : List ℕ)
-    → record { turns = turns; watched = names; manner = manner; within = within; rested = rested } ≡ watch
+    {fed forgives : Bool} (name : List ℕ)
+    → record { turns = turns; watched = names; manner = manner; within = within; rested = rested; fed = fed } ≡ watch
     → (manner ≡ Forgiving → IsTrue forgives) → forgives ≡ false → (latest (seen watch)).breaks name ≡ true
 unforgiven name is must none = may_break name is (λ (forgiving : _ ≡ Forgiving). absurd (false≢true (sym none ∙ must forgiving)))
 
 -- nor is it of a name that no file can have
 pub zero_breaks : {watch : DirWatchState} {names : List Watched} {manner : Manner} {within rested : ℕ} (turns place : ℕ)
-    {item : Watched} {zero_in : Bool}
-    → record { turns = turns; watched = names; manner = manner; within = within; rested = rested } ≡ watch
+    {item : Watched} {fed zero_in : Bool}
+    → record { turns = turns; watched = names; manner = manner; within = within; rested = rested; fed = fed } ≡ watch
     → IsTrue (is_watchable watch.watched place) → item ≡ get_or names place item → zero_in ≡ has_zero item.name
     → not zero_in ≡ false → CanBreak (seen watch) watch.watched place
 zero_breaks {watch} {names} turns place {item} {zero_in} is can at zero_is some =
@@ -136,8 +138,8 @@ zero_breaks {watch} {names} turns place {item} {zero_in} is can at zero_is some 
 
 -- what was opened is not told
 pub opened_some : {watch : DirWatchState} {snapshot : Snapshot} {names : List Watched} {manner : Manner}
-    {within rested : ℕ} (turns : ℕ) {place : ℕ} {item new : Watched} {is_there : Bool}
-    → record { turns = turns; watched = names; manner = manner; within = within; rested = rested } ≡ watch
+    {within rested : ℕ} (turns : ℕ) {place : ℕ} {item new : Watched} {fed is_there : Bool}
+    → record { turns = turns; watched = names; manner = manner; within = within; rested = rested; fed = fed } ≡ watch
     → IsTrue (is_watchable watch.watched place)
     → item ≡ get_or names place item → new ≡ opens new.opened item → is_some new.opened ≡ is_there
     → Found snapshot (watched_at watch.watched place).name (opens_as new.opened)

@@ -1,6 +1,6 @@
 -- What contracts see of a watch over real files: how many looks began, and the names. What a look could see is not
 -- told.
-use Rattle.std.specs.Prelude.{ℕ, true, List, replicate}
+use Rattle.std.specs.Prelude.{ℕ, Bool, true, List, replicate}
 use Rattle.watch_core.specs.{
   declared.dir_name.Manner.{Manner, TheVariants.{Plain, Forgiving, Clinging, Insisting}},
   Snapshot.{Snapshot, forgiving, insisting, no_files, waiting},
@@ -17,6 +17,8 @@ pub record DirWatchState : Type 0 where
   pub within : ℕ
   -- for how many milliseconds the last look was waited for, in pauses
   pub rested : ℕ
+  -- standard input is a file, as the system said
+  pub fed : Bool
 
 -- a snapshot of which nothing is told: any call may find anything
 abbrev pub any_files : Snapshot

@@ -1,7 +1,7 @@
 -- The names that are watched: which file of each is open, and by which call it broke and why.
 use Rattle.std.specs.{
   Prelude.{is_none, is_some, ◌≡◌, ℕ, Bool, true, ◌&&◌, List, [], Option, Some, None, length, drop, option_map},
-  Prelude.slice_index_or,
+  Prelude.{bytes_eq, codes, slice_index_or},
 }
 use Rattle.ports_core.specs.{
   declared.reason.Reason.{Reason, TheVariants.Other},
@@ -19,6 +19,10 @@ pub record Watched : Type 0 where
   pub failed : Option Broken
   -- why that call failed; `Other` of a name that did not break
   pub reason : Reason
+
+-- the name of standard input
+abbrev pub is_input : List ℕ → Bool
+is_input name = bytes_eq name (codes "-")
 
 -- what stands at a place where no name was added
 abbrev pub no_name : Watched

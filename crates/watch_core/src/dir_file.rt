@@ -13,18 +13,23 @@ const COUNTED: usize = 4_096;
 /// A real file that is open for reading.
 #[derive(Drop)]
 pub(crate) enum DirFile {
-    /// A regular file, which is read from any place.
+    /// A regular file, which is read at any place.
     Placed(Placed),
     /// Any other, such as a named pipe, a terminal or another device, which is read as it comes.
     Stream(Stream),
 }
 
 impl DirFile {
-    /// A file that was just opened, and what the system tells of it. What a stream gives is waited for here, as long as
-    /// somebody has it open to write.
-    pub(crate) fn new(alloc: Global, file: File, about: &Metadata) -> io::Result<DirFile> {
+    /// A file that was just opened, and what the system tells of it. A regular one begins at a place. What a stream gives is waited for
+    /// here, as long as somebody has it open to write.
+    pub(crate) fn new(
+        alloc: Global,
+        file: File,
+        about: &Metadata,
+        from: u64,
+    ) -> io::Result<DirFile> {
         if about.is_file() {
-            return Ok(DirFile::Placed(Placed::new(file, about.len())));
+            return Ok(DirFile::Placed(Placed::new(file, about.len(), from)));
         }
         Ok(DirFile::Stream(Stream::new(alloc, file)?))
     }
@@ -47,7 +52,7 @@ impl DirFile {
     /// it, since what comes first was taken as it was opened.
     pub(crate) fn failure(&self) -> Option<Reason> {
         match self {
-            DirFile::Placed(placed) => match read_some_at(&placed.file, 0, &mut [0u8; 1]) {
+            DirFile::Placed(placed) => match placed.read_at(0, &mut [0u8; 1]) {
                 Ok(_) => None,
                 Err(why) => Some(why),
             },
@@ -74,16 +79,18 @@ impl DirFile {
         ensures { IfOk result (λ n. n ≤ length buffer.old) }
     {
         match self {
-            DirFile::Placed(placed) => read_some_at(&placed.file, from, buffer),
+            DirFile::Placed(placed) => placed.read_at(from, buffer),
             DirFile::Stream(stream) => stream.read_at(from, buffer),
         }
     }
 }
 
-/// A regular file, and how long it was when changes were last looked for.
+/// A regular file from a place on, and how long it was when changes were last looked for.
 #[derive(Drop)]
 pub(crate) struct Placed {
     file: File,
+    /// The place at which it begins. Lengths and other places count from there.
+    begin: u64,
     /// How many bytes it had, as the system said. None where that couldn't be told.
     told: Option<u64>,
     /// How many bytes reads gave, where the system said that it had none, for so it says of its own files, as those in /proc. None
@@ -93,11 +100,12 @@ pub(crate) struct Placed {
 }
 
 impl Placed {
-    /// A file that was just opened, of this length as the system says.
-    fn new(file: File, told: u64) -> Self {
+    /// A file that was just opened, which as a whole has this length as the system says.
+    fn new(file: File, len: u64, begin: u64) -> Self {
         Placed {
             file,
-            told: Some(told),
+            begin,
+            told: Some(len.saturating_sub(begin)),
             counted: None,
         }
     }
@@ -113,9 +121,16 @@ impl Placed {
         if let Some(len) = self.counted {
             return Ok(len);
         }
-        let len = count(&self.file)?;
+        let len = count(self)?;
         self.counted = Some(len);
         Ok(len)
+    }
+
+    /// Reads from a place on.
+    fn read_at(&self, from: u64, buffer: &mut [u8]) -> Result<usize, Reason>
+        ensures { IfOk result (λ n. n ≤ length buffer.old) }
+    {
+        read_some_at(&self.file, self.begin.saturating_add(from), buffer)
     }
 
     fn has_changed(&mut self, told: Option<u64>, is_at_rest: bool) -> bool {
@@ -138,9 +153,10 @@ impl Placed {
         if matches!(self.told, Some(len) if len > 0)
             && let Ok(len) = self.file.seek(SeekFrom::End(0))
         {
-            return Some(len);
+            return Some(len.saturating_sub(self.begin));
         }
-        len_of(&self.file)
+        let len = len_of(&self.file)?;
+        Some(len.saturating_sub(self.begin))
     }
 }
 
@@ -246,13 +262,13 @@ fn place_in(from: u64, before: u64, waiting: usize) -> Option<usize>
 /// # Errors
 ///
 /// Why one failed; `Other` where they are more than a watch tells.
-fn count(file: &File) -> Result<u64, Reason>
+fn count(file: &Placed) -> Result<u64, Reason>
     ensures { IfOk result (λ len. len < 2 ^ 63) }
 {
     let mut piece = [0u8; COUNTED];
     let mut len = 0u64;
     for _ in 0..u64::MAX {
-        let n = read_some_at(file, len, &mut piece)? as u64;
+        let n = file.read_at(len, &mut piece)? as u64;
         if n == 0 {
             return Ok(len);
         }

@@ -5,6 +5,7 @@ ghost use Rattle.ports_core.specs.declared.reason.Reason.{Reason};
 ghost use Rattle.watch_core.specs.{Snapshot.has_zero, Watched.{Watched, added, breaks, opens}};
 
 use crate::dir_file::DirFile;
+use crate::input::{path_of, place_of};
 use crate::pace::Pace;
 use crate::{Broken, Seen};
 use ports_core::{MOST_BYTES, Reason, id_of};
@@ -115,6 +116,8 @@ pub(crate) struct DirName {
     is_gone: bool,
     /// Which files it is taken to lead to. From the second look on those that are regular.
     kinds: Kinds,
+    /// The place in a regular file from which on it is watched.
+    from: u64,
     /// What the name leads to, as looks are told until the system is asked again. None where it is to be asked then.
     led_to: Option<Option<Seen>>,
     /// How often the open file's length was asked for since it was opened, or since a look asked where the name leads.
@@ -138,7 +141,12 @@ impl Model for DirName {
 
 impl DirName {
     /// A name that was not looked at yet.
-    pub(crate) fn new(alloc: Global, name: &str, manner: Manner) -> Result<Self, AllocError>
+    pub(crate) fn new(
+        alloc: Global,
+        files: &impl Files,
+        name: &str,
+        manner: Manner,
+    ) -> Result<Self, AllocError>
         ensures { IfOk result (λ watched. watched ≡ added name.now) }
     {
         Ok(DirName {
@@ -154,6 +162,7 @@ impl DirName {
             reason: Reason::Other,
             is_gone: false,
             kinds: Kinds::Any,
+            from: place_of(files, name),
             led_to: None,
             lens: 0,
             pace: Pace::new(),
@@ -277,7 +286,8 @@ impl DirName {
     fn open_readable(&mut self, alloc: Global, files: &impl Files<File = File>) -> Option<Opened>
         ensures { self.new ≡ self.old }
     {
-        match open_readable(alloc, files, self.name.as_str(), self.kinds) {
+        let path = path_of(self.name.as_str());
+        match open_readable(alloc, files, path, self.from, self.kinds) {
             Ok(opened) => Some(opened),
             Err(why) => {
                 self.why = why;
@@ -353,7 +363,8 @@ impl DirName {
         if self.is_gone {
             return Ok(None);
         }
-        match open_file(alloc, files, self.name.as_str(), self.kinds)? {
+        let path = path_of(self.name.as_str());
+        match open_file(alloc, files, path, self.from, self.kinds)? {
             Met::File(opened) => Ok(Some(opened)),
             Met::Nothing(why) => {
                 self.why = why;
@@ -593,9 +604,9 @@ impl DirName {
         ensures bound { IfOk result (λ found. IfSome found (λ file. file.len < 2 ^ 63)) }
         ensures same { self.new ≡ self.old }
     {
-        match fs::metadata(files, self.name.as_str()) {
+        match fs::metadata(files, path_of(self.name.as_str())) {
             Ok(about) => {
-                let seen = seen_of(&about)?;
+                let seen = seen_of(&about, self.from)?;
                 if self.opened == Some(seen.id) {
                     return Ok(Some(seen));
                 }
@@ -663,11 +674,11 @@ enum Met {
     Nothing(Reason),
 }
 
-/// A file of which the system told this. One that is longer than a watch tells is an error.
-fn seen_of(about: &Metadata) -> io::Result<Seen>
+/// A file of which the system told this, from a place on. One that is longer than a watch tells is an error.
+fn seen_of(about: &Metadata, from: u64) -> io::Result<Seen>
     ensures { IfOk result (λ file. file.len < 2 ^ 63) }
 {
-    let len = about.len();
+    let len = about.len().saturating_sub(from);
     if len > MOST_BYTES {
         return Err(io::Error::from(ErrorKind::FileTooLarge));
     }
@@ -677,12 +688,13 @@ fn seen_of(about: &Metadata) -> io::Result<Seen>
     })
 }
 
-/// Opens a file for reading. Nothing where the name leads nowhere, or to a file of another kind. Its identity is that of the file that was
-/// opened, where the name may lead elsewhere by then. A file that is longer than a watch tells is an error.
+/// Opens a file for reading, from a place on. Nothing where the name leads nowhere, or to a file of another kind. Its identity is that of
+/// the file that was opened, where the name may lead elsewhere by then. A file that is longer than a watch tells is an error.
 fn open_file(
     alloc: Global,
     files: &impl Files<File = File>,
     name: &str,
+    from: u64,
     kinds: Kinds,
 ) -> io::Result<Met> {
     // The library can't open a named pipe without waiting. So who puts one there between the question and the opening, microseconds
@@ -697,8 +709,8 @@ fn open_file(
                 return Ok(Met::Nothing(why));
             }
             Ok(Met::File(Opened {
-                seen: seen_of(&about)?,
-                file: DirFile::new(alloc, file, &about)?,
+                seen: seen_of(&about, from)?,
+                file: DirFile::new(alloc, file, &about, from)?,
             }))
         }
         Err(error) if error.kind() == ErrorKind::NotFound => Ok(Met::Nothing(Reason::Missing)),
@@ -715,9 +727,10 @@ fn open_readable(
     alloc: Global,
     files: &impl Files<File = File>,
     name: &str,
+    from: u64,
     kinds: Kinds,
 ) -> Result<Opened, Reason> {
-    match open_file(alloc, files, name, kinds) {
+    match open_file(alloc, files, name, from, kinds) {
         Ok(Met::File(opened)) => match opened.file.failure() {
             None => Ok(opened),
             Some(why) => Err(why),

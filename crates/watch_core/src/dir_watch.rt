@@ -6,6 +6,7 @@ ghost use Rattle.watch_core.specs.{
 };
 
 use crate::dir_name::{DirName, Manner};
+use crate::input::is_file;
 use crate::process::Process;
 use crate::{Seen, Watch};
 use ports_core::{Fault, Reason, time_of};
@@ -52,6 +53,10 @@ const SECOND: u64 = 1000;
 /// A regular file of which the system says that it has no bytes has as many as reads give. Each look has them counted once more that
 /// begins 50 ms after the last count; where reads gave none for a minute, the file is empty until the system says another length.
 ///
+/// Under the name `-` it watches the file that standard input is, which the system opens anew, from the place on at which standard input
+/// stood when the name was added. That name always leads to this file, also once it has another name or none. What the file gets before
+/// that place isn't seen.
+///
 /// At most one file of a name is open; it is given back once another is opened or the name is broken, and all are when this is
 /// dropped.
 ///
@@ -76,6 +81,8 @@ pub struct DirWatch<R: Files<File = File> + Clock + Drop> {
     process: Option<Process>,
     /// What becomes of names that can't be read or lead nowhere.
     manner: Manner,
+    /// Standard input is a regular file, as the system said.
+    fed: bool,
 }
 
 impl<R: Files<File = File> + Clock + Drop> Model for DirWatch<R> {
@@ -87,14 +94,16 @@ impl<R: Files<File = File> + Clock + Drop> Model for DirWatch<R> {
       manner = w.manner;
       within = w.most;
       rested = w.rested;
+      fed = w.fed;
     } };
 }
 
 impl<R: Files<File = File> + Clock + Drop> DirWatch<R> {
-    /// No name and no look. It takes no memory.
+    /// No name and no look. The system is asked what standard input is. It takes no memory.
     pub fn new(runtime: R, alloc: Global) -> Self
-        ensures { result ≡ no_turns }
+        ensures { result ≡ no_turns result.fed }
     {
+        let fed = is_file(&runtime);
         DirWatch {
             runtime,
             alloc,
@@ -104,6 +113,7 @@ impl<R: Files<File = File> + Clock + Drop> DirWatch<R> {
             names: Vec::new(alloc),
             process: None,
             manner: Manner::Plain,
+            fed,
         }
     }
 
@@ -224,6 +234,12 @@ impl<R: Files<File = File> + Clock + Drop> Watch for DirWatch<R> {
 
     ghost told = { false };
 
+    ghost fed = { λ watch. watch.fed };
+
+    fn has_input(&self) -> bool {
+        self.fed
+    }
+
     fn turn(&mut self) -> Result<(), Fault> {
         let Some(turns) = self.turns.checked_add(1) else {
             return Err(Fault::Memory);
@@ -278,7 +294,7 @@ impl<R: Files<File = File> + Clock + Drop> Watch for DirWatch<R> {
 
     fn add(&mut self, name: &str) -> Result<usize, Fault> {
         let place = self.names.len();
-        let name = DirName::new(self.alloc, name, self.manner)?;
+        let name = DirName::new(self.alloc, &self.runtime, name, self.manner)?;
         if keep(&mut self.names, name) {
             return Ok(place);
         }

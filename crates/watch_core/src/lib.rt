@@ -4,9 +4,11 @@
 mod dir_file;
 mod dir_name;
 mod dir_watch;
+mod input;
 mod pace;
 mod process;
 mod watch;
 
 pub use dir_watch::DirWatch;
+pub use input::is_input;
 pub use watch::{Broken, Seen, Watch};

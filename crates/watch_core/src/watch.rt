@@ -37,6 +37,9 @@ pub enum Broken {
 /// the name comes to lead elsewhere. A name breaks at its first call that fails, and stays broken: no file of it is open from then on.
 /// A watch that forgives has no call that fails on a name that a file can have: one that is there, but can't be opened or read, counts as
 /// missing. If it insists, a call on a name that leads nowhere fails.
+///
+/// The name `-` leads to the file that standard input is, if that is a file. It holds what the file has from the place on at which standard
+/// input stood when the name was added.
 pub trait Watch {
     /// What each look so far could see, in order.
     ghost seen: { Self → List Snapshot };
@@ -52,6 +55,13 @@ pub trait Watch {
 
     /// Whether the files tell their bytes. Where they don't, nothing is said of what is found and read but that it was found.
     ghost told: { Bool };
+
+    /// Whether standard input is a file that can be watched, under the name `-`.
+    ghost fed: { Self → Bool };
+
+    /// Whether standard input is a file that can be watched, under the name `-`.
+    fn has_input(&self) -> bool
+        ensures { result ≡ fed self.now };
 
     /// Begins a look over all names, after pauses that are together no longer than what the look shows.
     ///

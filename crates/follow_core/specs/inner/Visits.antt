@@ -11,7 +11,7 @@ use Rattle.follow_core.specs.{
     follow.Phase.TheVariants.{Fresh, Looking, Over},
   },
   Standing.{NameState, NoneGoesOn, AllStand, CanVisit, Stands, StandsAmong, texts},
-  Telling.tail_by,
+  Telling.{failure_message, tail_by},
   Share.{BeginsShare, Share, share_by, share_of, shares_at_look_from},
   Look.{Fate, Look, Ways, sound, fate_at, is_dropped, ways_of, snapshots},
   Printing.PrinterState,
@@ -25,7 +25,6 @@ use Rattle.follow_core.specs.{
 use Rattle.ports_core.specs.{
   Slot.{Slot, changed_at, with_broken},
   Message.SaysOn,
-  Text.message_of,
   declared.{calling.Calling.Calling, reason.Reason.{Reason, TheVariants.Gone}, fault.Fault.Fault},
 }
 use Rattle.watch_core.specs.{Snapshot.Snapshot, Watched.{Watched, opens, watched_at, added}}
@@ -54,7 +53,7 @@ pub record Stopped (told_in told : Bool) (ways : Ways) (before : List Look) (sna
 -- A call on the name failed, which was told, so that it is dropped; or following ends, and nothing more was told.
 abbrev pub TellsStop : Bool → Calling → List ℕ → List Slot → Standing → List Slot → Stop → Result Bool Fault → Type 0
 TellsStop told calling name old standing new (Broke why) result = (result ≡ Ok true) × (standing ≡ Left)
-    × ((reason : Reason) × SaysOn told (tail_by calling) reason (message_of why name) old new)
+    × ((reason : Reason) × SaysOn told (tail_by calling) reason (failure_message why name) old new)
 TellsStop told calling name old standing new (Over why) result = (result ≡ Err why) × (new ≡ old)
 
 -- another file of the name at this place may be open, and no name broke
