@@ -1,7 +1,7 @@
 //! Callers of `run_words`, as the program is one, that rest on the laws of `tools_core`: what each of them ensures follows by one law
 //! from what `run_words` ensures, and nothing is known here of what the tools do.
 ghost use Rattle.std.specs.{
-  Prelude.{◌≡◌, ◌+◌, ◌++◌, ◌∷◌, [], ℕ, List, None, Some, map, drop, codes, true, false, IfOk, IfSome},
+  Prelude.{◌≡◌, ◌+◌, ◌++◌, ◌∷◌, [], ℕ, List, Option, None, Some, map, drop, codes, true, false, IfOk, IfSome},
 };
 ghost use Rattle.ends_core.specs.Ends.{tail_of};
 ghost use Rattle.mem_core.specs.MemWatchState.{seen, shows};
@@ -21,10 +21,11 @@ ghost use Rattle.words_core.specs.{
   CsplitWords.CsplitAsked,
   EndsWords.EndsAsked,
   SplitWords.SplitAsked,
+  TailWords.has_hyphen,
   TeeWords.TeeAsked,
   Words.{follows, settings_of},
   declared.{
-    value.Followed.TheVariants.Descriptor,
+    value.Followed.{Followed, TheVariants.Descriptor},
     settings.Settings.{Settings, TheVariants.{Csplit, Head, Split, Tail, Tee}},
   },
 };
@@ -59,7 +60,7 @@ fn ran(
 ) -> Result<u8, Fault>
     requires { outs.old ≡ streams }
     ensures { (asked : Settings) → settings_of Calling.Cutters (map (λ word. word.now) words.now) ≡ Ok asked
-        → names_of asked ≡ codes "-" ∷ [] → follows asked ≡ false
+        → names_of asked ≡ codes "-" ∷ [] → follows Calling.Cutters false asked ≡ false
         → IfOk result
         (λ status. (one : Run) × Ran one asked × HasInput one bytes.now × (one.calling ≡ Calling.Cutters)
         × (one.words ≡ map (λ word. word.now) words.now) × (one.outputs ≡ outs.new) × (one.status ≡ status)) }
@@ -85,7 +86,7 @@ fn left_of(
     pieces: usize,
 ) -> Result<Option<MemOut>, Fault>
     ensures { (asked : Settings) → settings_of Calling.Cutters (map (λ word. word.now) words.now) ≡ Ok asked
-        → names_of asked ≡ codes "-" ∷ [] → follows asked ≡ false → forgives_gone asked ≡ false
+        → names_of asked ≡ codes "-" ∷ [] → follows Calling.Cutters false asked ≡ false → forgives_gone asked ≡ false
         → IfOk result
         (λ left. IfSome left
         (λ outs. (one : Run) × Does one asked × HasInput one bytes.now × (one.calling ≡ Calling.Cutters)
@@ -101,10 +102,10 @@ fn left_of(
 /// What `head` and then `tail` write of the same bytes, if both go well: all of them, where `tail` begins with the line or byte
 /// after those that `head` writes.
 fn met(alloc: Global, head: &[&str], tail: &[&str], bytes: &[u8]) -> Result<Option<Vec<u8>>, Fault>
-    ensures { (first rest : EndsAsked) (n looks pause : ℕ)
+    ensures { (first rest : EndsAsked) (followed : Option Followed) (n looks pause : ℕ)
         → settings_of Calling.Cutters (map (λ word. word.now) head.now) ≡ Ok (Head (counted first Plain n))
         → settings_of Calling.Cutters (map (λ word. word.now) tail.now) ≡ Ok (Tail
-        (record { ends = counted rest Plus (n + 1); followed = None; looks = looks; pause = pause; process = None }))
+        (record { ends = counted rest Plus (n + 1); followed = followed; looks = looks; pause = pause; process = None }))
         → CountAlike first rest → first.names ≡ codes "-" ∷ [] → rest.names ≡ codes "-" ∷ []
         → IfOk result (λ both. IfSome both (λ all. all.items ≡ bytes.now)) }
 {
@@ -172,7 +173,7 @@ fn grown(alloc: Global, words: &[&str], watch: &mut MemWatch) -> Result<Option<M
     ensures { (options : EndsAsked) (name came : List ℕ) (file n pause : ℕ)
         → settings_of Calling.Cutters (map (λ word. word.now) words.now) ≡ Ok (Tail
         (record { ends = options; followed = Some Descriptor; looks = n + 1; pause = pause; process = None }))
-        → IsBare options → options.names ≡ name ∷ [] → ((count : ℕ) → OnlyGrows count (shows watch.old) name file)
+        → has_hyphen options.names ≡ false → IsBare options → options.names ≡ name ∷ [] → ((count : ℕ) → OnlyGrows count (shows watch.old) name file)
         → (shows watch.old n).holds file ≡ (shows watch.old 0).holds file ++ came
         → IfOk result
         (λ left. IfSome left
@@ -201,7 +202,7 @@ fn grown(alloc: Global, words: &[&str], watch: &mut MemWatch) -> Result<Option<M
 /// What the words leave of these bytes where they come byte by byte, and where they come whole, if both go well: the same.
 fn both(alloc: Global, words: &[&str], bytes: &[u8]) -> Result<Option<(MemOut, MemOut)>, Fault>
     ensures { (asked : Settings) → settings_of Calling.Cutters (map (λ word. word.now) words.now) ≡ Ok asked
-        → names_of asked ≡ codes "-" ∷ [] → follows asked ≡ false → forgives_gone asked ≡ false
+        → names_of asked ≡ codes "-" ∷ [] → follows Calling.Cutters false asked ≡ false → forgives_gone asked ≡ false
         → IfOk result (λ left. IfSome left (λ outs. outs.0 ≡ outs.1)) }
 {
     cutting_changes_nothing();

@@ -16,6 +16,8 @@ mod failing_watch_tests;
 #[cfg(test)]
 mod follow_tests;
 #[cfg(test)]
+mod followed_input_tests;
+#[cfg(test)]
 mod growth_tests;
 #[cfg(test)]
 mod law_tests;

@@ -2,8 +2,8 @@
 use Rattle.std.proofs.{
   lemmas.{Grind.common_steps, Bool.{or_parts, cases_lt, false≢true}},
   Common.{◌≡◌, ℕ, ◌+◌, ◌<◌, ◌≤◌, max, zero, suc, Bool, true, false, List, [], ◌∷◌, ◌++◌, length, drop, Option, Some},
-  Common.{refl, sym, ◌∙◌, ap, subst, arith, append_assoc, ◌&&◌, cond, is_some, not, ◌||◌, inl, inr, rules},
-  Math.Seq.drop-append_seam as drop_front,
+  Common.{refl, sym, ◌∙◌, ap, subst, arith, append_assoc, ◌&&◌, cond, is_some, not, ◌||◌, inl, inr, nat_lt, rules},
+  Math.{Bool.or-true, Seq.drop-append_seam as drop_front},
 }
 use Rattle.watch_core.specs.{Snapshot.{Snapshot, waiting}, Watched.Watched}
 use Rattle.follow_core.specs.{
@@ -18,7 +18,7 @@ use Rattle.follow_core.specs.{
 }
 use Rattle.follow_core.proofs.{AgreeLemmas.grown, RunLemmas.text_is_gains, LookLemmas.{failed_sound, looks_give_text}}
 use Rattle.tools_core.{
-  specs.Promises.{OnlyGrows, Follows, IsBare, IsOfProgram, Run, showing},
+  specs.Promises.{AsksToFollow, OnlyGrows, Follows, IsBare, IsOfProgram, Run, showing},
   specs.Following.{is_name, pause_by, start_of},
   specs.Program.{ProgramEndsAt, looks_at},
   specs.Tasks.{is_plus},
@@ -197,7 +197,7 @@ follows_text {run} {count} {options} {followed} {name} follows bare named keeps_
     let ways = ways_of 0 (is_name followed) (start_of options) in
     let shows = paused run followed follows.read.0 in
     wrote_text ways name shows count run.seen run.watched run.outputs keeps_bytes
-    (rw (bare, named, follows.well) at (rw follows.read.1 at follows.ends))
+    (rw (bare, named, follows.well) at (rw (follows.read.1, follows.read.2) at follows.ends))
 
 pub tells_all : (run : Run) (options : EndsAsked) (followed : Followed) (name came : List ℕ) (file n : ℕ)
     → Follows run (n + 1) options followed → IsBare options → options.names ≡ name ∷ []
@@ -230,7 +230,13 @@ tells_all run options followed name came file n follows bare named grows is =
 
 -- A run of the program follows or doesn't, by what its words ask for.
 
-pub ends_at : (run : Run) {looks : Option ℕ} → IsOfProgram run → looks_at (settings_of run.calling run.words) ≡ looks
-    → ProgramEndsAt run.calling true true true run.words run.world.laid
+pub asks_looks : (run : Run) {options : EndsAsked} {followed : Followed} {looks : ℕ}
+    → (read : AsksToFollow run options followed looks)
+    → looks_at run.calling run.fed (settings_of run.calling run.words) ≡ Some looks
+asks_looks run {options = options} read = rw (read.1, read.2, or-true (nat_lt 1 (length options.names))) refl
+
+pub ends_at : (run : Run) {looks : Option ℕ} → IsOfProgram run
+    → looks_at run.calling run.fed (settings_of run.calling run.words) ≡ looks
+    → ProgramEndsAt run.calling run.fed true true true run.words run.world.laid
     (source_of run.world.standard ∷ []) run.inputs run.shows run.seen run.watched run.outputs run.status looks
 ends_at run ends is = rw (← is) ends

@@ -137,7 +137,7 @@ head_output options {sign} {n} {input} bare does has =
 tail_output : {run : Run} (options : EndsAsked) {sign : Sign} {n : ℕ} {input : List ℕ} → IsBare options
     → IsTail run options sign n → HasInput run input
     → output_of run ≡ tail_of options.delim options.unit (is_plus sign) n input
-tail_output options {sign} {n} {input} bare (looks, pause, process, does) has =
+tail_output options {sign} {n} {input} bare (followed, looks, pause, process, does) has =
     let task = tail_task Cutters (counted options sign n) in
     let one = did_one does has in
     let made = one_made one task refl in

@@ -2,7 +2,8 @@
 use Rattle.std.{
   specs.Option.unwrap_or,
   proofs.Common.{◌≡◌, ℕ, List, [], ◌∷◌, Option, Some, None, option_map, Result, Ok, Err, refl, ◌∙◌, ap, subst},
-  proofs.Common.{take, Bool, true, false, length, map, Bor, inl, inr, codes, arith, max},
+  proofs.Common.{take, Bool, true, false, length, map, Bor, inl, inr, codes, arith, max, ◌&&◌, if◌then◌else◌},
+  proofs.Math.Bool.and-false,
 }
 use Rattle.ports_core.specs.{
   declared.fault.{Fault.{Fault, TheVariants.{Memory, Usage, Write}}, UsageKind.{UsageKind, TheVariants.BadFollow}},
@@ -27,7 +28,7 @@ use Rattle.words_core.specs.{
   CsplitWords.{HasBadOperand, csplit_asked, CsplitAsked},
   EndsWords.{ends_asked, EndsAsked},
   SplitWords.split_asked,
-  TailWords.tail_asked,
+  TailWords.{followed_by, has_hyphen, tail_asked},
   TeeWords.{tee_asked},
   Given.Given,
   Refusal.{detail_of, word_at},
@@ -35,7 +36,7 @@ use Rattle.words_core.specs.{
   Value.then_check,
   Table.{ToolRow, row_named, tools},
   Words.{about_or, topic_in, work_for, program_asked, settings_for, settings_of, tool_settings, topic_named, CanRun},
-  Words.{HasBadOperands, looks},
+  Words.{HasBadOperands, asks_input, follows, looks},
 }
 use Rattle.words_core.proofs.{CallingLemmas.row_named-tool, LimitLemmas.read-can}
 use Rattle.follow_core.{proofs.LookedLemmas.{ends_by, most_made}, specs.{Ending.{no_room as no_room_yet, shows_by}, declared.run.Method.{Method, TheVariants.{Descriptor, Name, PresentName, FirstFile}}}}
@@ -270,7 +271,7 @@ shows_by-waiting Cutters Name milliseconds shows = refl
 shows_by-waiting Cutters PresentName milliseconds shows = refl
 shows_by-waiting Cutters FirstFile milliseconds shows = refl
 
-module _ (calling : Calling) (told_in told : Bool) (words : List (List ℕ)) (looks : ℕ)
+module _ (calling : Calling) (fed told_in told : Bool) (words : List (List ℕ)) (looks : ℕ)
     (shows : ℕ → Snapshot) (seen : List Snapshot) (watched : List Watched) (new : List Slot) (status : ℕ)
     (unseen : seen ≡ []) (unwatched : watched ≡ []) where
   -- Words that weren't read, since there was no memory.
@@ -292,41 +293,91 @@ module _ (calling : Calling) (told_in told : Bool) (words : List (List ℕ)) (lo
 
   unread_files : (meant : Result Settings Fault) → settings_of calling words ≡ meant
       → RefusesFor calling told words Memory new status
-      → FollowingEndsAt calling told_in told words looks shows seen watched new status meant
-  unread_files (Ok (Tail asked)) is refuses = unread_tail asked asked.followed (by_words calling words is).0 refuses
+      → FollowingEndsAt calling fed told_in told words looks shows seen watched new status meant
+  unread_files (Ok (Tail asked)) is refuses = unread_tail asked (followed_by calling fed asked) (by_words calling words is).0 refuses
   unread_files (Ok (Csplit asked)) is refuses = inr (unseen, unwatched, (Memory, lacks_memory asked, refuses))
   unread_files (Ok asked) is refuses = inl (tt, (unseen, unwatched, refused_memory words (Usage BadFollow 0) refuses))
   unread_files (Err fault) is refuses = (unseen, unwatched, refused_memory words fault refuses)
 
   operands_unread : (settings : Settings) (fault : Fault) → HasBadOperands settings fault
       → RefusesFor calling told words fault new status
-      → FollowingEndsAt calling told_in told words looks shows seen watched new status (Ok settings)
+      → FollowingEndsAt calling fed told_in told words looks shows seen watched new status (Ok settings)
   operands_unread (Csplit asked) fault bad refuses = inr (unseen, unwatched, (fault, bad, refuses))
   operands_unread asked fault bad refuses = absurd bad
 
   pub refused_words : {fault : Fault} → IsRefused HasBadOperands (settings_of calling words) fault
       → RefusesFor calling told words fault new status
-      → FollowingEnds calling told_in told words looks shows seen watched new status
+      → FollowingEnds calling fed told_in told words looks shows seen watched new status
   refused_words (inr (inl is)) refuses = rw is (unseen, unwatched, refuses)
   refused_words {fault} (inr (inr (settings, is, bad))) refuses = rw is (operands_unread settings fault bad refuses)
   refused_words (inl is) refuses = unread_files (settings_of calling words) refl (rw is at refuses)
 
 -- Which of the two kinds of runs the words ask for.
 
+-- Whether standard input can be watched matters only if that is asked.
+
+asked_alike : (asked : TailSettings) (fed : Bool) (followed : Option Followed) (hyphen : Bool)
+    → asked.followed ≡ followed → has_hyphen asked.ends.names ≡ hyphen
+    → followed_by OwnName (asks_input OwnName (Tail asked) && fed) asked ≡ followed_by OwnName fed asked
+asked_alike asked false followed hyphen is there = rw (and-false (asks_input OwnName (Tail asked))) refl
+asked_alike asked true None true is there = rw (is, there) refl
+asked_alike asked true None false is there = rw (is, there) refl
+asked_alike asked true (Some how) true is there = rw (is, there) refl
+asked_alike asked true (Some how) false is there = rw (is, there, there) refl
+
+followed_alike : (calling : Calling) (fed : Bool) (asked : TailSettings)
+    → followed_by calling (asks_input calling (Tail asked) && fed) asked ≡ followed_by calling fed asked
+followed_alike Cutters fed asked = refl
+followed_alike OwnName fed asked = asked_alike asked fed asked.followed (has_hyphen asked.ends.names) refl refl
+
+follows_alike : (calling : Calling) (fed : Bool) (settings : Settings)
+    → follows calling (asks_input calling settings && fed) settings ≡ follows calling fed settings
+follows_alike calling fed (Tail asked) = rw (followed_alike calling fed asked) refl
+follows_alike calling fed settings = refl
+
+-- in how many looks these settings ask to follow files
+pub looks_as : (calling : Calling) (fed : Bool) {is_fed test : Bool} (words : List (List ℕ)) (settings : Settings)
+    → settings_of calling words ≡ Ok settings → is_fed ≡ (asks_input calling settings && fed)
+    → follows calling is_fed settings ≡ test
+    → looks_at calling fed (settings_of calling words) ≡ (if test then Some (looks settings) else None)
+looks_as calling fed words settings read is so = rw (read, ← follows_alike calling fed settings, ← is, so) refl
+
+module _ (calling : Calling) (fed told_in told_watched told : Bool) (words : List (List ℕ)) (shows : ℕ → Snapshot)
+    (seen : List Snapshot) (watched : List Watched) (new : List Slot) (status : ℕ) where
+  abbrev pub FollowsSo : Bool → ℕ → Settings → Type 0
+  FollowsSo is_fed looks settings =
+      FollowingEndsAt calling is_fed told_watched told words looks shows seen watched new status (Ok settings)
+
+  ends_alike : (settings : Settings) (looks : ℕ) → FollowsSo (asks_input calling settings && fed) looks settings
+      → FollowsSo fed looks settings
+  ends_alike (Tail asked) looks ends = rw (followed_alike calling fed asked) at ends
+  ends_alike settings looks ends = ends
+
+  -- what a run leaves whose words ask to follow files
+  pub program_follows : (laid : ℕ → List ℕ → Option Content) (sources : List Source) {is_fed : Bool} {count : ℕ}
+      (settings : Settings)
+      → settings_of calling words ≡ Ok settings → is_fed ≡ (asks_input calling settings && fed)
+      → follows calling is_fed settings ≡ true → count ≡ looks settings → FollowsSo is_fed count settings
+      → ProgramEnds calling fed told_in told_watched told words laid sources sources shows seen watched new status
+  program_follows laid sources {count} settings read is can often ends =
+      let so = subst (λ those. FollowsSo those count settings) is ends in
+      let as_often = subst (λ n. FollowsSo (asks_input calling settings && fed) n settings) often so in
+      rw (looks_as calling fed words settings read is can, read) (refl, ends_alike settings (looks settings) as_often)
+
 -- how a run ends if its words are refused, whichever kind of run they ask for
-pub program_refuses : (calling : Calling) (told_in told_watched : Bool) {told : Bool}
+pub program_refuses : (calling : Calling) (fed told_in told_watched : Bool) {told : Bool}
     (words : List (List ℕ)) (laid : ℕ → List ℕ → Option Content) {sources : List Source} (shows : ℕ → Snapshot)
     {seen : List Snapshot} {watched : List Watched} {fault : Fault} {new : List Slot} {status : ℕ} → IsFresh sources
     → seen ≡ [] → watched ≡ [] → IsRefused HasBadOperands (settings_of calling words) fault
     → RefusesFor calling told words fault new status
-    → ProgramEnds calling told_in told_watched told words laid sources sources shows seen watched new status
-program_refuses calling told_in told_watched {told} words laid {sources} shows {seen} {watched} {new} {status} fresh
-    unseen unwatched refused refuses = by (looks_at (settings_of calling words)) where
+    → ProgramEnds calling fed told_in told_watched told words laid sources sources shows seen watched new status
+program_refuses calling fed told_in told_watched {told} words laid {sources} shows {seen} {watched} {new} {status} fresh
+    unseen unwatched refused refuses = by (looks_at calling fed (settings_of calling words)) where
       by : (asked : Option ℕ)
-          → ProgramEndsAt calling told_in told_watched told words laid sources sources shows seen watched new
+          → ProgramEndsAt calling fed told_in told_watched told words laid sources sources shows seen watched new
           status asked
       by (Some looks) =
-          (refl, refused_words calling _ _ words looks shows _ _ _ _ unseen unwatched refused refuses)
+          (refl, refused_words calling fed _ _ words looks shows _ _ _ _ unseen unwatched refused refuses)
       by None =
           let all = refused_or_memory calling told_in told words laid sources new status fresh refused refuses in
           (unseen, unwatched, all)

@@ -18,6 +18,7 @@ use Rattle.words_core.specs.{
     value.Followed.{Followed, TheVariants.{Descriptor, Name, PresentName, FirstFile}},
   },
   EndsWords.EndsAsked,
+  TailWords.followed_by,
   Words.{HasOperands, settings_of},
 }
 use Rattle.follow_core.specs.declared.run.Method.TheVariants as method
@@ -78,21 +79,21 @@ FollowsTail calling told_in told words asked None looks shows seen watched new s
     RefusesToFollow calling told words seen watched new status
 
 -- What was asked for was followed; or the words were refused: for operands that can't be read, where they have such
--- ones, and else since they follow nothing.
-abbrev pub FollowingEndsAt : Calling → (told_in told : Bool) → List (List ℕ) → ℕ → (ℕ → Snapshot)
+-- ones, and else since they follow nothing. Standard input is followed only where it is a file that can be watched: `fed`
+-- says so.
+abbrev pub FollowingEndsAt : Calling → (fed told_in told : Bool) → List (List ℕ) → ℕ → (ℕ → Snapshot)
     → List Snapshot → List Watched → List Slot → ℕ → Result Settings Fault → Type 0
-FollowingEndsAt calling told_in told words looks shows seen watched new status (Ok (Tail asked)) =
-    FollowsTail calling told_in told words asked asked.followed looks shows seen watched new status
-FollowingEndsAt calling told_in told words looks shows seen watched new status (Ok settings) =
+FollowingEndsAt calling fed told_in told words looks shows seen watched new status (Ok (Tail asked)) =
+    FollowsTail calling told_in told words asked (followed_by calling fed asked) looks shows seen watched new status
+FollowingEndsAt calling fed told_in told words looks shows seen watched new status (Ok settings) =
     (HasOperands settings × RefusesToFollow calling told words seen watched new status)
     ⊎ ((seen ≡ []) × (watched ≡ []) × RefusesOperands calling told words settings new status)
-FollowingEndsAt calling told_in told words looks shows seen watched new status (Err fault) =
+FollowingEndsAt calling fed told_in told words looks shows seen watched new status (Err fault) =
     RefusesUnseen calling told words fault seen watched new status
 
 -- a run of these words, over looks that would see this and of which these were made, left the outputs so, and returned
 -- this status
-abbrev pub FollowingEnds : Calling → (told_in told : Bool) → List (List ℕ) → ℕ → (ℕ → Snapshot)
+abbrev pub FollowingEnds : Calling → (fed told_in told : Bool) → List (List ℕ) → ℕ → (ℕ → Snapshot)
     → List Snapshot → List Watched → List Slot → ℕ → Type 0
-FollowingEnds calling told_in told words looks shows seen watched new status =
-    FollowingEndsAt calling told_in told words looks shows seen watched new status
-    (settings_of calling words)
+FollowingEnds calling fed told_in told words looks shows seen watched new status =
+    FollowingEndsAt calling fed told_in told words looks shows seen watched new status (settings_of calling words)

@@ -52,10 +52,12 @@ use Rattle.tee_core.specs.{
 use Rattle.words_core.specs.{
   declared.{
     settings.Settings.{Settings, TheVariants.{Head, Tail, Split, Csplit, Tee, About}},
+    tail_words.TailSettings.TailSettings,
     value.Followed.Followed,
   },
   EndsWords.EndsAsked,
   SplitWords.SplitAsked,
+  TailWords.followed_by,
   TeeWords.TeeAsked,
   Words.{HasBadOperands, settings_of},
 }
@@ -81,6 +83,8 @@ pub record Run : Type 0 where
   pub words : List (List ℕ)
   -- what standard input holds, and what lies at each name
   pub world : World
+  -- whether standard input is a file that can be watched
+  pub fed : Bool
   -- what each look would see, where words ask `tail` to follow files
   pub shows : ℕ → Snapshot
   -- what is left of the inputs
@@ -95,8 +99,8 @@ pub record Run : Type 0 where
 -- It began with standard input unread and no name watched, and it ended as `run_words` ensures, which the program calls.
 abbrev pub IsOfProgram : Run → Type 0
 IsOfProgram run =
-    ProgramEnds run.calling true true true run.words run.world.laid (source_of run.world.standard ∷ []) run.inputs
-    run.shows run.seen run.watched run.outputs run.status
+    ProgramEnds run.calling run.fed true true true run.words run.world.laid (source_of run.world.standard ∷ [])
+    run.inputs run.shows run.seen run.watched run.outputs run.status
 
 -- Its words are read as these settings, it began with standard input unread, and it ended as `run` ensures, whether it
 -- met a fault or not.
@@ -194,16 +198,17 @@ counted options sign n = record options { count = record { sign = sign; amount =
 abbrev pub IsHead : Run → EndsAsked → Sign → ℕ → Type 0
 IsHead run options sign n = Does run (Head (counted options sign n))
 
--- `tail` with them, where no file is to be followed; so it makes no looks, whatever their count and their
--- pauses, and waits for no process
+-- `tail` with them, which reads its inputs and so follows none: it makes no looks, whatever is to be followed, their
+-- count and their pauses, and waits for no process
 abbrev pub IsTail : Run → EndsAsked → Sign → ℕ → Type 0
-IsTail run options sign n = (looks : ℕ) × (pause : ℕ) × (process : Option ℕ) × Does run (Tail (record {
-  ends = counted options sign n;
-  followed = None;
-  looks = looks;
-  pause = pause;
-  process = process;
-}))
+IsTail run options sign n = (followed : Option Followed) × (looks : ℕ) × (pause : ℕ) × (process : Option ℕ)
+    × Does run (Tail (record {
+      ends = counted options sign n;
+      followed = followed;
+      looks = looks;
+      pause = pause;
+      process = process;
+    }))
 
 -- no header is written: an option says so, or there is one input and none asks for headers
 abbrev pub IsBare : EndsAsked → Type 0
@@ -634,17 +639,23 @@ pub record EndsWithBreak (run : Run) (asked : TeeAsked) : Type 0 where
       ⊎ (OneIs run stands (λ standing. standing ≡ Sound) → ⊥)
       ⊎ (((source_at run.inputs 0).reads ≡ 0) × Tells run (Tee asked) fault.Memory [])
 
--- its words ask `tail` to follow files so, in this many looks, whatever pauses they ask for, and name no process
-abbrev pub AsksToFollow : Run → EndsAsked → Followed → (looks : ℕ) → Type 0
-AsksToFollow run options followed looks = (pause : ℕ) × (settings_of run.calling run.words
-    ≡ Ok (Tail (record { ends = options; followed = Some followed; looks = looks; pause = pause; process = None })))
+-- what `tail` is asked for that is to follow files so, in this many looks and with these pauses, and names no process
+abbrev pub to_follow : EndsAsked → Followed → (looks pause : ℕ) → TailSettings
+to_follow options followed looks pause =
+    record { ends = options; followed = Some followed; looks = looks; pause = pause; process = None }
 
--- It followed what its words ask for, in as many looks as its caller asks for, ended as `run_follow` ensures, and met no
--- fault. The program asks for as many looks as its words do.
+-- its words ask for that, whatever pauses they ask for, and if they name standard input, it can be followed
+abbrev pub AsksToFollow : Run → EndsAsked → Followed → (looks : ℕ) → Type 0
+AsksToFollow run options followed looks = (pause : ℕ)
+    × (settings_of run.calling run.words ≡ Ok (Tail (to_follow options followed looks pause)))
+    × (followed_by run.calling run.fed (to_follow options followed looks pause) ≡ Some followed)
+
+-- It followed what its words ask for, in as many looks as its caller asks for, ended as `run_follow` ensures, or as the
+-- program does where standard input is followed, and met no fault. The program asks for as many looks as its words do.
 pub record Follows (run : Run) (count : ℕ) (options : EndsAsked) (followed : Followed) : Type 0 where
   pub looks : ℕ
   pub read : AsksToFollow run options followed looks
-  pub ends : FollowingEnds run.calling true true run.words count run.shows run.seen run.watched
+  pub ends : FollowingEnds run.calling run.fed true true run.words count run.shows run.seen run.watched
       run.outputs run.status
   pub well : run.status ≡ 0
 

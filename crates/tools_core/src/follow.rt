@@ -1,5 +1,5 @@
 //! One whole run of `tail` that follows files (POSIX.1-2017, XCU tail, `-f`; names that are followed are GNU's).
-ghost use Rattle.std.specs.Prelude.{◌≡◌, [], Ok, map};
+ghost use Rattle.std.specs.Prelude.{◌≡◌, [], Ok, false, map};
 ghost use Rattle.ports_core.specs.Slot.{streams};
 ghost use Rattle.words_core.specs.Words.{HasOperands};
 ghost use Rattle.tools_core.specs.Following.{FollowingEnds, FollowingEndsAt, FollowsAs, method_of, pause_by, start_of};
@@ -21,7 +21,8 @@ const READER_PAUSE: u64 = 500;
 /// Runs `tail` over the files that the words name, and follows them: `looks` looks, one directly after another, or fewer where
 /// after one nothing more can come, or where the words name a process that is gone. It writes what each look finds, and says what
 /// changed or went wrong on standard error. It returns the status: 0, or 1 where there was any fault. Words that follow nothing
-/// are refused. It takes memory for what the words ask for, for the names and a buffer of 64 KiB, and for headers and messages.
+/// are refused, and so are words that name standard input: where the program is called `cutters`, as here, it isn't followed. It
+/// takes memory for what the words ask for, for the names and a buffer of 64 KiB, and for headers and messages.
 pub fn run_follow<W: Watch, O: Outs>(
     alloc: Global,
     words: &[&str],
@@ -32,7 +33,7 @@ pub fn run_follow<W: Watch, O: Outs>(
     requires unseen { W.seen watch.old ≡ [] }
     requires unwatched { W.watched watch.old ≡ [] }
     requires outputs { O.slots outs.old ≡ streams }
-    ensures { FollowingEnds Calling.Cutters W.told O.told (map (λ word. word.now) words.now) looks
+    ensures { FollowingEnds Calling.Cutters false W.told O.told (map (λ word. word.now) words.now) looks
         (W.shows watch.old)
         (W.seen watch.new) (W.watched watch.new) (O.slots outs.new) result }
 {
@@ -40,6 +41,7 @@ pub fn run_follow<W: Watch, O: Outs>(
         Ok(settings) => follow_asked(
             alloc,
             Calling::Cutters,
+            false,
             words,
             &settings,
             watch,
@@ -50,10 +52,12 @@ pub fn run_follow<W: Watch, O: Outs>(
     }
 }
 
-/// Follows what the settings, which the words spell, ask `tail` to follow; words that follow nothing are refused.
+/// Follows what the settings, which the words spell, ask `tail` to follow; words that follow nothing are refused. `fed` says whether
+/// standard input is a file that can be watched.
 pub(crate) fn follow_asked<W: Watch, O: Outs>(
     alloc: Global,
     calling: Calling,
+    fed: bool,
     words: &[&str],
     settings: &Settings<'_>,
     watch: &mut W,
@@ -64,12 +68,12 @@ pub(crate) fn follow_asked<W: Watch, O: Outs>(
     requires unwatched { W.watched watch.old ≡ [] }
     requires outputs { O.slots outs.old ≡ streams }
     requires operands { HasOperands settings.now }
-    ensures { FollowingEndsAt calling W.told O.told (map (λ word. word.now) words.now) looks
+    ensures { FollowingEndsAt calling fed W.told O.told (map (λ word. word.now) words.now) looks
         (W.shows watch.old)
         (W.seen watch.new) (W.watched watch.new) (O.slots outs.new) result (Ok settings.now) }
 {
     match settings {
-        Settings::Tail(tail) => match tail.followed {
+        Settings::Tail(tail) => match tail.followed_by(calling, fed) {
             Some(followed) => follow_tail(alloc, calling, tail, followed, looks, watch, outs),
             None => refuse_words(alloc, calling, words, &NOT_FOLLOWED, outs),
         },

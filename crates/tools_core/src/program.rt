@@ -1,19 +1,20 @@
 //! The whole program: which of both runs its words ask for.
-ghost use Rattle.std.specs.Prelude.{◌≡◌, ◌≤◌, [], false, length, map};
+ghost use Rattle.std.specs.Prelude.{◌≡◌, ◌≤◌, ◌&&◌, [], false, length, map};
 ghost use Rattle.ports_core.specs.{Slot.streams, Source.{source_at, IsFresh}, Inputs.{AsksAtMost, largest_piece}};
 ghost use Rattle.run_core.specs.{Input.has_dash, Reading.count_after};
 ghost use Rattle.tools_core.specs.{Outcome.names_read, Program.ProgramEnds};
+ghost use Rattle.words_core.specs.Words.{asks_input};
 
 use crate::follow::follow_asked;
 use crate::run::{refuse_words, run_tool};
 use ports_core::{Calling, Inputs, Outs};
 use std::alloc::Global;
 use watch_core::Watch;
-use words_core::read_words_as;
+use words_core::{Settings, read_words_as};
 
 /// Runs what the words ask for, which are read once, as the program is called so: `tail` that follows files as `run_follow` does, in
-/// as many looks as its words say, and all else as `run` does. Where files are followed no input is opened, and else no file is
-/// watched. It returns the status.
+/// as many looks as its words say, and all else as `run` does. By its own name `tail` follows standard input, too, where the watch has it.
+/// Where files are followed no input is opened, and else no file is watched. It returns the status.
 pub fn run_words<I: Inputs, W: Watch, O: Outs>(
     alloc: Global,
     calling: Calling,
@@ -26,7 +27,7 @@ pub fn run_words<I: Inputs, W: Watch, O: Outs>(
     requires unseen { W.seen watch.old ≡ [] }
     requires unwatched { W.watched watch.old ≡ [] }
     requires outputs { O.slots outs.old ≡ streams }
-    ensures ends { ProgramEnds calling I.told W.told O.told (map (λ word. word.now) words.now)
+    ensures ends { ProgramEnds calling (W.fed watch.old) I.told W.told O.told (map (λ word. word.now) words.now)
         (I.laid inputs.old)
         (I.sources inputs.old) (I.sources inputs.new) (W.shows watch.old) (W.seen watch.new) (W.watched watch.new)
         (O.slots outs.new) result }
@@ -40,10 +41,12 @@ pub fn run_words<I: Inputs, W: Watch, O: Outs>(
 {
     match read_words_as(alloc, calling, words) {
         Ok(settings) => {
-            if settings.follows() {
+            let fed = is_fed(calling, &settings, watch);
+            if settings.follows(calling, fed) {
                 follow_asked(
                     alloc,
                     calling,
+                    fed,
                     words,
                     &settings,
                     watch,
@@ -56,4 +59,11 @@ pub fn run_words<I: Inputs, W: Watch, O: Outs>(
         }
         Err(fault) => refuse_words(alloc, calling, words, &fault, outs),
     }
+}
+
+/// Whether standard input is a file that can be watched, where that matters.
+fn is_fed<W: Watch>(calling: Calling, settings: &Settings<'_>, watch: &W) -> bool
+    ensures { result ≡ (asks_input calling settings.now && W.fed watch.now) }
+{
+    settings.asks_input(calling) && watch.has_input()
 }

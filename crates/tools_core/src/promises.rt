@@ -50,7 +50,7 @@ ghost use Rattle.seg_core.specs.declared.unit.Unit.TheVariants as unit;
 /// was opened or read.
 pub fn program_makes_these_runs()
     ensures runs { (run : Run) (asked : Settings) → IsOfProgram run → settings_of run.calling run.words ≡ Ok asked
-        → follows asked ≡ false → Ran run asked × (run.seen ≡ []) × (run.watched ≡ []) }
+        → follows run.calling run.fed asked ≡ false → Ran run asked × (run.seen ≡ []) × (run.watched ≡ []) }
     ensures followed { (run : Run) (options : EndsAsked) (followed : Followed) (looks : ℕ) → IsOfProgram run
         → AsksToFollow run options followed looks → run.status ≡ 0 → Follows run looks options followed
         × (run.inputs ≡ source_of run.world.standard ∷ []) }

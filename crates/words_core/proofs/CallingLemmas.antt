@@ -28,7 +28,7 @@ use Rattle.words_core.specs.{
   Lettered.is_start,
   Spelling.{foremost, mixed, onward, reading, spelled},
   Table.{OptionRow, ToolRow, row_named, tools},
-  TailWords.{bad_follow, followed_in, retry_by, tail_asked, tail_of},
+  TailWords.{bad_follow, by_file, followed_in, has_hyphen, retry_by, tail_asked, tail_of},
   TeeWords.{TeeAsked, fresh, tee_asked, tee_by},
   Value.then_check,
   Words.{about_or, settings_for, tool_named, tool_settings, topic_in},
@@ -145,12 +145,22 @@ same_tee (Err fault) is = refl
 
 -- What is followed is the same by both ways to call the program, except if `cutters` refuses it.
 
+own_file : (names : List (List ℕ)) → (by_file names OwnName ≡ by_file names Cutters)
+    ⊎ (by_file names Cutters ≡ bad_follow)
+own_file [] = inl refl
+own_file (name ∷ []) = inl refl
+own_file (name ∷ next ∷ names) = either (has_hyphen (name ∷ next ∷ names)) where
+  either : (some : Bool) → (Ok (Some Descriptor) ≡ (if some then bad_follow else Ok (Some Descriptor)))
+      ⊎ ((if some then bad_follow else Ok (Some Descriptor)) ≡ bad_follow)
+  either true = inr refl
+  either false = inl refl
+
 own_follow : (followed : Option Followed) (retry : Bool) (names : List (List ℕ))
     → (followed_in followed retry OwnName names ≡ followed_in followed retry Cutters names)
     ⊎ (followed_in followed retry Cutters names ≡ bad_follow)
 own_follow None false names = inl refl
 own_follow None true names = inr refl
-own_follow (Some Descriptor) false names = inl refl
+own_follow (Some Descriptor) false names = own_file names
 own_follow (Some Descriptor) true names = inr refl
 own_follow (Some Name) true names = inl refl
 own_follow (Some Name) false names = inr refl
@@ -163,7 +173,7 @@ own_work : (given : Given) → (tail_asked OwnName given ≡ tail_asked Cutters 
     ⊎ (tail_asked Cutters given ≡ bad_follow)
 own_work given =
     let asked = tail_of (names_asked given.operands) given.options in
-    elim (own_follow asked.followed (asked_by retry_by false given.options) (texts_of given.operands)) [
+    elim (own_follow asked.followed (asked_by retry_by false given.options) asked.ends.names) [
       | inl same ↦ inl (ap (λ meant. then_check meant (λ followed. Ok (record asked { followed = followed }))) same)
       | inr bad ↦ inr (ap (λ meant. then_check meant (λ followed. Ok (record asked { followed = followed }))) bad)
     ]

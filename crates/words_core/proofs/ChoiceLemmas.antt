@@ -19,7 +19,7 @@ use Rattle.words_core.specs.{
   EndsWords.{EndsAsked, ends_by, names_asked, ten_lines},
   SplitWords.{SplitAsked, delim_by, is_way, no_options, only_way, separator_in, split_by, thousand_lines, way_in},
   SplitWords.way_of,
-  TailWords.{retry_by, tail_by, tail_of, unfollowed},
+  TailWords.{retry_by, tail_by, unfollowed},
   TeeWords.{TeeAsked, fresh, tee_by},
   Words.{about_or, or_later, settings_for, topic_in, topic_of, work_for},
   Laws.{LastDecides, amount_of, appends, counts, counts_looks, counts_pause, names_process, drops_sizes},
@@ -83,25 +83,6 @@ pub tail_ends : (asked : TailSettings) (options : List Chosen)
     → (asked_by tail_by asked options).ends ≡ asked_by ends_by asked.ends options
 tail_ends asked [] = refl
 tail_ends asked (option ∷ options) = tail_ends (tail_by asked option.choice) options ∙ ap (λ ends. asked_by ends_by ends options) (tail-sets asked asked option.choice).4
-
--- The names of the inputs stay, whatever options ask for.
-
-abbrev pub of_these : List (List ℕ) → TailSettings → TailSettings
-of_these names asked = record asked { ends = record asked.ends { names = names } }
-
-of_these-by : (names : List (List ℕ)) (asked : TailSettings) (choice : Choice)
-    → tail_by (of_these names asked) choice ≡ of_these names (tail_by asked choice)
-of_these-by names asked choice.FollowNames = refl
-of_these-by names asked choice = refl
-
-asked_of_these : (names : List (List ℕ)) (asked : TailSettings) (options : List Chosen)
-    → asked_by tail_by (of_these names asked) options ≡ of_these names (asked_by tail_by asked options)
-asked_of_these names asked [] = refl
-asked_of_these names asked (option ∷ options) = ap (λ asked. asked_by tail_by asked options) (of_these-by names asked option.choice) ∙ asked_of_these names (tail_by asked option.choice) options
-
-pub tail_of_these : (names : List (List ℕ)) (options : List Chosen)
-    → tail_of names options ≡ of_these names (tail_of [] options)
-tail_of_these names options = asked_of_these names (unfollowed (ten_lines [])) options
 
 pub split-sets : (asked other : SplitAsked) (choice : Choice)
     → ((split_by asked choice).alphabet ≡ (if spells choice then (split_by other choice).alphabet else asked.alphabet))

@@ -1,11 +1,11 @@
 -- What options and operands ask of `tail`, or what is wrong with them.
 use Rattle.std.specs.{
-  Prelude.{ℕ, ◌-◌, ◌^◌, Bool, true, false, List, [], ◌∷◌, codes, Option, Some, None, Result, Ok, Err, if◌then◌else◌},
+  Prelude.{ℕ, ◌-◌, ◌^◌, Bool, true, false, List, ◌∷◌, codes, Option, Some, None, Result, Ok, Err, if◌then◌else◌},
   Prelude.bytes_eq,
   List.list_any,
 }
 use Rattle.ports_core.specs.declared.{
-  calling.Calling.{Calling, TheVariants.OwnName},
+  calling.Calling.{Calling, TheVariants.{Cutters, OwnName}},
   fault.{Fault.{Fault, TheVariants.Usage}, UsageKind.TheVariants.BadFollow},
 }
 use Rattle.words_core.specs.{
@@ -14,7 +14,7 @@ use Rattle.words_core.specs.{
   declared.value.Followed.{Followed, TheVariants.{Descriptor, Name, PresentName, FirstFile}},
   declared.tail_words.TailSettings.TailSettings,
   EndsWords.{EndsAsked, ends_by, names_asked, ten_lines},
-  Given.{asked_by, Given, texts_of},
+  Given.{asked_by, Given},
   Value.then_check,
 }
 
@@ -40,23 +40,22 @@ retry_by retry FollowNames = true
 retry_by retry Retry = true
 retry_by retry choice = retry
 
--- whether standard input is among the operands
+-- whether standard input is among the inputs
 abbrev pub has_hyphen : List (List ℕ) → Bool
 has_hyphen names = list_any (λ name. bytes_eq name (codes "-")) names
 
 abbrev pub bad_follow : {A : Type 0} → Result A Fault
 bad_follow = Err (Usage BadFollow 0)
 
--- Standard input can't be followed. Where it would be alone, following files is dropped.
+-- Files may be followed, but by `cutters` not if standard input is one of several. Names may be if standard input, which
+-- has none, isn't among them.
 
-abbrev pub by_file : Followed → List (List ℕ) → Result (Option Followed) Fault
-by_file how [] = Ok None
-by_file how (name ∷ []) = if has_hyphen (name ∷ []) then Ok None else Ok (Some how)
-by_file how (name ∷ next ∷ names) = if has_hyphen (name ∷ next ∷ names) then bad_follow else Ok (Some how)
+abbrev pub by_file : List (List ℕ) → Calling → Result (Option Followed) Fault
+by_file (name ∷ next ∷ names) Cutters = if has_hyphen (name ∷ next ∷ names) then bad_follow else Ok (Some Descriptor)
+by_file names calling = Ok (Some Descriptor)
 
 abbrev pub by_name : Followed → List (List ℕ) → Result (Option Followed) Fault
-by_name how [] = bad_follow
-by_name how (name ∷ names) = if has_hyphen (name ∷ names) then bad_follow else Ok (Some how)
+by_name how names = if has_hyphen names then bad_follow else Ok (Some how)
 
 -- By `cutters` names are followed just where one that leads nowhere is looked for again. By its own name `tail` drops
 -- such a name where it isn't looked for; a file that is followed may be looked for too, until it is there; and looking
@@ -64,8 +63,8 @@ by_name how (name ∷ names) = if has_hyphen (name ∷ names) then bad_follow el
 abbrev pub followed_in : Option Followed → (retry : Bool) → Calling → List (List ℕ) → Result (Option Followed) Fault
 followed_in None false calling names = Ok None
 followed_in None true OwnName names = Ok None
-followed_in (Some Descriptor) false calling names = by_file Descriptor names
-followed_in (Some Descriptor) true OwnName names = by_file FirstFile names
+followed_in (Some Descriptor) false calling names = by_file names calling
+followed_in (Some Descriptor) true OwnName names = Ok (Some FirstFile)
 followed_in (Some Name) true calling names = by_name Name names
 followed_in (Some Name) false OwnName names = by_name PresentName names
 followed_in followed retry calling names = bad_follow
@@ -78,5 +77,11 @@ abbrev pub tail_asked : Calling → Given → Result TailSettings Fault
 tail_asked calling given =
     let asked = tail_of (names_asked given.operands) given.options in
     then_check
-    (followed_in asked.followed (asked_by retry_by false given.options) calling (texts_of given.operands))
+    (followed_in asked.followed (asked_by retry_by false given.options) calling asked.ends.names)
     (λ followed. Ok (record asked { followed = followed }))
+
+-- How inputs are followed. If standard input is among them, they are followed only by the tool's own name, and where
+-- standard input is a file that can be watched.
+abbrev pub followed_by : Calling → (fed : Bool) → TailSettings → Option Followed
+followed_by OwnName true asked = asked.followed
+followed_by calling fed asked = if has_hyphen asked.ends.names then None else asked.followed

@@ -1,9 +1,10 @@
 -- What a list of words asks for, by how the program was called. The first word is the tool's name, and is word 0.
 use Rattle.std.specs.{
   Prelude.{ℕ, ◌-◌, ◌^◌, Bool, true, false, List, [], ◌∷◌, Option, Some, None, option_map, Result, Ok, Err},
+  Prelude.{◌&&◌, ◌||◌, length, nat_lt},
 }
 use Rattle.ports_core.specs.declared.{
-  calling.Calling.{Calling, TheVariants.Cutters},
+  calling.Calling.{Calling, TheVariants.{Cutters, OwnName}},
   tool.Tool.Tool,
   fault.{Fault.{Fault, TheVariants.Usage}, UsageKind.TheVariants.{MissingTool, UnknownTool}},
 }
@@ -21,7 +22,7 @@ use Rattle.words_core.specs.{
   EndsWords.ends_asked,
   SplitWords.{CanSplit, split_asked},
   Value.then_check,
-  TailWords.tail_asked,
+  TailWords.{followed_by, has_hyphen, tail_asked},
   TeeWords.tee_asked,
 }
 use Rattle.ports_core.specs.declared.tool.Tool.TheVariants as tool
@@ -83,16 +84,23 @@ abbrev pub settings_of : Calling → List (List ℕ) → Result Settings Fault
 settings_of calling [] = Err (Usage MissingTool 0)
 settings_of calling (name ∷ words) = tool_settings calling name words (row_named (tools calling) name)
 
--- whether inputs are followed, and how often they are looked at if they are
-
 abbrev pub is_followed : {A : Type 0} → Option A → Bool
 is_followed None = false
 is_followed (Some followed) = true
 
-abbrev pub follows : Settings → Bool
-follows (Tail asked) = is_followed asked.followed
-follows settings = false
+-- Whether inputs are followed, where `fed` says whether standard input is a file that can be watched. Where there are
+-- several, and it is one of them and can't be followed, the words are refused for that.
+abbrev pub follows : Calling → (fed : Bool) → Settings → Bool
+follows calling fed (Tail asked) =
+    is_followed asked.followed && (nat_lt 1 (length asked.ends.names) || is_followed (followed_by calling fed asked))
+follows calling fed settings = false
 
+-- whether it matters if standard input is a file that can be watched
+abbrev pub asks_input : Calling → Settings → Bool
+asks_input OwnName (Tail asked) = is_followed asked.followed && has_hyphen asked.ends.names
+asks_input calling settings = false
+
+-- how often inputs are looked at where they are followed
 abbrev pub looks : Settings → ℕ
 looks (Tail asked) = asked.looks
 looks settings = 2 ^ 63 - 1

@@ -356,9 +356,10 @@ pub fn letters_ask()
 {}
 
 /// What words mean doesn't depend on how the program is called, with five exceptions: a first word of `tail` that is a
-/// `+` and what may follow it; what may be followed with and without `--retry`; how patterns of `csplit` may be
-/// spelled, and whether they may cut one line past the last; what `tee` does once an output is broken, if no option
-/// says it; and values of `--follow` and `--output-error` that are cut short, which `cutters` refuses.
+/// `+` and what may follow it; what may be followed with and without `--retry`, or beside standard input; how patterns
+/// of `csplit` may be spelled, and whether they may cut one line past the last; what `tee` does once an output is
+/// broken, if no option says it; and values of `--follow` and `--output-error` that are cut short, which `cutters`
+/// refuses. Standard input may be followed only by `tail`'s own name, by the same settings: `followed_by` says so.
 #[tactic(auto, unfolding(crate::specs::Spelling::foremost, crate::specs::Table::tools))]
 pub fn callings_mean_the_same()
     ensures none { MeanTheSame [] }
@@ -443,9 +444,9 @@ pub fn ends_options_ask()
 
 /// What the options of `tail` for following ask for, and what is asked for without any. Files are opened once; or names
 /// are followed, by `cutters` only with `--retry`. By its own name `tail` also follows names as long as they lead to a
-/// file, or the first file to which each name leads. There are as many looks as can be, or this many; pauses last a
-/// second at most, or this many milliseconds; following may end with this process (POSIX.1-2017, XCU tail; GNU
-/// coreutils manual).
+/// file, or the first file to which each name leads. Standard input is never followed by name, and by `cutters` not
+/// among other files. There are as many looks as can be, or this many; pauses last a second at most, or this many
+/// milliseconds; following may end with this process (POSIX.1-2017, XCU tail; GNU coreutils manual).
 #[tactic(auto, unfolding(crate::specs::Spelling::foremost, crate::specs::Table::tools, seg_core::specs::Count::digits_of))]
 pub fn tail_options_ask()
     ensures nothing { (calling : Calling) → settings_of calling (codes "tail" ∷ []) ≡ Ok (Settings.Tail (record {
@@ -456,6 +457,16 @@ pub fn tail_options_ask()
       process = None;
     })) }
     ensures follows { FollowAsks (codes "-f" ∷ []) following }
+    ensures input { (calling : Calling) → settings_of calling (codes "tail" ∷ codes "-f" ∷ [])
+        ≡ Ok (Settings.Tail (record (unfollowed ten_of_input) { followed = Some Followed.Descriptor })) }
+    ensures among { settings_of Calling.Cutters (codes "tail" ∷ codes "-f" ∷ codes "f" ∷ codes "-" ∷ [])
+        ≡ Err (Fault.Usage BadFollow 0) }
+    ensures own_among { settings_of Calling.OwnName (codes "tail" ∷ codes "-f" ∷ codes "f" ∷ codes "-" ∷ [])
+        ≡ Ok (Settings.Tail (record (unfollowed (ten_lines (codes "f" ∷ codes "-" ∷ []))) {
+          followed = Some Followed.Descriptor;
+        })) }
+    ensures unnamed { (calling : Calling) → settings_of calling (codes "tail" ∷ codes "-F" ∷ codes "-" ∷ [])
+        ≡ Err (Fault.Usage BadFollow 0) }
     ensures long { FollowAsks (codes "--follow" ∷ []) following }
     ensures descriptor { FollowAsks (codes "--follow=descriptor" ∷ []) following }
     ensures names { FollowAsks (codes "-F" ∷ []) (record following { followed = Some Followed.Name }) }

@@ -2,15 +2,14 @@
 //! GNU's, `--looks` is of these tools.
 ghost use Rattle.std.specs.Prelude.{◌≡◌, map};
 ghost use Rattle.words_core.specs.{
-  Given.{operand_seen, texts_of},
   Spelling.Reads,
-  TailWords.{by_file, by_name, followed_in, has_hyphen, retry_by, tail_asked, tail_by, unfollowed},
+  TailWords.{by_file, by_name, followed_by, followed_in, has_hyphen, retry_by, tail_asked, tail_by, unfollowed},
   Choice.seen,
 };
 
 use crate::choice::Choice;
 use crate::ends_words::{EndsSettings, names_of, ten_lines};
-use crate::spelled::{Operand, Spelled};
+use crate::spelled::Spelled;
 use crate::value::{Followed, MOST_LOOKS};
 use ports_core::{Calling, Fault, STANDARD_INPUT, UsageKind};
 use std::alloc::Global;
@@ -20,7 +19,7 @@ use std::alloc::Global;
 pub struct TailSettings<'a> {
     /// What is written of each input at first.
     pub ends: EndsSettings<'a>,
-    /// What is followed after that, if anything is.
+    /// How inputs are to be followed after that, if they are. `followed_by` says whether standard input is.
     pub followed: Option<Followed>,
     /// How often inputs that are followed are looked at, 1 to 2^63-1.
     pub looks: u64,
@@ -51,6 +50,18 @@ fn unfollowed(ends: EndsSettings<'_>) -> TailSettings<'_>
 const BAD_FOLLOW: Fault = Fault::Usage(UsageKind::BadFollow, 0);
 
 impl TailSettings<'_> {
+    /// How inputs are followed, where `fed` says whether standard input is a file that can be watched. If standard input is among
+    /// them, they are followed only then, and only by the tool's own name.
+    pub fn followed_by(&self, calling: Calling, fed: bool) -> Option<Followed>
+        ensures { result ≡ followed_by calling fed self.now }
+    {
+        match (calling, fed) {
+            (Calling::OwnName, true) => self.followed,
+            _ if has_hyphen(&self.ends.names) => None,
+            _ => self.followed,
+        }
+    }
+
     /// Takes in what one more option asks for.
     fn take(&mut self, choice: Choice<'_>)
         ensures { self.new ≡ tail_by self.old (seen choice.entry) }
@@ -81,8 +92,8 @@ fn with_retry(retry: bool, choice: Choice<'_>) -> bool
 ///
 /// # Errors
 ///
-/// `Usage` with `BadFollow` where standard input would be followed, by name or beside other inputs; by `cutters` also where names
-/// are followed and not looked for again, or the reverse. After these `Memory` where there is no room for the names.
+/// `Memory` where there is no room for the names. Else `Usage` with `BadFollow` where standard input would be followed by name; by
+/// `cutters` also where it would be followed beside other inputs, and where names are followed and not looked for again, or the reverse.
 pub fn settle_tail<'a>(
     alloc: Global,
     calling: Calling,
@@ -90,75 +101,63 @@ pub fn settle_tail<'a>(
 ) -> Result<TailSettings<'a>, Fault>
     ensures { Reads (tail_asked calling spelled.now) result }
 {
-    let mut asked = unfollowed(ten_lines(Vec::new(alloc)));
+    let mut asked = unfollowed(ten_lines(names_of(alloc, &spelled.operands)?));
     let mut retry = false;
     for option in &spelled.options {
         asked.take(option.choice);
         retry = with_retry(retry, option.choice);
     }
-    let followed = check_following(calling, asked.followed, retry, &spelled.operands)?;
-    let names = names_of(alloc, &spelled.operands)?;
-    Ok(TailSettings {
-        ends: EndsSettings {
-            names,
-            ..asked.ends
-        },
-        followed,
-        ..asked
-    })
+    asked.followed = check_following(calling, asked.followed, retry, &asked.ends.names)?;
+    Ok(asked)
 }
 
-/// What is followed of these operands.
+/// How inputs of these names are to be followed.
 fn check_following(
     calling: Calling,
     followed: Option<Followed>,
     retry: bool,
-    operands: &[Operand<'_>],
+    names: &[&str],
 ) -> Result<Option<Followed>, Fault>
-    ensures { result ≡ followed_in followed retry calling (texts_of (map operand_seen operands.now)) }
+    ensures { result ≡ followed_in followed retry calling (map (λ name. name.now) names.now) }
 {
     match (calling, followed, retry) {
         (_, None, false) | (Calling::OwnName, None, true) => Ok(None),
-        (_, Some(Followed::Descriptor), false) => follow_files(Followed::Descriptor, operands),
-        (_, Some(Followed::Name), true) => follow_names(Followed::Name, operands),
-        (Calling::OwnName, Some(Followed::Descriptor), true) => {
-            follow_files(Followed::FirstFile, operands)
-        }
+        (_, Some(Followed::Descriptor), false) => follow_files(names, calling),
+        (_, Some(Followed::Name), true) => follow_names(Followed::Name, names),
+        (Calling::OwnName, Some(Followed::Descriptor), true) => Ok(Some(Followed::FirstFile)),
         (Calling::OwnName, Some(Followed::Name), false) => {
-            follow_names(Followed::PresentName, operands)
+            follow_names(Followed::PresentName, names)
         }
         _ => Err(BAD_FOLLOW),
     }
 }
 
-/// Follows files so, unless there is only standard input.
-fn follow_files(how: Followed, operands: &[Operand<'_>]) -> Result<Option<Followed>, Fault>
-    ensures { result ≡ by_file how (texts_of (map operand_seen operands.now)) }
+/// Follows files. By `cutters` standard input can't be one of several.
+fn follow_files(names: &[&str], calling: Calling) -> Result<Option<Followed>, Fault>
+    ensures { result ≡ by_file (map (λ name. name.now) names.now) calling }
 {
-    match operands {
-        [] => Ok(None),
-        [_] if has_standard_input(operands) => Ok(None),
-        _ if has_standard_input(operands) => Err(BAD_FOLLOW),
-        _ => Ok(Some(how)),
+    match (names, calling) {
+        ([_, _, ..], Calling::Cutters) if has_hyphen(names) => Err(BAD_FOLLOW),
+        _ => Ok(Some(Followed::Descriptor)),
     }
 }
 
-/// Follows names so, of which there has to be one at least.
-fn follow_names(how: Followed, operands: &[Operand<'_>]) -> Result<Option<Followed>, Fault>
-    ensures { result ≡ by_name how (texts_of (map operand_seen operands.now)) }
+/// Follows names so. Standard input has none.
+fn follow_names(how: Followed, names: &[&str]) -> Result<Option<Followed>, Fault>
+    ensures { result ≡ by_name how (map (λ name. name.now) names.now) }
 {
-    if operands.is_empty() || has_standard_input(operands) {
+    if has_hyphen(names) {
         return Err(BAD_FOLLOW);
     }
     Ok(Some(how))
 }
 
-/// Whether standard input is among the operands.
-fn has_standard_input(operands: &[Operand<'_>]) -> bool
-    ensures { result ≡ has_hyphen (texts_of (map operand_seen operands.now)) }
+/// Whether standard input is among the inputs.
+pub(crate) fn has_hyphen(names: &[&str]) -> bool
+    ensures { result ≡ has_hyphen (map (λ name. name.now) names.now) }
 {
-    for operand in operands {
-        if operand.text == STANDARD_INPUT {
+    for name in names {
+        if *name == STANDARD_INPUT {
             return true;
         }
     }

@@ -3,8 +3,8 @@ ghost use Rattle.std.specs.Prelude.{◌≡◌, map, IfOk, IfErr};
 ghost use Rattle.words_core.specs.{
   Given.option_seen,
   Spelling.IsRefused,
-  Words.{CanRun, HasBadOperands, HasOperands, follows, looks, program_asked, settings_for, settings_of, tool_named},
-  Words.{topic_in, topic_named, work_for},
+  Words.{CanRun, HasBadOperands, HasOperands, asks_input, follows, looks, program_asked, settings_for, settings_of},
+  Words.{tool_named, topic_in, topic_named, work_for},
 };
 
 use crate::choice::Choice;
@@ -15,7 +15,7 @@ use crate::spelled::{Chosen, Spelled};
 use crate::spelling::read_given;
 use crate::split_words::settle_split;
 use crate::table::{Takes, all_tools, find_option, find_row, program_options};
-use crate::tail_words::settle_tail;
+use crate::tail_words::{has_hyphen, settle_tail};
 use crate::tee_words::settle_tee;
 use crate::value::MOST_LOOKS;
 use ports_core::{Calling, Fault, Tool, UsageKind};
@@ -65,12 +65,29 @@ pub fn read_words_as<'a>(
 }
 
 impl Settings<'_> {
-    /// Whether inputs are followed.
-    pub fn follows(&self) -> bool
-        ensures { result ≡ follows self.now }
+    /// Whether inputs are followed, where `fed` says whether standard input is a file that can be watched; or words are refused, which
+    /// ask to follow several.
+    pub fn follows(&self, calling: Calling, fed: bool) -> bool
+        ensures { result ≡ follows calling fed self.now }
     {
         match self {
-            Settings::Tail(settings) => settings.followed.is_some(),
+            Settings::Tail(settings) => {
+                let is_several = settings.ends.names.len() > 1;
+                let can_follow = is_several || settings.followed_by(calling, fed).is_some();
+                settings.followed.is_some() && can_follow
+            }
+            _ => false,
+        }
+    }
+
+    /// Whether it matters if standard input is a file that can be watched.
+    pub fn asks_input(&self, calling: Calling) -> bool
+        ensures { result ≡ asks_input calling self.now }
+    {
+        match (calling, self) {
+            (Calling::OwnName, Settings::Tail(settings)) => {
+                settings.followed.is_some() && has_hyphen(&settings.ends.names)
+            }
             _ => false,
         }
     }

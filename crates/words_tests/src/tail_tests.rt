@@ -50,8 +50,8 @@ fn follows(rt: &impl Abort, alloc: Global, row: &Row<'_>) {
 
 const FOLLOWS: &[Row<'static>] = &[
     (&["tail", "f"], None, MOST_LOOKS),
-    (&["tail", "-f"], None, MOST_LOOKS),
-    (&["tail", "-f", "-"], None, MOST_LOOKS),
+    (&["tail", "-f"], Some(Followed::Descriptor), MOST_LOOKS),
+    (&["tail", "-f", "-"], Some(Followed::Descriptor), MOST_LOOKS),
     (&["tail", "-f", "f"], Some(Followed::Descriptor), MOST_LOOKS),
     (&["tail", "f", "-f"], Some(Followed::Descriptor), MOST_LOOKS),
     (
@@ -195,8 +195,14 @@ const BY_OWN_NAME: &[OwnRow<'static>] = &[
     (&["tail", "-F", "-f", "f"], Some(Followed::FirstFile)),
     (&["tail", "--retry", "f"], None),
     (&["tail", "--retry"], None),
-    (&["tail", "--retry", "-f"], None),
-    (&["tail", "--retry", "-f", "-"], None),
+    (&["tail", "--retry", "-f"], Some(Followed::FirstFile)),
+    (&["tail", "--retry", "-f", "-"], Some(Followed::FirstFile)),
+    (
+        &["tail", "-f", "--retry", "f", "-"],
+        Some(Followed::FirstFile),
+    ),
+    (&["tail", "-f", "f", "-"], Some(Followed::Descriptor)),
+    (&["tail", "-f", "-", "-"], Some(Followed::Descriptor)),
 ];
 
 #[test]
@@ -225,16 +231,9 @@ fn refuses_words_of_tail(rt: HostRuntime) {
 
 const REFUSED: &[Refused<'static>] = &[
     (&["tail", "--follow=name"], UsageKind::BadFollow, 0),
-    (
-        &["tail", "-f", "--retry", "f", "-"],
-        UsageKind::BadFollow,
-        0,
-    ),
     (&["tail", "-F"], UsageKind::BadFollow, 0),
     (&["tail", "-F", "-"], UsageKind::BadFollow, 0),
     (&["tail", "-F", "f", "-"], UsageKind::BadFollow, 0),
-    (&["tail", "-f", "f", "-"], UsageKind::BadFollow, 0),
-    (&["tail", "-f", "-", "-"], UsageKind::BadFollow, 0),
     (&["tail", "f", "--follow=names"], UsageKind::BadFollow, 2),
     (&["tail", "--follow=", "f"], UsageKind::BadFollow, 1),
     (&["tail", "--follow=ame", "f"], UsageKind::BadFollow, 1),

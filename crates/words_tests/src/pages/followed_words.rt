@@ -11,7 +11,7 @@ pub(crate) fn follows_files(alloc: Global, words: &[&str]) -> Result<bool, Fault
         (settings_of Calling.Cutters (map (λ word. word.now) words.now))) }
 {
     match read_words(alloc, words) {
-        Ok(settings) => Ok(settings.follows()),
+        Ok(settings) => Ok(settings.follows(Calling::Cutters, false)),
         Err(fault) => Err(fault),
     }
 }

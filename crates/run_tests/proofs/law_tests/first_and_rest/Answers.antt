@@ -27,4 +27,4 @@ unfolding tools count_of factor_of foremost
 tail_read = refl
 
 pub returns : goal.returns
-returns c = c.met.ensures options options 2 (2 ^ 63 - 1) 1000 head_read tail_read (record { unit = refl; delim = λ lines. refl; bare = (refl, refl) }) refl refl
+returns c = c.met.ensures options options None 2 (2 ^ 63 - 1) 1000 head_read tail_read (record { unit = refl; delim = λ lines. refl; bare = (refl, refl) }) refl refl

@@ -1,4 +1,4 @@
-use Rattle.std.proofs.Common.{◌≡◌, ℕ, ◌+◌, ◌++◌, true, List, [], ◌∷◌, length, Option, Some, None, Ok, subst}
+use Rattle.std.proofs.Common.{◌≡◌, ℕ, ◌+◌, ◌++◌, Bool, true, false, List, [], ◌∷◌, length, Option, Some, None, Ok, refl, subst}
 use Rattle.ends_core.specs.Ends.{tail_of}
 use Rattle.ports_core.specs.{
   Slot.{Slot, slot_at},
@@ -8,6 +8,7 @@ use Rattle.ports_core.specs.{
 use Rattle.watch_core.specs.{Snapshot.Snapshot, Watched.Watched}
 use Rattle.words_core.specs.{
   EndsWords.EndsAsked,
+  TailWords.has_hyphen,
   Words.settings_of,
   declared.{settings.Settings.TheVariants.Tail, value.Followed.{Followed, TheVariants.Descriptor}},
 }
@@ -28,16 +29,17 @@ TellAll = (run : Run) (options : EndsAsked) (followed : Followed) (name came : L
     → (slot_at run.outputs 0).written ≡ tail_of options.delim options.unit (is_plus options.count.sign) options.count.amount ((showing run followed 0).holds file) ++ came
 
 -- what standard output has after a run of these words
-grown_so : AreRuns → TellAll → (words : List (List ℕ)) (laid : ℕ → List ℕ → Option Content) (old sources : List Source) (shows : ℕ → Snapshot) (seen : List Snapshot) (watched : List Watched) (outs : List Slot) (status : ℕ)
-    → old ≡ source_of (unshown []) ∷ [] → ProgramEnds Cutters true true true words laid old sources shows seen watched outs status → status ≡ 0
-    → (options : EndsAsked) (name came : List ℕ) (file n pause : ℕ) → settings_of Cutters words ≡ Ok (Tail (record { ends = options; followed = Some Descriptor; looks = n + 1; pause = pause; process = None })) → IsBare options → options.names ≡ name ∷ []
+grown_so : AreRuns → TellAll → (fed : Bool) (words : List (List ℕ)) (laid : ℕ → List ℕ → Option Content) (old sources : List Source) (shows : ℕ → Snapshot) (seen : List Snapshot) (watched : List Watched) (outs : List Slot) (status : ℕ)
+    → old ≡ source_of (unshown []) ∷ [] → ProgramEnds Cutters fed true true true words laid old sources shows seen watched outs status → status ≡ 0
+    → (options : EndsAsked) (name came : List ℕ) (file n pause : ℕ) → settings_of Cutters words ≡ Ok (Tail (record { ends = options; followed = Some Descriptor; looks = n + 1; pause = pause; process = None })) → has_hyphen options.names ≡ false → IsBare options → options.names ≡ name ∷ []
     → ((count : ℕ) → OnlyGrows count shows name file) → (shows n).holds file ≡ (shows 0).holds file ++ came
     → (slot_at outs 0).written ≡ tail_of options.delim options.unit (is_plus options.count.sign) options.count.amount ((shows 0).holds file) ++ came
-grown_so law tells words laid old sources shows seen watched outs status fresh ends well options name came file n pause read bare named grows held =
+grown_so law tells fed words laid old sources shows seen watched outs status fresh ends well options name came file n pause read no_input bare named grows held =
     let run : Run = record {
       calling = Cutters;
       words = words;
       world = record { laid = laid; standard = unshown [] };
+      fed = fed;
       shows = shows;
       inputs = sources;
       seen = seen;
@@ -45,8 +47,8 @@ grown_so law tells words laid old sources shows seen watched outs status fresh e
       outputs = outs;
       status = status;
     } in
-    let is_of : IsOfProgram run = subst (λ old. ProgramEnds Cutters true true true words laid old sources shows seen watched outs status) fresh ends in
-    tells run options Descriptor name came file n (law run options Descriptor (n + 1) is_of (pause, read) well).0 bare named (grows (length seen)) held
+    let is_of : IsOfProgram run = subst (λ old. ProgramEnds Cutters fed true true true words laid old sources shows seen watched outs status) fresh ends in
+    tells run options Descriptor name came file n (law run options Descriptor (n + 1) is_of (pause, read, rw no_input refl) well).0 bare named (grows (length seen)) held
 
 pub returns : goal.returns
-returns c = grown_so c.program_makes_these_runs.ensures.followed c.tail_follows.ensures.grows _ _ _ _ _ _ _ _ _ c.in_ok-inputs.ensures c.run_words.ensures.ends c.if-run_words-ne0.false
+returns c = grown_so c.program_makes_these_runs.ensures.followed c.tail_follows.ensures.grows _ _ _ _ _ _ _ _ _ _ c.in_ok-inputs.ensures c.run_words.ensures.ends c.if-run_words-ne0.false
