@@ -32,7 +32,7 @@ const SILENT: Row<'static> = Row {
 
 /// The same that is refused.
 const REFUSED: Row<'static> = Row {
-    messages: b"tail: invalid following\nTry 'tail --help'.\n",
+    messages: b"tail: invalid following: cannot follow standard input\nTry 'tail --help'.\n",
     status: 1,
     ..SILENT
 };

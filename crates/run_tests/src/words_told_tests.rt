@@ -92,6 +92,10 @@ const ROWS: &[(&[&str], &str)] = &[
         "invalid following '--follow=x': name or descriptor",
     ),
     (
+        &["tail", "-F", "-"],
+        "invalid following: cannot follow standard input",
+    ),
+    (
         &["tee", "--output-error=later"],
         "invalid mode '--output-error=later': warn, warn-nopipe, exit or exit-nopipe",
     ),

@@ -63,8 +63,8 @@ abbrev pub for_option : List (List ℕ) → ℕ → List ℕ
 for_option words place =
     if end_with_option (take place words) then codes " for " ++ in_quotes (word_at words (place - 1)) else []
 
--- What `--follow` may be, after the word that says something else. A fault of the line as a whole is told at place 0: by its own
--- name `tail` refuses to follow only standard input.
+-- What `--follow` may be, after the word that says something else. At place 0 the whole line is refused: by its own name
+-- `tail` refuses a whole line only if standard input can't be followed as it asks.
 abbrev pub for_follow : List (List ℕ) → ℕ → List ℕ
 for_follow words place =
     if place == 0 then codes ": cannot follow standard input"
