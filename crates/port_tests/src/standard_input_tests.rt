@@ -3,6 +3,7 @@
 use crate::compare::same;
 use crate::reading::inputs_of;
 use ports_core::{Fault, InputFiles, Inputs, STANDARD_INPUT};
+use std::fs;
 use std::test::Fail;
 use watch_core::{DirWatch, Watch};
 
@@ -20,13 +21,20 @@ fn len_watched(rt: HostRuntime) -> Result<Option<u64>, Fault> {
     }
 }
 
-/// A file has as many as standard input shows, and none if that shows nothing.
-#[test]
-fn standard_input_is_watched_from_where_it_stands(rt: HostRuntime) -> Result<(), Fail> {
+/// How many bytes standard input shows; 0 if it shows none. None if it is no file.
+fn len_shown(rt: HostRuntime) -> Option<u64> {
+    let about = fs::metadata(&rt, "/proc/self/fd/0").ok()?;
+    if !about.is_file() {
+        return None;
+    }
     let noted = InputFiles::new(rt.alloc());
     let mut inputs = inputs_of(rt, &noted);
-    let left = inputs.shown(0);
-    let watched = len_watched(rt)?;
-    same(&rt, &watched.unwrap_or(0), &left.unwrap_or(0));
+    Some(inputs.shown(0).unwrap_or(0))
+}
+
+#[test]
+fn standard_input_is_watched_from_where_it_stands(rt: HostRuntime) -> Result<(), Fail> {
+    let shown = len_shown(rt);
+    same(&rt, &len_watched(rt), &Ok(shown));
     Ok(())
 }
