@@ -4,6 +4,7 @@
 ghost use Rattle.std.specs.Prelude.{◌≡◌, [], false, IfOk, map, string_bytes};
 ghost use Rattle.ports_core.specs.{declared.fault.Fault.Fault, Slot.streams, Source.IsFresh};
 ghost use Rattle.tools_core.specs.{Outcome.RefusesFor, Program.RanAs};
+ghost use Rattle.watch_core.specs.inner.DirWatchState.no_turns;
 
 use ports_core::{
     Calling, DirIn, DirOut, Fault, InputFiles, Reason, Speaker, Tool, say, write_whole,
@@ -81,11 +82,29 @@ fn run_args(
 {
     match words_of(alloc, &args.words) {
         Ok(words) => {
-            let mut watch = DirWatch::new(rt, alloc);
+            let mut watch = watch_for(rt, alloc, args.calling, &words);
             run_words(alloc, args.calling, &words, inputs, &mut watch, outs)
         }
         Err(AllocError) => refuse(alloc, outs),
     }
+}
+
+/// The watch of names that these words may ask to follow. Only a `tail` that is called by its own name follows standard input. So the
+/// system is asked for that alone what standard input is.
+fn watch_for(
+    rt: HostRuntime,
+    alloc: Global,
+    calling: Calling,
+    words: &[&str],
+) -> DirWatch<HostRuntime>
+    ensures { result ≡ no_turns result.fed }
+{
+    let mut watch = DirWatch::new(rt, alloc);
+    match (calling, words.first()) {
+        (Calling::OwnName, Some(name)) if *name == Tool::Tail.name() => watch.find_input(),
+        _ => {}
+    }
+    watch
 }
 
 /// The words as texts. Room for all is asked for once: collecting them would ask for less where that is refused.

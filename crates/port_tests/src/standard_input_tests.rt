@@ -10,6 +10,7 @@ use watch_core::{DirWatch, Watch};
 /// How many bytes a look finds under the name of standard input. None if that is no file.
 fn len_watched(rt: HostRuntime) -> Result<Option<u64>, Fault> {
     let mut watch = DirWatch::new(rt, rt.alloc());
+    watch.find_input();
     if !watch.has_input() {
         return Ok(None);
     }

@@ -32,7 +32,7 @@ const SILENT: Row<'static> = Row {
 
 /// The same that is refused.
 const REFUSED: Row<'static> = Row {
-    messages: b"tail: invalid following: cannot follow standard input\nTry 'tail --help'.\n",
+    messages: b"tail: invalid following: standard input is followed only by -f, and only if it is a regular file\nTry 'tail --help'.\n",
     status: 1,
     ..SILENT
 };

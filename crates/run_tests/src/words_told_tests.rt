@@ -93,7 +93,7 @@ const ROWS: &[(&[&str], &str)] = &[
     ),
     (
         &["tail", "-F", "-"],
-        "invalid following: cannot follow standard input",
+        "invalid following: standard input is followed only by -f, and only if it is a regular file",
     ),
     (
         &["tee", "--output-error=later"],

@@ -6,7 +6,7 @@ ghost use Rattle.watch_core.specs.{
 };
 
 use crate::dir_name::{DirName, Manner};
-use crate::input::is_file;
+use crate::input::can_watch_input;
 use crate::process::Process;
 use crate::{Seen, Watch};
 use ports_core::{Fault, Reason, time_of};
@@ -81,7 +81,7 @@ pub struct DirWatch<R: Files<File = File> + Clock + Drop> {
     process: Option<Process>,
     /// What becomes of names that can't be read or lead nowhere.
     manner: Manner,
-    /// Standard input is a regular file, as the system said.
+    /// Standard input is a file that can be watched, as the system said when it was asked.
     fed: bool,
 }
 
@@ -99,11 +99,10 @@ impl<R: Files<File = File> + Clock + Drop> Model for DirWatch<R> {
 }
 
 impl<R: Files<File = File> + Clock + Drop> DirWatch<R> {
-    /// No name and no look. The system is asked what standard input is. It takes no memory.
+    /// No name and no look. Standard input counts as no file until `find_input` asks the system. It takes no memory.
     pub fn new(runtime: R, alloc: Global) -> Self
-        ensures { result ≡ no_turns result.fed }
+        ensures { result ≡ no_turns false }
     {
-        let fed = is_file(&runtime);
         DirWatch {
             runtime,
             alloc,
@@ -113,8 +112,16 @@ impl<R: Files<File = File> + Clock + Drop> DirWatch<R> {
             names: Vec::new(alloc),
             process: None,
             manner: Manner::Plain,
-            fed,
+            fed: false,
         }
+    }
+
+    /// Asks the system whether standard input is a file that can be watched: a regular one that opens anew, and of which the system
+    /// says where it stands. It takes no memory.
+    pub fn find_input(&mut self)
+        ensures { self.new ≡ record self.old { fed = self.new.fed } }
+    {
+        self.fed = can_watch_input(&self.runtime);
     }
 
     /// Whether the name at this place counts as missing where it can't be opened. One that no file can have doesn't.

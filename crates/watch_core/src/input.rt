@@ -16,11 +16,14 @@ pub fn is_input(name: &str) -> bool
     name == STANDARD_INPUT
 }
 
-/// Whether standard input is a regular file, as the system says.
-pub(crate) fn is_file(files: &impl Files) -> bool {
+/// Whether standard input is a regular file that the system opens anew, and of which it says where it stands. Without one of these it
+/// is read as it comes, as any other standard input is.
+pub(crate) fn can_watch_input(files: &impl Files) -> bool {
     match fs::metadata(files, PATH) {
-        Ok(about) => about.is_file(),
-        Err(_) => false,
+        Ok(about) if about.is_file() => {
+            standard_input_place(files).is_some() && fs::open(files, PATH).is_ok()
+        }
+        Ok(_) | Err(_) => false,
     }
 }
 

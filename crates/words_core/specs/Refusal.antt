@@ -67,7 +67,7 @@ for_option words place =
 -- `tail` refuses a whole line only if standard input can't be followed as it asks.
 abbrev pub for_follow : List (List ℕ) → ℕ → List ℕ
 for_follow words place =
-    if place == 0 then codes ": cannot follow standard input"
+    if place == 0 then codes ": standard input is followed only by -f, and only if it is a regular file"
     else codes " " ++ in_quotes (word_at words place) ++ codes ": name or descriptor"
 
 -- what is said of this kind of fault, which stands in the word at this place
