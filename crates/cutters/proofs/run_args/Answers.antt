@@ -7,14 +7,13 @@ pub returns-in-Ok : goal.returns-in-Ok
 returns-in-Ok c =
     let same = ap (map (λ word. word.now)) c.deref-in-Ok.ensures.value ∙ c.in-Ok.ensures ∙ ap (map string_bytes) c.deref.ensures.value in
     let now = c.run_words.new in
-    let (fed, fresh) = c.new-watch.ensures in
     let Ends : List (List ℕ) → DirWatchState → Type 0 = λ words watch.
     ProgramEnds c.args.args.now.calling watch.fed false false false words (λ slot name. None) c.args.inputs.now now.inputs
     (λ n. files_by watch.manner watch.within) (seen now.watch) now.watch.watched now.outs c.run_words.result in
     inl (
-      fed,
       _,
       _,
-      subst (Ends (map string_bytes c.args.args.now.words.items)) fresh
+      _,
+      subst (Ends (map string_bytes c.args.args.now.words.items)) c.new-watch.ensures
           (subst (λ words. Ends words c.new-watch.result) same c.run_words.ensures.ends),
     )
