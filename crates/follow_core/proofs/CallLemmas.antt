@@ -42,7 +42,8 @@ unreasoned Cutters why is = rw (alike (is_endless why) (codes "memory exhausted"
 -- the message that a name can't be read, or opened
 pub failure_said : {told : Bool} {calling : Calling} {why : Reason} (read : Bool) (place : ℕ) (name : List ℕ)
     {old new : List Slot}
-    → SaysOn told (tail_by calling) why (failure_message (if read then fault.Read place else fault.Open place) name) old new
+    → SaysOn told (tail_by calling) why (failure_message (if read then fault.Read place else fault.Open place) name)
+    old new
     → OnError (Tells told calling (failure_text (if read then fault.Read place else fault.Open place) name)) old new
 failure_said {calling} {why} read place name says = λ output error others are.
     let said = says output error others are in

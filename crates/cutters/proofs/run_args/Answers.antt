@@ -14,6 +14,6 @@ returns-in-Ok c =
       _,
       _,
       _,
-      subst (Ends (map string_bytes c.args.args.now.words.items)) c.new-watch.ensures
-          (subst (λ words. Ends words c.new-watch.result) same c.run_words.ensures.ends),
+      subst (Ends (map string_bytes c.args.args.now.words.items)) c.watch_for-watch.ensures
+          (subst (λ words. Ends words c.watch_for-watch.result) same c.run_words.ensures.ends),
     )
