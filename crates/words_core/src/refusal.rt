@@ -118,7 +118,10 @@ fn for_follow(alloc: Global, words: &[&str], place: usize) -> Result<Vec<u8>, Al
     ensures { IfOk result (λ text. text.items ≡ for_follow (map (λ word. word.now) words.now) place) }
 {
     if place == 0 {
-        return Vec::from_slice(alloc, b": standard input is followed only by -f, and only if it is a regular file");
+        return Vec::from_slice(
+            alloc,
+            b": standard input is followed only by -f, and only if it is a regular file",
+        );
     }
     let mut text = Vec::from_slice(alloc, b" ")?;
     write_quoted(&mut text, word_at(words, place))?;
