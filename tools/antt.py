@@ -162,7 +162,9 @@ def imports_of(lines):
         for path, is_item, word in use.brings() if not use.is_public else ():
             if path.startswith("Rattle."):
                 module, _, name = path.rpartition(".")
-                found[word] = (module, name) if is_item else (path, None)
+                # What stands in a file is an item, with braces or without; the variants of an enum are a module.
+                in_file = module.rpartition(".")[2][:1].isupper() and name != "TheVariants"
+                found[word] = (module, name) if is_item or in_file else (path, None)
     return found
 
 

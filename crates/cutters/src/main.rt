@@ -4,7 +4,7 @@
 ghost use Rattle.std.specs.Prelude.{◌≡◌, [], false, IfOk, map, string_bytes};
 ghost use Rattle.ports_core.specs.{declared.fault.Fault.Fault, Slot.streams, Source.IsFresh};
 ghost use Rattle.tools_core.specs.{Outcome.RefusesFor, Program.RanAs};
-ghost use Rattle.watch_core.specs.inner.DirWatchState.no_turns;
+ghost use Rattle.watch_core.specs.DirWatchState.{no_turns};
 
 use ports_core::{
     Calling, DirIn, DirOut, Fault, InputFiles, Reason, Speaker, Tool, say, write_whole,

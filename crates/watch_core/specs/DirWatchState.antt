@@ -1,6 +1,6 @@
 -- What contracts see of a watch over real files: how many looks began, and the names. What a look could see is not
 -- told.
-use Rattle.std.specs.Prelude.{ℕ, Bool, true, List, replicate}
+use Rattle.std.specs.Prelude.{ℕ, Bool, true, List, [], replicate}
 use Rattle.watch_core.specs.{
   declared.dir_name.Manner.{Manner, TheVariants.{Plain, Forgiving, Clinging, Insisting}},
   Snapshot.{Snapshot, forgiving, insisting, no_files, waiting},
@@ -17,8 +17,12 @@ pub record DirWatchState : Type 0 where
   pub within : ℕ
   -- for how many milliseconds the last look was waited for, in pauses
   pub rested : ℕ
-  -- standard input is a file, as the system said
+  -- standard input is a file that can be watched, as the system said when it was asked
   pub fed : Bool
+
+-- a watch without a name, before the first look; `fed` says whether standard input is a file that can be watched
+abbrev pub no_turns : (fed : Bool) → DirWatchState
+no_turns fed = record { turns = 0; watched = []; manner = Plain; within = 1000; rested = 0; fed = fed }
 
 -- a snapshot of which nothing is told: any call may find anything
 abbrev pub any_files : Snapshot

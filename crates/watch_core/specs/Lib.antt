@@ -2,4 +2,3 @@ pub mod Snapshot
 pub mod Edits
 pub mod Watched
 pub mod DirWatchState
-pub mod inner

@@ -1,8 +1,7 @@
 ghost use Rattle.std.specs.Prelude.{◌≡◌, ◌⊎◌, ◌≤◌, ◌∷◌, ◌++◌, [], false, IsTrue};
 ghost use Rattle.watch_core.specs.{
-  DirWatchState.{DirWatchState, files_by, seen},
+  DirWatchState.{DirWatchState, files_by, no_turns, seen},
   Watched.{CanBreak, is_watchable},
-  inner.DirWatchState.no_turns,
 };
 
 use crate::dir_name::{DirName, Manner};
