@@ -1,12 +1,12 @@
 -- Lemmas on values that may be cut short by a tool's own name: what `cutters` takes means the same there.
-use Rattle.std.proofs.{Common.{◌≡◌, refl, ap, ℕ, ◌+◌, ◌==◌, ◌&&◌, Bool, true, false, if◌then◌else◌, List, [], ◌∷◌, map}, Common.{Option, Some, None, option_map, Result, Ok, Err, ok_or, ◌⊎◌, inl, inr, ◌↔◌}}
+use Rattle.std.proofs.{lemmas.Bool.eqb-true, Common.{◌≡◌, refl, ap, ◌∙◌, arith, suc, ℕ, ◌+◌, ◌==◌, ◌&&◌, Bool, true, false, if◌then◌else◌, List, [], ◌∷◌, map}, Common.{Option, Some, None, option_map, Result, Ok, Err, ok_or, ◌⊎◌, inl, inr, ◌↔◌}}
 use Rattle.std.specs.{List.before_first, Option.{option_or, unwrap_or}, Prelude.nat_lt}
 use Rattle.seg_core.specs.{Count.{after_digits, is_number}}
 use Rattle.ports_core.specs.declared.{
   calling.Calling.{Calling, TheVariants.{Cutters, OwnName}},
   fault.{Fault.{Fault, TheVariants.Usage}, UsageKind.{UsageKind, TheVariants.{BadFollow, BadMode}}},
 }
-use Rattle.words_core.specs.{declared.{choice.{Choice.Choice, Kind.Kind}, spelling.State.{State, TheVariants.{Awaiting, Ended, First, OnlyOperands, Reading}}, table.{Letters.{Letters, TheVariants.{Never, OfHead, OfTail}}, Takes.Takes}}, Choice.{asking, choice_in}, Given.{bare}, Lettered.{are_known, is_lettered, is_start, is_switch, letter_named, switched, switches}, Spelling.{Meaning, after_equals, before, cluster, is_equals, dashed, foremost, given_before, lettered, meaning_of, mixed, named}, Spelling.{onward, option_lettered, said, spelled, valued}, Table.{OptionRow, beginning, begins_one, full_or, is_among, only_one, option_called, option_named}, Laws.AreCutShort, Value.{beginning_in, follow_values, on_broken_values, only_value, value_in, values_from}}
+use Rattle.words_core.specs.{declared.{choice.{Choice.Choice, Kind.Kind}, spelling.State.{State, TheVariants.{Awaiting, Ended, First, OnlyOperands, Reading}}, table.{Letters.{Letters, TheVariants.{Never, OfHead, OfTail}}, Takes.Takes}}, Choice.{asking, choice_in}, Given.{Given, bare}, Lettered.{are_known, is_lettered, is_start, is_switch, letter_named, switched, switches}, Spelling.{Meaning, after_equals, before, cluster, is_equals, dashed, foremost, given_before, lettered, meaning_of, mixed, named}, Spelling.{onward, option_lettered, said, spelled, valued}, Table.{OptionRow, beginning, begins_one, full_or, is_among, only_one, option_called, option_named}, Laws.{AreCutShort, HasShortValue, IsCutShort}, Refusal.word_at, Value.{beginning_in, follow_values, on_broken_values, only_value, value_in, values_from}}
 use Rattle.words_core.specs.declared.choice.Choice.TheVariants as choice
 use Rattle.words_core.specs.declared.choice.Kind.TheVariants as kind
 use Rattle.words_core.specs.declared.table.Takes.TheVariants as takes
@@ -43,29 +43,35 @@ abbrev pub own_on_broken : Kind → Kind
 own_on_broken (kind.OnBroken calling) = kind.OnBroken OwnName
 own_on_broken other = other
 
--- what is read is the same, or `cutters` has this fault
-abbrev pub IsAlike : {A E : Type 0} → E → Result A E → Result A E → Type 0
-IsAlike fault own cutters = (own ≡ cutters) ⊎ (cutters ≡ Err fault)
+-- what is read is the same, or `cutters` has this fault because of a value that is cut short
+abbrev pub IsAlike : {A E : Type 0} → Type 0 → E → Result A E → Result A E → Type 0
+IsAlike Short fault own cutters = (own ≡ cutters) ⊎ ((cutters ≡ Err fault) × Short)
 
 value_alike : {A : Type 0} (make : A → Choice) (fault : UsageKind) (found short : Option A)
-    → IsAlike fault (asking make (ok_or (option_or found short) fault))
-    (asking make (ok_or (option_or found None) fault))
+    → IsAlike ((found ≡ None) × (value : A) × (option_or found short ≡ Some value)) fault
+    (asking make (ok_or (option_or found short) fault)) (asking make (ok_or (option_or found None) fault))
 value_alike make fault (Some value) short = inl refl
-value_alike make fault None short = inr refl
+value_alike make fault None (Some value) = inr (refl, (refl, value, refl))
+value_alike make fault None None = inl refl
 
 pub follow_alike : (kind : Kind) (text : List ℕ)
-    → IsAlike BadFollow (choice_in (own_follow kind) text) (choice_in kind text)
+    → IsAlike (IsCutShort follow_values text) BadFollow (choice_in (own_follow kind) text) (choice_in kind text)
 follow_alike (kind.Follow Cutters) text = value_alike (λ followed. choice.Follow followed) BadFollow
     (value_in follow_values text) (beginning_in OwnName follow_values text)
 follow_alike (kind.Follow OwnName) text = inl refl
 follow_alike other text = inl refl
 
 pub on_broken_alike : (kind : Kind) (text : List ℕ)
-    → IsAlike BadMode (choice_in (own_on_broken kind) text) (choice_in kind text)
+    → IsAlike (IsCutShort on_broken_values text) BadMode (choice_in (own_on_broken kind) text) (choice_in kind text)
 on_broken_alike (kind.OnBroken Cutters) text = value_alike (λ on_broken. choice.OnBroken on_broken) BadMode
     (value_in on_broken_values text) (beginning_in OwnName on_broken_values text)
 on_broken_alike (kind.OnBroken OwnName) text = inl refl
 on_broken_alike other text = inl refl
+
+-- `cutters` has this fault in one of these words, in which a value is cut short
+abbrev pub IsRefused : {A B : Type 0} → List (List ℕ × A) → UsageKind → List (List ℕ) → Result B Fault → Type 0
+IsRefused values kind words cutters = (place : ℕ) × (cutters ≡ Err (Usage kind place))
+    × HasShortValue values (word_at words place)
 
 -- what is so of both is so of either, in pairs
 both_ways : {A : Type 0} (P : A → A → Type 0) (test : Bool) {own one other rest : A} → P own one → P other rest
@@ -73,8 +79,15 @@ both_ways : {A : Type 0} (P : A → A → Type 0) (test : Bool) {own one other r
 both_ways P true first second = first
 both_ways P false first second = second
 
-module _ (own : Kind → Kind) (bad : UsageKind)
-    (alike : (kind : Kind) (text : List ℕ) → IsAlike bad (choice_in (own kind) text) (choice_in kind text)) where
+-- so too where the first needs that the test says yes
+either_way : {A : Type 0} (P : A → A → Type 0) (test : Bool) {own one other rest : A} → (test ≡ true → P own one)
+    → P other rest → P (if test then own else other) (if test then one else rest)
+either_way P true first second = first refl
+either_way P false first second = second
+
+module _ {A : Type 0} (values : List (List ℕ × A)) (own : Kind → Kind) (bad : UsageKind)
+    (alike : (kind : Kind) (text : List ℕ)
+    → IsAlike (IsCutShort values text) bad (choice_in (own kind) text) (choice_in kind text)) where
   -- the rows of a table by a tool's own name: kinds of values that may be missing differ
 
   abbrev pub own_takes : Takes → Takes
@@ -119,17 +132,25 @@ module _ (own : Kind → Kind) (bad : UsageKind)
 
   -- a long option
 
-  valued_so : (kind : Kind) (option place : ℕ) (text : List ℕ)
-      → IsAlike (Usage bad place) (valued (own kind) option place text) (valued kind option place text)
-  valued_so kind option place text = elim (alike kind text) [
-    | inl same ↦ inl (ap (said option place) same)
-    | inr fault ↦ inr (ap (said option place) fault)
+  valued_so : (kind : Kind) (place : ℕ) (text : List ℕ)
+      → IsAlike (IsCutShort values text) (Usage bad place) (valued (own kind) place place text)
+      (valued kind place place text)
+  valued_so kind place text = elim (alike kind text) [
+    | inl same ↦ inl (ap (said place place) same)
+    | inr (fault, short) ↦ inr (ap (said place place) fault, short)
   ]
 
+  -- this value is there, and is cut short
+  abbrev IsShortThere : Option (List ℕ) → Type 0
+  IsShortThere value = (text : List ℕ) × (value ≡ Some text) × IsCutShort values text
+
   long_so : (place : ℕ) (option : Result Takes UsageKind) (value : Option (List ℕ))
-      → IsAlike (Usage bad place) (named place (own_found option) value) (named place option value)
+      → IsAlike (IsShortThere value) (Usage bad place) (named place (own_found option) value) (named place option value)
   long_so place (Err fault) value = inl refl
-  long_so place (Ok (takes.Optional choice kind)) (Some text) = valued_so kind place place text
+  long_so place (Ok (takes.Optional choice kind)) (Some text) = elim (valued_so kind place text) [
+    | inl same ↦ inl same
+    | inr (fault, short) ↦ inr (fault, (text, refl, short))
+  ]
   long_so place (Ok (takes.Optional choice kind)) None = inl refl
   long_so place (Ok other) (Some text) = inl refl
   long_so place (Ok other) None = inl refl
@@ -190,38 +211,49 @@ module _ (own : Kind → Kind) (bad : UsageKind)
 
   -- one word
 
+  -- what this word means is the same, or `cutters` has this fault and the word a value that is cut short
+  abbrev AlikeWord : List ℕ → ℕ → Result Meaning Fault → Result Meaning Fault → Type 0
+  AlikeWord word place own cutters = IsAlike (HasShortValue values word) (Usage bad place) own cutters
+
   dashed_so : (rows : List OptionRow) (place : ℕ) (rest : List ℕ)
-      → IsAlike (Usage bad place) (dashed (own_rows rows) place rest) (dashed rows place rest)
+      → AlikeWord (45 ∷ 45 ∷ rest) place (dashed (own_rows rows) place rest) (dashed rows place rest)
   dashed_so rows place [] = inl refl
   dashed_so rows place (byte ∷ bytes) =
       let word : List ℕ = 45 ∷ 45 ∷ byte ∷ bytes in
       let name : List ℕ = before_first is_equals word in
       rw (called_so rows name) (long_so place (option_called rows name) (after_equals word))
 
+  hyphens_so : (rows : List OptionRow) (place : ℕ) {byte next : ℕ} (rest : List ℕ) → byte ≡ 45 → next ≡ 45
+      → AlikeWord (byte ∷ next ∷ rest) place (dashed (own_rows rows) place rest) (dashed rows place rest)
+  hyphens_so rows place rest first second = rw (first, second) (dashed_so rows place rest)
+
   mixed_so : (rows : List OptionRow) (place : ℕ) (word : List ℕ)
-      → IsAlike (Usage bad place) (mixed (own_rows rows) place word) (mixed rows place word)
+      → AlikeWord word place (mixed (own_rows rows) place word) (mixed rows place word)
   mixed_so rows place [] = inl refl
   mixed_so rows place (byte ∷ []) = inl refl
   mixed_so rows place (byte ∷ next ∷ rest) =
-      both_ways (IsAlike (Usage bad place)) (byte == 45)
-      (both_ways (IsAlike (Usage bad place)) (next == 45) (dashed_so rows place rest) (inl (cluster_so rows place (next ∷ rest))))
+      let Alike : Result Meaning Fault → Result Meaning Fault → Type 0 = AlikeWord (byte ∷ next ∷ rest) place in
+      either_way Alike (byte == 45)
+      (λ first. either_way Alike (next == 45)
+      (λ second. hyphens_so rows place rest (eqb-true byte 45 first) (eqb-true next 45 second))
+      (inl (cluster_so rows place (next ∷ rest))))
       (inl refl)
 
   foremost_so : (calling : Calling) (rows : List OptionRow) (kind : Kind) (letters : Letters) (place : ℕ)
       (word : List ℕ)
-      → IsAlike (Usage bad place) (foremost calling (own_rows rows) kind letters place word)
+      → AlikeWord word place (foremost calling (own_rows rows) kind letters place word)
       (foremost calling rows kind letters place word)
   unfolding foremost
   foremost_so calling rows kind letters place [] = inl refl
   foremost_so calling rows kind letters place (byte ∷ text) =
-      let Alike : Result Meaning Fault → Result Meaning Fault → Type 0 = IsAlike (Usage bad place) in
+      let Alike : Result Meaning Fault → Result Meaning Fault → Type 0 = AlikeWord (byte ∷ text) place in
       rw (is_lettered_so rows letters text, is_start_so calling rows letters text, switches_so rows place (after_digits text))
       (both_ways Alike (byte == 45 && is_number text) (inl refl)
       (both_ways Alike (byte == 45 && is_lettered rows letters text) (inl refl)
       (both_ways Alike (byte == 43 && is_start calling rows letters text) (inl refl) (mixed_so rows place (byte ∷ text)))))
 
   meaning_so : (rows : List OptionRow) (state : State) (place : ℕ) (word : List ℕ)
-      → IsAlike (Usage bad place) (meaning_of (own_rows rows) state place word) (meaning_of rows state place word)
+      → AlikeWord word place (meaning_of (own_rows rows) state place word) (meaning_of rows state place word)
   meaning_so rows (First calling kind letters) place word = foremost_so calling rows kind letters place word
   meaning_so rows Reading place word = mixed_so rows place word
   meaning_so rows (Awaiting kind option) place word = inl refl
@@ -230,24 +262,36 @@ module _ (own : Kind → Kind) (bad : UsageKind)
 
   -- all words
 
-  abbrev AreAlike : List OptionRow → List (List ℕ) → ℕ → State → Type 0
-  AreAlike rows words place state = (spelled (own_rows rows) words place state ≡ spelled rows words place state)
-      ⊎ ((word : ℕ) × (spelled rows words place state ≡ Err (Usage bad word)))
+  -- what they spell is the same, or `cutters` has this fault in one of them, in which a value is cut short
+  abbrev AreAlike : List (List ℕ) → ℕ → Result Given Fault → Result Given Fault → Type 0
+  AreAlike words place own cutters = (own ≡ cutters)
+      ⊎ ((number : ℕ) × (cutters ≡ Err (Usage bad (place + number))) × HasShortValue values (word_at words number))
 
-  onward_so : (rows : List OptionRow) (words : List (List ℕ)) (place : ℕ) (meant : Result Meaning Fault)
-      → ((state : State) → AreAlike rows words place state)
-      → (onward (spelled (own_rows rows) words place) meant ≡ onward (spelled rows words place) meant)
-      ⊎ ((word : ℕ) × (onward (spelled rows words place) meant ≡ Err (Usage bad word)))
-  onward_so rows words place (Err fault) rest = inl refl
-  onward_so rows words place (Ok meaning) rest = elim (rest meaning.next) [
+  onward_so : (word : List ℕ) (words : List (List ℕ)) (place : ℕ) (meant : Result Meaning Fault)
+      {own cutters : State → Result Given Fault}
+      → ((state : State) → AreAlike words (place + 1) (own state) (cutters state))
+      → AreAlike (word ∷ words) place (onward own meant) (onward cutters meant)
+  onward_so word words place (Err fault) rest = inl refl
+  onward_so word words place (Ok meaning) rest = elim (rest meaning.next) [
     | inl same ↦ inl (ap (given_before meaning.given) same)
-    | inr (word, fault) ↦ inr (word, ap (given_before meaning.given) fault)
+    | inr (number, fault, short) ↦
+        inr (suc number, ap (given_before meaning.given) (fault ∙ ap (λ at. Err (Usage bad at)) (omega arith)), short)
   ]
 
-  pub words_so : (rows : List OptionRow) (words : List (List ℕ)) (place : ℕ) (state : State)
-      → AreAlike rows words place state
-  words_so rows [] place state = inl refl
-  words_so rows (word ∷ words) place state = elim (meaning_so rows state place word) [
-    | inl same ↦ rw same (onward_so rows words (place + 1) (meaning_of rows state place word) (words_so rows words (place + 1)))
-    | inr fault ↦ inr (place, ap (onward (spelled rows words (place + 1))) fault)
+  each_so : (rows : List OptionRow) (words : List (List ℕ)) (place : ℕ) (state : State)
+      → AreAlike words place (spelled (own_rows rows) words place state) (spelled rows words place state)
+  each_so rows [] place state = inl refl
+  each_so rows (word ∷ words) place state = elim (meaning_so rows state place word) [
+    | inl same ↦
+        rw same (onward_so word words place (meaning_of rows state place word) (each_so rows words (place + 1)))
+    | inr (fault, short) ↦
+        inr (0, ap (onward (spelled rows words (place + 1))) fault ∙ ap (λ at. Err (Usage bad at)) (omega arith), short)
+  ]
+
+  pub words_so : (rows : List OptionRow) (name : List ℕ) (words : List (List ℕ)) (state : State)
+      → (spelled (own_rows rows) words 1 state ≡ spelled rows words 1 state)
+      ⊎ IsRefused values bad (name ∷ words) (spelled rows words 1 state)
+  words_so rows name words state = elim (each_so rows words 1 state) [
+    | inl same ↦ inl same
+    | inr (number, fault, short) ↦ inr (suc number, fault ∙ ap (λ at. Err (Usage bad at)) (omega arith), short)
   ]

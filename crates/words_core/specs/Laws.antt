@@ -32,7 +32,8 @@ use Rattle.words_core.specs.{
   SplitWords.{SplitAsked, no_options},
   Given.{Given, GivenOperand, one_option},
   Lettered.{is_start, unit_of},
-  Spelling.{given_before, is_equals, spelled},
+  Refusal.word_at,
+  Spelling.{after_equals, given_before, is_equals, spelled},
   Table.{OptionRow, alone, option_called, option_named, tail_table, tee_table},
   TailWords.unfollowed,
   TeeWords.{TeeAsked, fresh},
@@ -266,9 +267,19 @@ say_nothing (Err fault) = false
 abbrev pub leave_open : List (List ℕ) → Bool
 leave_open words = say_nothing (spelled (tee_table Cutters) words 1 Reading)
 
--- with this fault, of one of these words or of the line as a whole, `cutters` refuses them
-abbrev pub RefusedWith : UsageKind → List (List ℕ) → Type 0
-RefusedWith kind words = (place : ℕ) × (settings_of Cutters words ≡ Err (Usage kind place))
+-- this text is one of these values, cut short: it is none of them in full, and by a tool's own name it is taken
+abbrev pub IsCutShort : {A : Type 0} → List (List ℕ × A) → List ℕ → Type 0
+IsCutShort {A = A} values text = (value_in values text ≡ None) × (value : A)
+    × (value_by OwnName values text ≡ Some value)
+
+-- what stands in this word after `=` is one of these values, cut short
+abbrev pub HasShortValue : {A : Type 0} → List (List ℕ × A) → List ℕ → Type 0
+HasShortValue values word = (text : List ℕ) × (after_equals word ≡ Some text) × IsCutShort values text
+
+-- `cutters` refuses these words with this fault, at some place; the word there has one of these values, cut short
+abbrev pub RefusedAsShort : {A : Type 0} → List (List ℕ × A) → UsageKind → List (List ℕ) → Type 0
+RefusedAsShort values kind words = (place : ℕ) × (settings_of Cutters words ≡ Err (Usage kind place))
+    × HasShortValue values (word_at words place)
 
 -- Of these values one in full is taken exactly, however the program is called; by a tool's own name the only one that begins with
 -- a text is taken by this text, and `cutters` takes no other texts than the values in full.

@@ -22,7 +22,7 @@ ghost use Rattle.words_core.specs.{
   Format.{Format, format_in},
   Laws.{AreAlike, AreAmong, AreNames, CsplitAsks, EndsAsk, FollowAsks, Gives, HasLetters, IsLetter, IsLong},
   Laws.{IsNumberWithLetters, IsSwitch, IsTold, LastDecides, LeaveTheRest, MeanTheSame, NumberAsks, OnBrokenAsks},
-  Laws.{AreCutShort, RefusedBut, RefusedWith, SplitAsks, StartAsks, TeeAsks, amount_of, appends, as_operands, as_wide, begin_with_start, counts},
+  Laws.{AreCutShort, RefusedAsShort, RefusedBut, SplitAsks, StartAsks, TeeAsks, amount_of, appends, as_operands, as_wide, begin_with_start, counts},
   Laws.{by_own_name, counts_looks, counts_pause, drops_sizes, elides_files, ends_with_zero, following, fresh_file, gives_ending},
   Laws.{gives_format, has, heads, how_many, is_plain, keeps_files, kind_of, leave_open, leaves_lines_out, names_prefix},
   Laws.{names_process, plain_style, retries, says_followed, says_on_broken, separates, spells, tells_of_files},
@@ -366,12 +366,13 @@ pub fn callings_mean_the_same()
     ensures unknown { (name : List ℕ) (words : List (List ℕ)) → tool_named name ≡ None → MeanTheSame (name ∷ words) }
     ensures head { (words : List (List ℕ)) → MeanTheSame (codes "head" ∷ words) }
     ensures tail { (words : List (List ℕ)) → begin_with_start words ≡ false → MeanTheSame (codes "tail" ∷ words)
-        ⊎ RefusedWith BadFollow (codes "tail" ∷ words) }
+        ⊎ ((settings_of Calling.Cutters (codes "tail" ∷ words) ≡ Err (Fault.Usage BadFollow 0))
+        ⊎ RefusedAsShort follow_values BadFollow (codes "tail" ∷ words)) }
     ensures split { (words : List (List ℕ)) → MeanTheSame (codes "split" ∷ words) }
     ensures csplit { (words : List (List ℕ)) → settings_of Calling.OwnName (codes "csplit" ∷ words)
         ≡ by_own_name (settings_of Calling.Cutters (codes "csplit" ∷ words)) }
     ensures tee { (words : List (List ℕ)) → leave_open words ≡ false → MeanTheSame (codes "tee" ∷ words)
-        ⊎ RefusedWith BadMode (codes "tee" ∷ words) }
+        ⊎ RefusedAsShort on_broken_values BadMode (codes "tee" ∷ words) }
     ensures left_open { (given : Given) → has says_on_broken given.options ≡ false
         → tee_asked Calling.OwnName given
         ≡ record (tee_asked Calling.Cutters given) { on_broken = OnBroken.Signal } }
