@@ -5,7 +5,7 @@ use Rattle.cutters.proofs.run_args.Goals as goal
 
 pub returns-in-Ok : goal.returns-in-Ok
 returns-in-Ok c =
-    let same = ap (map (λ word. word.now)) c.deref-in-Ok.ensures.value ∙ c.in-Ok.ensures ∙ ap (map string_bytes) c.deref.ensures.value in
+    let same = ap (map (λ word. word.now)) c.deref-in-Ok-2.ensures.value ∙ c.in-Ok.ensures ∙ ap (map string_bytes) c.deref.ensures.value in
     let now = c.run_words.new in
     let Ends : List (List ℕ) → DirWatchState → Type 0 = λ words watch.
     ProgramEnds c.args.args.now.calling watch.fed false false false words (λ slot name. None) c.args.inputs.now now.inputs
