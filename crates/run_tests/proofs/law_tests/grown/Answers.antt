@@ -5,6 +5,7 @@ use Rattle.ports_core.specs.{
   Source.{Content, Source, source_of, unshown},
   declared.calling.Calling.TheVariants.Cutters,
 }
+use Rattle.mem_core.specs.MemWatchState.{is_fed}
 use Rattle.watch_core.specs.{Snapshot.Snapshot, Watched.Watched}
 use Rattle.words_core.specs.{
   EndsWords.EndsAsked,
@@ -51,4 +52,4 @@ grown_so law tells fed words laid old sources shows seen watched outs status fre
     tells run options Descriptor name came file n (law run options Descriptor (n + 1) is_of (pause, read, rw no_input refl) well).0 bare named (grows (length seen)) held
 
 pub returns : goal.returns
-returns c = grown_so c.program_makes_these_runs.ensures.followed c.tail_follows.ensures.grows _ _ _ _ _ _ _ _ _ _ c.in_ok-inputs.ensures c.run_words.ensures.ends c.if-run_words-ne0.false
+returns c = grown_so c.program_makes_these_runs.ensures.followed c.tail_follows.ensures.grows (is_fed c.args.watch.now) _ _ _ _ _ _ _ _ _ c.in_ok-inputs.ensures c.run_words.ensures.ends c.if-run_words-ne0.false

@@ -7,6 +7,7 @@ use Rattle.ports_core.specs.{
   Source.{Content, Source, source_of, unshown},
   declared.{fault.Fault.Fault, calling.Calling.TheVariants.Cutters},
 }
+use Rattle.mem_core.specs.MemWatchState.{is_fed}
 use Rattle.watch_core.specs.{Snapshot.Snapshot, Watched.Watched}
 use Rattle.words_core.specs.{declared.settings.Settings.{Settings, TheVariants.Tail}, Words.{follows, settings_of}}
 use Rattle.tools_core.specs.{
@@ -55,4 +56,4 @@ ran_so law fed words asked bytes laid old sources shows seen watched outs status
     )
 
 pub returns : goal.returns
-returns c asked = ran_so c.program_makes_these_runs.ensures.runs _ _ asked c.args.bytes.now _ _ _ _ _ _ _ _ c.in_ok-inputs.ensures c.run_words.ensures.ends
+returns c asked = ran_so c.program_makes_these_runs.ensures.runs (is_fed c.in_ok-watch.watch) _ asked c.args.bytes.now _ _ _ _ _ _ _ _ c.in_ok-inputs.ensures c.run_words.ensures.ends
