@@ -86,7 +86,8 @@ fn left_of(
     pieces: usize,
 ) -> Result<Option<MemOut>, Fault>
     ensures { (asked : Settings) → settings_of Calling.Cutters (map (λ word. word.now) words.now) ≡ Ok asked
-        → names_of asked ≡ codes "-" ∷ [] → follows Calling.Cutters false asked ≡ false → forgives_gone asked ≡ false
+        → names_of asked ≡ codes "-" ∷ [] → follows Calling.Cutters false asked ≡ false
+        → forgives_gone asked ≡ false
         → IfOk result
         (λ left. IfSome left
         (λ outs. (one : Run) × Does one asked × HasInput one bytes.now × (one.calling ≡ Calling.Cutters)
@@ -173,7 +174,8 @@ fn grown(alloc: Global, words: &[&str], watch: &mut MemWatch) -> Result<Option<M
     ensures { (options : EndsAsked) (name came : List ℕ) (file n pause : ℕ)
         → settings_of Calling.Cutters (map (λ word. word.now) words.now) ≡ Ok (Tail
         (record { ends = options; followed = Some Descriptor; looks = n + 1; pause = pause; process = None }))
-        → has_hyphen options.names ≡ false → IsBare options → options.names ≡ name ∷ [] → ((count : ℕ) → OnlyGrows count (shows watch.old) name file)
+        → has_hyphen options.names ≡ false → IsBare options → options.names ≡ name ∷ []
+        → ((count : ℕ) → OnlyGrows count (shows watch.old) name file)
         → (shows watch.old n).holds file ≡ (shows watch.old 0).holds file ++ came
         → IfOk result
         (λ left. IfSome left
@@ -202,7 +204,8 @@ fn grown(alloc: Global, words: &[&str], watch: &mut MemWatch) -> Result<Option<M
 /// What the words leave of these bytes where they come byte by byte, and where they come whole, if both go well: the same.
 fn both(alloc: Global, words: &[&str], bytes: &[u8]) -> Result<Option<(MemOut, MemOut)>, Fault>
     ensures { (asked : Settings) → settings_of Calling.Cutters (map (λ word. word.now) words.now) ≡ Ok asked
-        → names_of asked ≡ codes "-" ∷ [] → follows Calling.Cutters false asked ≡ false → forgives_gone asked ≡ false
+        → names_of asked ≡ codes "-" ∷ [] → follows Calling.Cutters false asked ≡ false
+        → forgives_gone asked ≡ false
         → IfOk result (λ left. IfSome left (λ outs. outs.0 ≡ outs.1)) }
 {
     cutting_changes_nothing();

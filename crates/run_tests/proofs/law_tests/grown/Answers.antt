@@ -23,7 +23,9 @@ use Rattle.run_tests.proofs.law_tests.grown.Goals as goal
 -- both laws, of one run
 
 abbrev AreRuns : Type 0
-AreRuns = (run : Run) (options : EndsAsked) (followed : Followed) (looks : ℕ) → IsOfProgram run → AsksToFollow run options followed looks → run.status ≡ 0 → Follows run looks options followed × (run.inputs ≡ source_of run.world.standard ∷ [])
+AreRuns = (run : Run) (options : EndsAsked) (followed : Followed) (looks : ℕ) → IsOfProgram run
+    → AsksToFollow run options followed looks → run.status ≡ 0
+    → Follows run looks options followed × (run.inputs ≡ source_of run.world.standard ∷ [])
 
 abbrev TellAll : Type 0
 TellAll = (run : Run) (options : EndsAsked) (followed : Followed) (name came : List ℕ) (file n : ℕ) → Follows run (n + 1) options followed → IsBare options → options.names ≡ name ∷ [] → OnlyGrows (length run.seen) (showing run followed) name file → (showing run followed n).holds file ≡ (showing run followed 0).holds file ++ came
@@ -32,7 +34,9 @@ TellAll = (run : Run) (options : EndsAsked) (followed : Followed) (name came : L
 -- what standard output has after a run of these words
 grown_so : AreRuns → TellAll → (fed : Bool) (words : List (List ℕ)) (laid : ℕ → List ℕ → Option Content) (old sources : List Source) (shows : ℕ → Snapshot) (seen : List Snapshot) (watched : List Watched) (outs : List Slot) (status : ℕ)
     → old ≡ source_of (unshown []) ∷ [] → ProgramEnds Cutters fed true true true words laid old sources shows seen watched outs status → status ≡ 0
-    → (options : EndsAsked) (name came : List ℕ) (file n pause : ℕ) → settings_of Cutters words ≡ Ok (Tail (record { ends = options; followed = Some Descriptor; looks = n + 1; pause = pause; process = None })) → has_hyphen options.names ≡ false → IsBare options → options.names ≡ name ∷ []
+    → (options : EndsAsked) (name came : List ℕ) (file n pause : ℕ)
+    → settings_of Cutters words ≡ Ok (Tail (record { ends = options; followed = Some Descriptor; looks = n + 1; pause = pause; process = None }))
+    → has_hyphen options.names ≡ false → IsBare options → options.names ≡ name ∷ []
     → ((count : ℕ) → OnlyGrows count shows name file) → (shows n).holds file ≡ (shows 0).holds file ++ came
     → (slot_at outs 0).written ≡ tail_of options.delim options.unit (is_plus options.count.sign) options.count.amount ((shows 0).holds file) ++ came
 grown_so law tells fed words laid old sources shows seen watched outs status fresh ends well options name came file n pause read no_input bare named grows held =

@@ -20,7 +20,8 @@ use Rattle.run_tests.proofs.law_tests.ran.Goals as goal
 
 -- the law, of one run
 abbrev AreRuns : Type 0
-AreRuns = (run : Run) (asked : Settings) → IsOfProgram run → settings_of run.calling run.words ≡ Ok asked → follows run.calling run.fed asked ≡ false → Ran run asked × (run.seen ≡ []) × (run.watched ≡ [])
+AreRuns = (run : Run) (asked : Settings) → IsOfProgram run → settings_of run.calling run.words ≡ Ok asked
+    → follows run.calling run.fed asked ≡ false → Ran run asked × (run.seen ≡ []) × (run.watched ≡ [])
 
 -- after `cutters` it doesn't matter if standard input is a file
 not_followed : (fed : Bool) (asked : Settings) → follows Cutters false asked ≡ false → follows Cutters fed asked ≡ false
