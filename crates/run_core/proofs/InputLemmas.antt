@@ -16,6 +16,7 @@ use Rattle.ports_core.specs.{
   declared.{
     fault.Fault.{Fault, TheVariants.{Memory, Write, Read, Open}},
     verdict.Verdict.Verdict,
+    calling.Speaker.Speaker,
     reason.Reason.{Reason, TheVariants.Other},
   },
   Work.{Work, Needs},
@@ -39,12 +40,12 @@ use Rattle.run_core.specs.{
   Feeding.{IsUnread, Step, ToldEnd, Uses, is_enough, FedAs, whole, had_enough, broke_off, judged, stopped},
   Input.{Input, World, IsFor, shown_of, showing, is_dash, input_of, inputs_from, next_slot, has_dash, AreFrom},
   Input.{inputs_at, file_input, standard_input, read_before},
-  Reading.{AreDone, AreUntouched, IsDone, IsUntouched, Leaves, count_after},
+  Reading.{AreDone, AreUntouched, IsDone, IsUntouched, Leaves, count_after, reason_of},
   inner.RunSteps.{TakesOne, OfSource, HeaderFails, no_room, broke, TookInput, took, cut_off, input_from, TookAll},
   inner.RunSteps.{all, stopped_at, not_begun, HasStreams, OfName, standard_source},
   declared.{inputs.RunProgress.RunProgress, feeding.Fed.{Fed, TheVariants.{Whole, Enough, Broken}}},
   RunEnds.{unheaded, heading, calling, step_after, EndsAs, as_defined, stopped as run_stopped, no_room as run_unmade},
-  RunEnds.{RunsOver, unopened},
+  RunEnds.{RunsOver, unopened, SaysFrom, SaysOf},
   RunSteps.{IsShown, OnlyLooked, world_of},
   Task.{Task, Outcome, after_part, header_text, of_content, made_by, no_outcome, joined, of_input, of_inputs},
   Task.{is_missing, are_missing},
@@ -199,6 +200,55 @@ pub still_done : (told : Bool) (work : Option (List ℕ) → Work) (most : ℕ) 
 still_done told work most [] reads takes done = tt
 still_done told work most (input ∷ inputs) reads takes done =
     (still_done_at told (work input.shown) most input.slot input.content reads takes done.0, still_done told work most inputs reads takes done.1)
+
+-- the messages on the inputs that were done have the reasons that they had
+
+same_reason : {told : Bool} {work : Work} {most room : ℕ} {was_read : Bool} {name : List ℕ} (slot : Option ℕ)
+    {content : Option Content} {old new : List Source} → TakesOne room was_read name old new
+    → StaysDone told work most was_read slot content old → reason_of slot new ≡ reason_of slot old
+same_reason None takes done = refl
+same_reason (Some zero) takes done = grind (arith, common_steps)
+same_reason (Some (suc _)) takes done = grind (arith, common_steps)
+
+still_said : {told_in told : Bool} {task : Task} {most room : ℕ} {was_read : Bool} {name : List ℕ} (inputs : List Input)
+    {old new : List Source} {before after : Slot} → TakesOne room was_read name old new
+    → StayDone told_in task.work most was_read inputs old → SaysOf told task old inputs before after
+    → SaysOf told task new inputs before after
+still_said [] takes done says = says
+still_said (input ∷ inputs) takes done (mid, one, says) =
+    (mid, rw (same_reason input.slot takes done.0) one, still_said inputs takes done.1 says)
+
+said_more : {told : Bool} {task : Task} {sources : List Source} (inputs : List Input) (input : Input)
+    {before mid after : Slot} → SaysOf told task sources inputs before mid
+    → SaysFrom told task.speaker (reason_of input.slot sources) (of_input task true input).messages mid after
+    → SaysOf told task sources (inputs ++ input ∷ []) before after
+said_more [] input {before} {mid} {after} is one = (after, subst (λ old. SaysFrom _ _ _ _ old after) is one, refl)
+said_more (first ∷ inputs) input (between, here, says) one = (between, here, said_more inputs input says one)
+
+-- the header changes no message
+messages_alike : (task : Task) (work : Work) (is_first : Bool) (name : List ℕ) (content : Option Content)
+    → (of_content task work is_first name content).messages ≡ (of_content task work true name content).messages
+messages_alike task work is_first name None = refl
+messages_alike task work is_first name (Some _) = refl
+
+pub said_from : {told : Bool} {speaker : Speaker} {why : Reason} (messages : List Message) {old new : Slot}
+    → SaysFrom told speaker why messages old new → SaysAll told speaker messages old new
+said_from [] says = says
+said_from {why} (message ∷ messages) (mid, one, says) = (mid, (why, one), said_from messages says)
+
+-- all messages of a run, without their reasons
+pub said_of : {told : Bool} {task : Task} (is_first : Bool) {sources : List Source} (inputs : List Input) {old new : Slot}
+    → SaysOf told task sources inputs old new
+    → SaysAll told task.speaker (of_inputs task is_first inputs).messages old new
+said_of is_first [] says = says
+said_of {told} {task} is_first (input ∷ inputs) {old} {new} (mid, one, says) =
+    says_after told task.speaker (of_input task is_first input).messages _ old mid new
+    (said_from _ (subst (λ those. SaysFrom told task.speaker _ those old mid)
+    (sym (messages_alike task (task.work input.shown) is_first input.name input.content)) one)) (said_of (is_first && is_missing input.content) inputs says)
+
+said_state : {told : Bool} {task : Task} {sources : List Source} {inputs : List Input} {old new : Slot}
+    → SaysOf told task sources inputs old new → new.state ≡ old.state
+said_state {told} {task} {inputs = inputs} says = all_said_state told task.speaker _ _ _ (said_of true inputs says)
 
 pub done_more : (told : Bool) (work : Option (List ℕ) → Work) (most : ℕ) (was_read : Bool) (inputs : List Input)
     (input : Input) (sources : List Source) → StayDone told work most was_read inputs sources
@@ -366,7 +416,7 @@ module _ (told_in told : Bool) (task : Task) (most : ℕ) (is_first failed was_r
       (simp (and-false, or-false)) done refl (part_after error _ (at_after at there)) refl)
 
   -- a message is due
-  went_badly : {why : Reason} (content : Content) (part : Part) (message : Message) (reached old new : List Slot)
+  went_badly : (content : Content) (part : Part) (message : Message) (reached old new : List Slot)
       → WasDone content
       → of_content task work is_first name (Some content)
       ≡ record {
@@ -376,15 +426,15 @@ module _ (told_in told : Bool) (task : Task) (most : ℕ) (is_first failed was_r
         sweeps = work.clears;
       }
       → OutputsAt told mid part reached → Swept work.clears (length mid) reached old
-      → SaysOn told task.speaker why message old new
+      → SaysOn told task.speaker (reason_of source sources) message old new
       → TookSo content new (Ok (taken true))
-  went_badly {why} content part message reached old new done made there swept says =
+  went_badly content part message reached old new done made there swept says =
       let top = adds (told_of told (after_part so_far (after_part header part)).out) standard_output in
       let all = part_after error part (at_after at there) in
-      let said = said_swept told (SaysFor told task.speaker why message) work.clears old new (length start)
+      let said = said_swept told (SaysFor told task.speaker (reason_of source sources) message) work.clears old new (length start)
       (part_two before) (rw all.slots at (rw counted at swept)) says in
       rw made (took (taken true) said.after (top ∷ said.after ∷ all.since)
-      (simp (and-false, or-true)) done (said.after, (why, said.says), refl)
+      (simp (and-false, or-true)) done (said.after, said.says, refl)
       (record { standard = lit< tt; since = all.since; slots = refl; files = all.files }) said.swept)
 
   pub took_well : {content : Content} {new : List Slot} {fed : Fed}
@@ -394,9 +444,10 @@ module _ (told_in told : Bool) (task : Task) (most : ℕ) (is_first failed was_r
   took_well {content} {new} done good (had_enough complete well there) = went_well content new done (or_right _ _ complete) well there
   took_well done good (broke_off breaks going reached there swept) = absurd (elim good [ inl is ↦ cc | inr is ↦ cc ])
 
-  pub took_broken : {why : Reason} {content : Content} {old new : List Slot} {fed : Fed}
+  pub took_broken : {content : Content} {old new : List Slot} {fed : Fed}
       → WasDone content → fed ≡ Broken
-      → WasFed content old (Ok fed) → SaysOn told task.speaker why (message_of (Read 0) name) old new
+      → WasFed content old (Ok fed)
+      → SaysOn told task.speaker (reason_of source sources) (message_of (Read 0) name) old new
       → TookSo content new (Ok (taken true))
   took_broken {content} {old} {new} done is (broke_off breaks going reached there swept) says =
       went_badly content (work.settled content.bytes) (message_of (Read 0) name) reached old new done
@@ -404,10 +455,11 @@ module _ (told_in told : Bool) (task : Task) (most : ℕ) (is_first failed was_r
       there swept says
   took_broken done is ends says = absurd (cc)
 
-  pub took_verdict : {why : Reason} {content : Content} {old new : List Slot} {verdict : Verdict}
+  pub took_verdict : {content : Content} {old new : List Slot} {verdict : Verdict}
       → WasDone content
       → WasFed content old (Err (fault_is.Verdict verdict))
-      → SaysOn told task.speaker why (message_of (fault_is.Verdict verdict) (task.subject verdict name)) old new
+      → SaysOn told task.speaker (reason_of source sources)
+      (message_of (fault_is.Verdict verdict) (task.subject verdict name)) old new
       → TookSo content new (Ok (taken true))
   took_verdict {content} {old} {new} {verdict} done (judged _ enough judges reached there swept) says =
       went_badly content (work.whole content.bytes)
@@ -452,7 +504,7 @@ ran_through is (all _ error reached same says at swept done) =
 pub stop_open : {told_in told : Bool} {task : Task} {found : List Input} {sources : List Source} {new : List Slot}
     {fault : Fault} → TookAll told_in told task found sources new (Err fault) → is_open (slot_at new 1).state ≡ true
 stop_open (stopped_at _ _ _ _ _ step _ among done untouched is_step stops says stop swept) =
-    grind (arith, common_steps, swept_open, error_open, stop_error, all_said_state)
+    grind (arith, common_steps, swept_open, error_open, stop_error, said_state says)
 stop_open (not_begun is untouched none) = grind (arith, common_steps)
 
 -- the run that a fault stopped
@@ -465,7 +517,7 @@ pub ran_into : {told_in told : Bool} {task : Task} {found : List Input} {sources
 ran_into {told} {task} {mid} {fault} (stopped_at _ before input after error step _ among done untouched is_step stops said stop swept) tells is =
     let told_so = stop_swept told (Tells told task.speaker (output_reason mid fault) fault (output_named mid fault))
     step (task.work input.shown).clears (lit≤ tt)
-    (ap is_open (all_said_state told task.speaker (made_by task before).messages standard_error error said)) stop stops swept tells in
+    (ap is_open (said_state said)) stop stops swept tells in
     run_stopped fault before input after error told_so.after step told_so.reached among done untouched is_step told_so.why told_so.stop told_so.swept
     said (rw (told_so.named, told_so.reason) told_so.says) (rw told_so.reason is)
 ran_into (not_begun at_first untouched none) tells is =
@@ -559,21 +611,20 @@ took_standard {told_in} {told} {task} {most} {is_first} {failed} was_read laid n
 
 -- a name that could not be opened: it is passed over with a message
 
-pub of_missing : {told_in told : Bool} {why : Reason} {task : Task} {most : ℕ}
-    {is_first failed was_read : Bool} {laid : ℕ → List ℕ → Option Content} {name : List ℕ} {sources after : List Source}
+pub of_missing : {told_in told : Bool} {task : Task} {most : ℕ} {is_first failed was_read : Bool} {laid : ℕ → List ℕ → Option Content} {name : List ℕ} {sources after : List Source}
     {fault : Fault} {slot : ℕ} {so_far : Part} {error : Slot} {old new : List Slot} → is_dash name ≡ false
     → OpensNothing told_in laid sources after name fault → fault ≡ Open slot
     → OutputsAt told (streams_with error) so_far old
-    → SaysOn told task.speaker why (message_of (Open slot) name) old new
+    → SaysOn told task.speaker (reason_of (Some slot) after) (message_of (Open slot) name) old new
     → Takes told_in told task most is_first failed was_read laid sources after name so_far error (length old) new
     (Ok (record { was_read = was_read; is_first = is_first; failed = true }))
-of_missing {told_in} {told} {why} {task} {most} {is_first} {was_read} {laid} {name} {sources} {new} differs
+of_missing {told_in} {told} {task} {most} {is_first} {was_read} {laid} {name} {sources} {new} differs
     (from.broke _ reason number lies are) cannot at says =
     of_file (world_of laid sources) was_read None _ differs (λ t. ap (λ n. laid n name) (sym number) ∙ lies t) (λ t. refl)
     (let said = said_at at says in
     took (record { was_read = was_read; is_first = is_first; failed = true }) said.0 new
     (simp (differs, or-false, and-true, or-true)) (missing_done told_in (task.work None) most reason sources are)
-    (said.0, (why, said.1), refl) (subst (λ part. OutputsAt told (streams_with said.0) part new) (sym nothing_after) said.2) refl)
+    (said.0, rw number at said.1, refl) (subst (λ part. OutputsAt told (streams_with said.0) part new) (sym nothing_after) said.2) refl)
 of_missing differs (from.no_room are) cannot at says = absurd (cc)
 
 -- there was no room for it
@@ -620,7 +671,7 @@ pub record Walked (told_in told : Bool) (task : Task) (world : World) (names lef
   pub reached : List Slot
   pub at : OutputsAt told (streams_with error) made.part reached
   pub swept : Swept made.sweeps 2 reached slots
-  pub says : SaysAll told task.speaker made.messages standard_error error
+  pub says : SaysOf told task sources done standard_error error
   pub failed : progress.failed ≡ made.failed
   -- if the work clears files, there is at most one name
   pub alone : (shown : Option (List ℕ)) → (task.work shown).clears ≡ true
@@ -679,7 +730,7 @@ module _ {told_in told : Bool} {task : Task} {world : World} {names left : List 
   slots_at some = grind (arith, common_steps, walked)
 
   pub walked_error : is_open walked.error.state ≡ true
-  walked_error = rw (all_said_state told task.speaker _ _ _ walked.says) refl
+  walked_error = rw (said_state walked.says) refl
 
   pub walk_streams : 1 ≤ length left → HasStreams told slots
   walk_streams some = record { part = walked.made.part; error = walked.error; at = slots_at some; opened = walked_error }
@@ -694,7 +745,7 @@ module _ {told_in told : Bool} {task : Task} {world : World} {names left : List 
           are = walked.rest_are [] (rw none refl);
           there = λ t. rw none at (walked.rest_there t);
         },
-        all progress.failed walked.error walked.reached (rw made walked.failed) (rw made walked.says) (rw made walked.at)
+        all progress.failed walked.error walked.reached (rw made walked.failed) (rw (append-nil walked.done) walked.says) (rw made walked.at)
             (rw made walked.swept) (rw (append-nil walked.done) (all_done _ _ _ _ _ _ walked.known)),
       )
 
@@ -727,6 +778,9 @@ module _ {told_in told : Bool} {task : Task} {world : World} {names : List (List
   done_on : StayDone told_in task.work largest_piece (progress.was_read || is_dash name) walked.done new_sources
   done_on = still_done told_in task.work largest_piece walked.done (λ had. rw had refl) leaves walked.known
 
+  said_on : SaysOf told task new_sources walked.done standard_error walked.error
+  said_on = still_said walked.done leaves walked.known walked.says
+
   -- one more name was taken
   pub walk_goes_on : {next : RunProgress} {new_laid : ℕ → List ℕ → Option Content} {new : List Slot}
       → length new_sources ≡ next_slot (length sources) name → new_laid ≡ laid
@@ -747,7 +801,8 @@ module _ {told_in told : Bool} {task : Task} {world : World} {names : List (List
         reached = reached;
         at = at;
         swept = rw sweeps_one (swept_from one.sweeps reached new (λ sweeps. (only sweeps).1) swept);
-        says = says_after told task.speaker walked.made.messages one.messages standard_error walked.error after walked.says says;
+        says = said_more walked.done input said_on (subst (λ those. SaysFrom told task.speaker _ those walked.error after)
+            (messages_alike task (task.work input.shown) progress.is_first input.name input.content) says);
         failed = rw (is, walked.failed);
         alone = λ shown clears. inl (taken_alone slots (walked.alone shown) clears).0;
         unswept = λ some. sweeps_one ∙ false_from_ne_true one.sweeps (λ sweeps. omega (arith, ap length (only sweeps).0));
@@ -798,7 +853,7 @@ module _ {told_in told : Bool} {task : Task} {world : World} {names : List (List
             (rest_untouched world (progress.was_read || is_dash name) (next_slot (length sources) name) left new_sources
             unread_on leaves.within)
             (rw before (rw walked.first at is_step))
-            stops (rw before walked.says) stop
+            stops said_on stop
             (swept_from (task.work input.shown).clears reached new (λ clears. (taken_alone slots (walked.alone input.shown) clears).1) swept),
       )
 

@@ -1,6 +1,11 @@
 -- What a run leaves of its inputs.
 use Rattle.std.specs.Prelude.{◌≡◌, ℕ, ◌≤◌, ◌<◌, Bool, true, false, List, [], ◌∷◌, ◌⊎◌, length, Option, Some, None}
-use Rattle.ports_core.specs.{Source.{Content, Source, source_at, source_of}, Work.Work, Inputs.CameFrom}
+use Rattle.ports_core.specs.{
+  Source.{Content, Source, source_at, source_of},
+  Work.Work,
+  Inputs.CameFrom,
+  declared.reason.Reason.{Reason, TheVariants.Other},
+}
 use Rattle.run_core.specs.{Feeding.{IsReadTo, LeavesOf, Step, ToldEnd, Uses}, Input.{Input, next_slot}}
 
 -- What is left of an input that was done, by its source. If bytes are visible, all is left except what was used. If the
@@ -20,6 +25,11 @@ abbrev pub AreDone : Bool → (Option (List ℕ) → Work) → ℕ → List Inpu
 AreDone told work most [] sources = Unit {0}
 AreDone told work most (input ∷ inputs) sources =
     IsDone told (work input.shown) most input.slot input.content sources × AreDone told work most inputs sources
+
+-- why a source broke; `Other` without a source
+abbrev pub reason_of : Option ℕ → List Source → Reason
+reason_of None sources = Other
+reason_of (Some slot) sources = (source_at sources slot).reason
 
 -- what is left of an input by its number, if a fault stopped this step
 abbrev pub Leaves : Bool → Content → Option ℕ → List Source → Step → Type 0

@@ -6,17 +6,17 @@ use Rattle.ports_core.specs.{
   Part.{Output, Part, OutputsAt, StoppedBetween, only_out, gets_none, gets_bytes},
   Swept.Swept,
   Work.{Needs, no_needs},
-  Text.{message_of, status_after},
-  Message.{SaysAll, Tells, output_named, output_reason},
+  Text.{Message, message_of, status_after},
+  Message.{SaysAll, SaysFor, Tells, output_named, output_reason},
   Inputs.largest_piece,
   Streams.{standard_error, streams_with},
-  declared.fault.Fault.{Fault, TheVariants.Memory},
+  declared.{calling.Speaker.Speaker, fault.Fault.{Fault, TheVariants.Memory}, reason.Reason.Reason},
 }
 use Rattle.run_core.specs.{
   Feeding.{IsCall, Step, Stops},
   Input.{Input, World, Finds},
-  Reading.{AreDone, AreUntouched, Leaves},
-  Task.{Task, made_by, after_part, header_text, are_missing, status_of},
+  Reading.{AreDone, AreUntouched, Leaves, reason_of},
+  Task.{Task, made_by, of_input, after_part, header_text, are_missing, status_of},
 }
 
 -- a step, after what was written before
@@ -64,13 +64,26 @@ pub data RunStep (told : Bool) (task : Task) (shown : Option (List ℕ)) (most :
       → RunStep told task shown most so_far header slot sources (Some content)
       (step_after (after_part so_far (only_out header)) call)
 
+-- an output got these messages, one after another, all with this reason
+abbrev pub SaysFrom : Bool → Speaker → Reason → List Message → Slot → Slot → Type 0
+SaysFrom told speaker why [] old new = new ≡ old
+SaysFrom told speaker why (message ∷ messages) old new = (mid : Slot) × SaysFor told speaker why message old mid
+    × SaysFrom told speaker why messages mid new
+
+-- an output got the messages on these inputs, in order, each with the reason for which its source broke
+abbrev pub SaysOf : Bool → Task → List Source → List Input → Slot → Slot → Type 0
+SaysOf told task sources [] old new = new ≡ old
+SaysOf told task sources (input ∷ inputs) old new = (mid : Slot)
+    × SaysFrom told task.speaker (reason_of input.slot sources) (of_input task true input).messages old mid
+    × SaysOf told task sources inputs mid new
+
 -- How a run ends.
 pub data EndsAs (told_in told : Bool) (task : Task) (inputs : List Input) (sources : List Source) (new : List Slot)
     (status : ℕ) : Type 0 where
   -- The inputs were done, the outcome is written, and files were removed if that is due. `error` is standard error at
   -- the end, and stands so among the outputs from the beginning.
   as_defined : (error : Slot) (reached : List Slot)
-      → SaysAll told task.speaker (made_by task inputs).messages standard_error error
+      → SaysOf told task sources inputs standard_error error
       → OutputsAt told (streams_with error) (made_by task inputs).part reached
       → Swept (made_by task inputs).sweeps 2 reached new
       → AreDone told_in task.work largest_piece inputs sources → status ≡ status_of (made_by task inputs)
@@ -88,7 +101,7 @@ pub data EndsAs (told_in told : Bool) (task : Task) (inputs : List Input) (sourc
       → Stops step reached fault
       → StoppedBetween step.output told (streams_with error) step.low step.high fault reached
       → Swept (task.work input.shown).clears 2 reached new
-      → SaysAll told task.speaker (made_by task before).messages standard_error said
+      → SaysOf told task sources before standard_error said
       → Tells told task.speaker (output_reason new fault) fault (output_named new fault) said error
       → status ≡ status_after fault task.speaker.calling (output_reason new fault)
       → EndsAs told_in told task inputs sources new status

@@ -14,9 +14,9 @@ ghost use Rattle.ports_core.specs.{
 ghost use Rattle.run_core.specs.{
   Feeding.{FedAs, IsUnread, is_stop},
   Input.{has_dash, is_dash, next_slot},
-  Reading.{IsDone, Leaves, count_after},
+  Reading.{IsDone, Leaves, count_after, reason_of},
   inner.RunSteps.{TakesOne, HasStreams, HeaderFails, KeepsOther, OfName, OfSource, TookAll, TookInput, input_from},
-  inner.RunSteps.{reason_of, standard_source},
+  inner.RunSteps.standard_source,
   RunEnds.{EndsAs, RunsOver},
   RunSteps.{IsShown, world_of},
   Task.{header_text, of_content, of_input},
@@ -249,14 +249,7 @@ fn take_input<A: Adapter, I: Inputs, O: Outs>(
                 return Err(fault);
             };
             let subject = job.adapter.subject(&verdict, name);
-            say(
-                job.alloc,
-                job.adapter.speaker(),
-                Reason::Other,
-                &fault,
-                subject,
-                outs,
-            );
+            say_why(job, source, &fault, subject, inputs, outs);
             Ok(RunProgress {
                 failed: true,
                 ..after
@@ -265,7 +258,7 @@ fn take_input<A: Adapter, I: Inputs, O: Outs>(
     }
 }
 
-/// Reports that an input can't be opened or read, and why.
+/// Reports a fault of an input, and why it can't be opened or read, if that is the fault.
 fn say_why<A: Adapter, I: Inputs, O: Outs>(
     job: &Job<'_, A>,
     source: Option<usize>,

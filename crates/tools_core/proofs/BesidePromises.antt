@@ -20,17 +20,17 @@ use Rattle.ports_core.specs.{
     fault.Fault.{Fault, TheVariants.Read},
     slot.Mode.Mode,
     calling.{Calling.Calling, Speaker.Speaker},
-    reason.Reason.TheVariants.Other,
+    reason.Reason.{Reason, TheVariants.Other},
   },
   Text.{Message, line_of},
 }
 use Rattle.run_core.{
-  proofs.FeedingLemmas.needed_within,
+  proofs.{FeedingLemmas.needed_within, InputLemmas.said_from},
   specs.{
     Input.{Input, World, shown_of, input_of, inputs_at, inputs_from, is_dash, standard_input},
-    Reading.{AreDone, IsLeft},
-    RunEnds.{EndsAs, as_defined},
-    Task.{Task, made_by, status_of},
+    Reading.{AreDone, IsLeft, reason_of},
+    RunEnds.{EndsAs, SaysFrom, SaysOf, as_defined},
+    Task.{Task, made_by, of_input, status_of},
   },
 }
 use Rattle.tee_core.{
@@ -150,13 +150,20 @@ module _ (work : Option (List ℕ) → Work) (world : World) where
 
 -- Standard error takes all lines, the outputs get all of a part, and files are removed.
 
-took_lines : (speaker : Speaker) (lines : List Message) (old : Slot) → old.is_broken ≡ false
-    → (error : Slot) × SaysAll true speaker lines old error
-took_lines speaker [] old sound = (old, refl)
-took_lines speaker (message ∷ lines) old sound =
-    let line = line_of speaker Other message in
-    let (error, says) = took_lines speaker lines (adds line old) sound in
-    (error, (adds line old, (Other, record { said = line; is = inl refl; printed = whole sound refl }), says))
+took_lines : (speaker : Speaker) (why : Reason) (lines : List Message) (old : Slot) → old.is_broken ≡ false
+    → (error : Slot) × SaysFrom true speaker why lines old error × (error.is_broken ≡ false)
+took_lines speaker why [] old sound = (old, refl, sound)
+took_lines speaker why (message ∷ lines) old sound =
+    let line = line_of speaker why message in
+    let (error, says, still) = took_lines speaker why lines (adds line old) sound in
+    (error, (adds line old, record { said = line; is = inl refl; printed = whole sound refl }, says), still)
+
+took_messages : (task : Task) (sources : List Source) (inputs : List Input) (old : Slot) → old.is_broken ≡ false
+    → (error : Slot) × SaysOf true task sources inputs old error
+took_messages task sources [] old sound = (old, refl)
+took_messages task sources (input ∷ inputs) old sound =
+    let (mid, one, still) = took_lines task.speaker (reason_of input.slot sources) (of_input task true input).messages old sound in
+    let (error, says) = took_messages task sources inputs mid still in (error, (mid, one, says))
 
 files_are : (files : List File) → map file_of (map slot_of files) ≡ map (told_file true) files
 files_are [] = refl
@@ -204,10 +211,11 @@ ends_well : (task : Task) (world : World) (names : List (List ℕ))
     → Well (EndsAs true true task (inputs_at world names)) (λ sources new status ends. IsUnstopped ends)
 ends_well task world names =
     let made = made_by task (inputs_at world names) in
-    let (error, says) = took_lines task.speaker made.messages standard_error refl in
-    let left = cleans made.sweeps (adds made.part.out standard_output) error (map slot_of made.part.files) in
-    let (rest, done) = all_done task.work world names false 1 [] refl in record {
-      sources = (left_for task.work (Some world.standard)).source ∷ rest;
+    let (rest, done) = all_done task.work world names false 1 [] refl in
+    let sources = (left_for task.work (Some world.standard)).source ∷ rest in
+    let (error, says) = took_messages task sources (inputs_at world names) standard_error refl in
+    let left = cleans made.sweeps (adds made.part.out standard_output) error (map slot_of made.part.files) in record {
+      sources = sources;
       new = left.0;
       status = status_of made;
       does = as_defined error (outputs_of made.part error) says (at_part made.part error) left.1 done refl;
@@ -289,7 +297,9 @@ tee_well calling asked world few = record {
   }
 
   lines : (error : Slot) × SaysAll true (tee_called calling) (said_of_input fault) standard_error error
-  lines = took_lines (tee_called calling) (said_of_input fault) standard_error refl
+  lines =
+      let (error, says, sound) = took_lines (tee_called calling) Other (said_of_input fault) standard_error refl in
+      (error, said_from (said_of_input fault) says)
 
   left : Slot → List Slot
   left error = adds (concat pieces) standard_output ∷ error ∷ map (λ name. closes (adds (concat pieces) (opened name asked.mode))) asked.names
@@ -315,11 +325,11 @@ tee_well calling asked world few = record {
       (rw (quiet_outputs asked.on_broken asked.names (None ∷ unbroken asked.names) (length pieces) fault (all_sound asked.names)) lines.1) refl refl
 
   all : (breaks_off : Bool) → tee.status_of asked.on_broken (None ∷ unbroken asked.names) (met_by breaks_off) ≡ 0
-      → left (took_lines (tee_called calling) (said_of_input (met_by breaks_off)) standard_error refl).0
+      → left (took_lines (tee_called calling) Other (said_of_input (met_by breaks_off)) standard_error refl).0
       ≡ tee.all_copied true asked.mode asked.names content.bytes
   all true well = absurd (let is : 1 ≡ 0 = sym
       (sound_status asked.on_broken (None ∷ unbroken asked.names) (Some (Read 0)) (all_sound asked.names)) ∙ well in omega (arith, is))
-  all false well = ap left (took_lines (tee_called calling) (said_of_input (met_by false)) standard_error refl).1
+  all false well = ap left (took_lines (tee_called calling) Other (said_of_input (met_by false)) standard_error refl).1.0
       ∙ rw (pieces_are content.bytes)
 
 does_well : (run : Run) (asked : Settings) → HasOperands asked → (HasLong run asked → ⊥)

@@ -53,7 +53,7 @@ use Rattle.run_core.specs.{
   RunEnds.{RunStep, calling as call_step, heading, unheaded, unopened, EndsAs, as_defined},
   Task.{Outcome, Task, is_missing, joined, of_content, of_input, of_inputs, made_by, status_of},
 }
-use Rattle.run_core.proofs.StopLemmas.{beside_error, swept_error}
+use Rattle.run_core.proofs.{InputLemmas.said_of, StopLemmas.{beside_error, swept_error}}
 use Rattle.tee_core.{
   specs.Run.{Break, IsRead, are_sound, tee_called, messages_of, said_of_input},
   proofs.EndLemmas.{nothing_before, nothing_in, sound_first, sound_goes_on, sound_status, whole_files, whole_output},
@@ -610,7 +610,7 @@ ends_left {run} {asked} {task} of makes (as_defined error reached says outputs s
       fits = inputs_fit task true found (all_tell run asked task [] found [] of (sym (append-nil found))) (task_lives run.calling asked task of);
       left = record {
         error = error;
-        says = grind (arith, common_steps, speaker_is);
+        says = let said = said_of true found says in grind (arith, common_steps, speaker_is);
         swept = rw (slots_at outputs) at swept;
         is = is;
       };

@@ -9,11 +9,10 @@ use Rattle.ports_core.specs.{
   Swept.Swept,
   Guard.{GuardState, IsRefusedThere},
   Engine.{Clears, Terms, Finishes, is_verdict},
-  declared.{fault.Fault.{Fault, TheVariants.{Memory, Write}}, reason.Reason.{Reason, TheVariants.Other}},
+  declared.fault.Fault.{Fault, TheVariants.{Memory, Write}},
   Source.{Content, Source, source_at},
   Part.{Part, OutputsAt, StoppedBetween},
   Write.BrokeAfter,
-  Message.SaysAll,
   Inputs.{KeepsOthers, empty, largest_piece, AsksAtMost},
   Streams.{streams_with, standard_error},
 }
@@ -21,8 +20,8 @@ use Rattle.run_core.specs.{
   declared.{feeding.Fed.Fed, inputs.RunProgress.RunProgress},
   Feeding.{Step, Stops},
   Input.{Input, IsFor, World, is_dash, input_of, next_slot},
-  Reading.{AreDone, AreUntouched, IsDone},
-  RunEnds.RunStep,
+  Reading.{AreDone, AreUntouched, IsDone, reason_of},
+  RunEnds.{RunStep, SaysFrom, SaysOf},
   Task.{Task, Outcome, made_by, after_part, header_text, is_missing, are_missing},
 }
 
@@ -66,7 +65,7 @@ pub data TookInput (told_in told : Bool) (task : Task) (most : ℕ) (input : Inp
         failed = failed || outcome.failed;
       }
       → IsDone told_in (task.work input.shown) most input.slot input.content sources
-      → SaysAll told task.speaker outcome.messages error after
+      → SaysFrom told task.speaker (reason_of input.slot sources) outcome.messages error after
       → OutputsAt told (streams_with after) (after_part so_far outcome.part) reached
       → Swept outcome.sweeps first reached new
       → TookInput told_in told task most input outcome is_first failed was_read so_far error first sources new
@@ -84,7 +83,7 @@ pub data TookInput (told_in told : Bool) (task : Task) (most : ℕ) (input : Inp
 pub data TookAll (told_in told : Bool) (task : Task) (inputs : List Input) (sources : List Source)
     (new : List Slot) : Result Bool Fault → Type 0 where
   all : (failed : Bool) (error : Slot) (reached : List Slot) → failed ≡ (made_by task inputs).failed
-      → SaysAll told task.speaker (made_by task inputs).messages standard_error error
+      → SaysOf told task sources inputs standard_error error
       → OutputsAt told (streams_with error) (made_by task inputs).part reached
       → Swept (made_by task inputs).sweeps 2 reached new
       → AreDone told_in task.work largest_piece inputs sources
@@ -95,7 +94,7 @@ pub data TookAll (told_in told : Bool) (task : Task) (inputs : List Input) (sour
       → AreUntouched after sources
       → RunStep told_in task input.shown largest_piece (made_by task before).part
       (header_text task.with_header (are_missing before) input.name) input.slot sources input.content step
-      → Stops step reached fault → SaysAll told task.speaker (made_by task before).messages standard_error error
+      → Stops step reached fault → SaysOf told task sources before standard_error error
       → StoppedBetween step.output told (streams_with error) step.low step.high fault reached
       → Swept (task.work input.shown).clears 2 reached new
       → TookAll told_in told task inputs sources new (Err fault)
@@ -111,11 +110,6 @@ OfSource told (Some slot) sources P = (content : Content) × (told ≡ true → 
 abbrev pub OfName : Bool → World → Bool → ℕ → List ℕ → (Input → Type 0) → Type 0
 OfName told world was_read slot name P = (input : Input) × IsFor was_read slot name input
     × (told ≡ true → input ≡ input_of world was_read slot name (is_dash name)) × P input
-
--- why a source broke; `Other` without a source
-abbrev pub reason_of : Option ℕ → List Source → Reason
-reason_of None sources = Other
-reason_of (Some slot) sources = (source_at sources slot).reason
 
 -- no input except that of the source was touched
 abbrev pub KeepsOther : Option ℕ → List Source → List Source → Type 0
