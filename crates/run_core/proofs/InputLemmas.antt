@@ -6,7 +6,7 @@ use Rattle.std.proofs.{
     List.{append-nil, nil_from_length, Recursion.and_push},
   },
   Common.{◌≡◌, ℕ, ◌+◌, ◌<◌, ◌≤◌, zero, suc, Bool, true, false, ◌||◌, IsTrue, if◌then◌else◌, List, [], ◌∷◌},
-  Common.{◌++◌, length, Option, Some, None, IfSome, arith, inl, inr, refl, ◌⊎◌, not, take, Result, Ok, Err, sym, ◌∙◌},
+  Common.{◌++◌, ◌&&◌, length, Option, Some, None, IfSome, arith, inl, inr, refl, ◌⊎◌, not, take, Result, Ok, Err, sym, ◌∙◌},
   Common.{ap, subst, lit≤, codes, ◌-◌, drop, map, get_or, Bor, append_assoc, lit<, rules},
   Math.Bool.{and-false, and-true, or-false, or-true, or_assoc},
 }
@@ -203,27 +203,37 @@ still_done told work most (input ∷ inputs) reads takes done =
 
 -- the messages on the inputs that were done have the reasons that they had
 
-same_reason : {told : Bool} {work : Work} {most room : ℕ} {was_read : Bool} {name : List ℕ} (slot : Option ℕ)
-    {content : Option Content} {old new : List Source} → TakesOne room was_read name old new
+same_reason : (told : Bool) (work : Work) (most : ℕ) {room : ℕ} {was_read : Bool} {name : List ℕ} (slot : Option ℕ)
+    (content : Option Content) {old new : List Source} → TakesOne room was_read name old new
     → StaysDone told work most was_read slot content old → reason_of slot new ≡ reason_of slot old
-same_reason None takes done = refl
-same_reason (Some zero) takes done = grind (arith, common_steps)
-same_reason (Some (suc _)) takes done = grind (arith, common_steps)
+same_reason told work most None content takes done = refl
+same_reason told work most (Some zero) content takes done = grind (arith, common_steps)
+same_reason told work most (Some (suc _)) content takes done = grind (arith, common_steps)
 
-still_said : {told_in told : Bool} {task : Task} {most room : ℕ} {was_read : Bool} {name : List ℕ} (inputs : List Input)
-    {old new : List Source} {before after : Slot} → TakesOne room was_read name old new
+still_said : (told_in told : Bool) (task : Task) (most : ℕ) {room : ℕ} {was_read : Bool} {name : List ℕ}
+    (inputs : List Input) {old new : List Source} (before after : Slot) → TakesOne room was_read name old new
     → StayDone told_in task.work most was_read inputs old → SaysOf told task old inputs before after
     → SaysOf told task new inputs before after
-still_said [] takes done says = says
-still_said (input ∷ inputs) takes done (mid, one, says) =
-    (mid, rw (same_reason input.slot takes done.0) one, still_said inputs takes done.1 says)
+still_said told_in told task most [] before after takes done says = says
+still_said told_in told task most (input ∷ inputs) before after takes done (mid, one, says) = (
+  mid,
+  subst (λ why. SaysFrom told task.speaker why (of_input task true input).messages before mid)
+      (sym (same_reason told_in (task.work input.shown) most input.slot input.content takes done.0)) one,
+  still_said told_in told task most inputs mid after takes done.1 says,
+)
 
-said_more : {told : Bool} {task : Task} {sources : List Source} (inputs : List Input) (input : Input)
-    {before mid after : Slot} → SaysOf told task sources inputs before mid
+said_more : (told : Bool) (task : Task) (sources : List Source) (inputs : List Input) (input : Input)
+    (before mid after : Slot) → SaysOf told task sources inputs before mid
     → SaysFrom told task.speaker (reason_of input.slot sources) (of_input task true input).messages mid after
     → SaysOf told task sources (inputs ++ input ∷ []) before after
-said_more [] input {before} {mid} {after} is one = (after, subst (λ old. SaysFrom _ _ _ _ old after) is one, refl)
-said_more (first ∷ inputs) input (between, here, says) one = (between, here, said_more inputs input says one)
+said_more told task sources [] input before mid after is one = (
+  after,
+  subst (λ old. SaysFrom told task.speaker (reason_of input.slot sources)
+      (of_input task true input).messages old after) is one,
+  refl,
+)
+said_more told task sources (first ∷ inputs) input before mid after (between, here, says) one =
+    (between, here, said_more told task sources inputs input between mid after says one)
 
 -- the header changes no message
 messages_alike : (task : Task) (work : Work) (is_first : Bool) (name : List ℕ) (content : Option Content)
@@ -231,24 +241,28 @@ messages_alike : (task : Task) (work : Work) (is_first : Bool) (name : List ℕ)
 messages_alike task work is_first name None = refl
 messages_alike task work is_first name (Some _) = refl
 
-pub said_from : {told : Bool} {speaker : Speaker} {why : Reason} (messages : List Message) {old new : Slot}
+pub said_from : (told : Bool) (speaker : Speaker) (why : Reason) (messages : List Message) (old new : Slot)
     → SaysFrom told speaker why messages old new → SaysAll told speaker messages old new
-said_from [] says = says
-said_from {why} (message ∷ messages) (mid, one, says) = (mid, (why, one), said_from messages says)
+said_from told speaker why [] old new says = says
+said_from told speaker why (message ∷ messages) old new (mid, one, says) =
+    (mid, (why, one), said_from told speaker why messages mid new says)
 
 -- all messages of a run, without their reasons
-pub said_of : {told : Bool} {task : Task} (is_first : Bool) {sources : List Source} (inputs : List Input) {old new : Slot}
-    → SaysOf told task sources inputs old new
+pub said_of : (told : Bool) (task : Task) (is_first : Bool) (sources : List Source) (inputs : List Input)
+    (old new : Slot) → SaysOf told task sources inputs old new
     → SaysAll told task.speaker (of_inputs task is_first inputs).messages old new
-said_of is_first [] says = says
-said_of {told} {task} is_first (input ∷ inputs) {old} {new} (mid, one, says) =
+said_of told task is_first sources [] old new says = says
+said_of told task is_first sources (input ∷ inputs) old new (mid, one, says) =
     says_after told task.speaker (of_input task is_first input).messages _ old mid new
-    (said_from _ (subst (λ those. SaysFrom told task.speaker _ those old mid)
-    (sym (messages_alike task (task.work input.shown) is_first input.name input.content)) one)) (said_of (is_first && is_missing input.content) inputs says)
+    (said_from told task.speaker (reason_of input.slot sources) _ old mid
+    (subst (λ those. SaysFrom told task.speaker (reason_of input.slot sources) those old mid)
+    (sym (messages_alike task (task.work input.shown) is_first input.name input.content)) one))
+    (said_of told task (is_first && is_missing input.content) sources inputs mid new says)
 
-said_state : {told : Bool} {task : Task} {sources : List Source} {inputs : List Input} {old new : Slot}
+said_state : (told : Bool) (task : Task) (sources : List Source) (inputs : List Input) (old new : Slot)
     → SaysOf told task sources inputs old new → new.state ≡ old.state
-said_state {told} {task} {inputs = inputs} says = all_said_state told task.speaker _ _ _ (said_of true inputs says)
+said_state told task sources inputs old new says =
+    all_said_state told task.speaker _ old new (said_of told task true sources inputs old new says)
 
 pub done_more : (told : Bool) (work : Option (List ℕ) → Work) (most : ℕ) (was_read : Bool) (inputs : List Input)
     (input : Input) (sources : List Source) → StayDone told work most was_read inputs sources
@@ -503,8 +517,9 @@ ran_through is (all _ error reached same says at swept done) =
 -- standard error is there for the fault that stopped the run
 pub stop_open : {told_in told : Bool} {task : Task} {found : List Input} {sources : List Source} {new : List Slot}
     {fault : Fault} → TookAll told_in told task found sources new (Err fault) → is_open (slot_at new 1).state ≡ true
-stop_open (stopped_at _ _ _ _ _ step _ among done untouched is_step stops says stop swept) =
-    grind (arith, common_steps, swept_open, error_open, stop_error, said_state says)
+stop_open {told} {task} {sources} (stopped_at _ before _ _ error step _ among done untouched is_step stops says stop swept) =
+    let same = said_state told task sources before standard_error error says in
+    grind (arith, common_steps, swept_open, error_open, stop_error)
 stop_open (not_begun is untouched none) = grind (arith, common_steps)
 
 -- the run that a fault stopped
@@ -514,10 +529,10 @@ pub ran_into : {told_in told : Bool} {task : Task} {found : List Input} {sources
     → TellsOn told task.speaker fault mid new
     → status ≡ status_after fault task.speaker.calling (output_reason mid fault)
     → EndsAs told_in told task found sources new status
-ran_into {told} {task} {mid} {fault} (stopped_at _ before input after error step _ among done untouched is_step stops said stop swept) tells is =
+ran_into {told} {task} {sources} {mid} {fault} (stopped_at _ before input after error step _ among done untouched is_step stops said stop swept) tells is =
     let told_so = stop_swept told (Tells told task.speaker (output_reason mid fault) fault (output_named mid fault))
     step (task.work input.shown).clears (lit≤ tt)
-    (ap is_open (said_state said)) stop stops swept tells in
+    (ap is_open (said_state told task sources before standard_error error said)) stop stops swept tells in
     run_stopped fault before input after error told_so.after step told_so.reached among done untouched is_step told_so.why told_so.stop told_so.swept
     said (rw (told_so.named, told_so.reason) told_so.says) (rw told_so.reason is)
 ran_into (not_begun at_first untouched none) tells is =
@@ -618,13 +633,15 @@ pub of_missing : {told_in told : Bool} {task : Task} {most : ℕ} {is_first fail
     → SaysOn told task.speaker (reason_of (Some slot) after) (message_of (Open slot) name) old new
     → Takes told_in told task most is_first failed was_read laid sources after name so_far error (length old) new
     (Ok (record { was_read = was_read; is_first = is_first; failed = true }))
-of_missing {told_in} {told} {task} {most} {is_first} {was_read} {laid} {name} {sources} {new} differs
+of_missing {told_in} {told} {task} {most} {is_first} {was_read} {laid} {name} {sources} {after} {slot} {error} {new} differs
     (from.broke _ reason number lies are) cannot at says =
     of_file (world_of laid sources) was_read None _ differs (λ t. ap (λ n. laid n name) (sym number) ∙ lies t) (λ t. refl)
     (let said = said_at at says in
+    let same : slot ≡ length sources = grind (arith, common_steps) in
     took (record { was_read = was_read; is_first = is_first; failed = true }) said.0 new
     (simp (differs, or-false, and-true, or-true)) (missing_done told_in (task.work None) most reason sources are)
-    (said.0, rw number at said.1, refl) (subst (λ part. OutputsAt told (streams_with said.0) part new) (sym nothing_after) said.2) refl)
+    (said.0, subst (λ n. SaysFor told task.speaker (reason_of (Some n) after) (message_of (Open 0) name) error said.0) same said.1, refl)
+    (subst (λ part. OutputsAt told (streams_with said.0) part new) (sym nothing_after) said.2) refl)
 of_missing differs (from.no_room are) cannot at says = absurd (cc)
 
 -- there was no room for it
@@ -730,7 +747,7 @@ module _ {told_in told : Bool} {task : Task} {world : World} {names left : List 
   slots_at some = grind (arith, common_steps, walked)
 
   pub walked_error : is_open walked.error.state ≡ true
-  walked_error = rw (said_state walked.says) refl
+  walked_error = rw (said_state told task sources walked.done standard_error walked.error walked.says) refl
 
   pub walk_streams : 1 ≤ length left → HasStreams told slots
   walk_streams some = record { part = walked.made.part; error = walked.error; at = slots_at some; opened = walked_error }
@@ -779,7 +796,7 @@ module _ {told_in told : Bool} {task : Task} {world : World} {names : List (List
   done_on = still_done told_in task.work largest_piece walked.done (λ had. rw had refl) leaves walked.known
 
   said_on : SaysOf told task new_sources walked.done standard_error walked.error
-  said_on = still_said walked.done leaves walked.known walked.says
+  said_on = still_said told_in told task largest_piece walked.done standard_error walked.error leaves walked.known walked.says
 
   -- one more name was taken
   pub walk_goes_on : {next : RunProgress} {new_laid : ℕ → List ℕ → Option Content} {new : List Slot}
@@ -801,7 +818,8 @@ module _ {told_in told : Bool} {task : Task} {world : World} {names : List (List
         reached = reached;
         at = at;
         swept = rw sweeps_one (swept_from one.sweeps reached new (λ sweeps. (only sweeps).1) swept);
-        says = said_more walked.done input said_on (subst (λ those. SaysFrom told task.speaker _ those walked.error after)
+        says = said_more told task new_sources walked.done input standard_error walked.error after said_on
+            (subst (λ those. SaysFrom told task.speaker (reason_of input.slot new_sources) those walked.error after)
             (messages_alike task (task.work input.shown) progress.is_first input.name input.content) says);
         failed = rw (is, walked.failed);
         alone = λ shown clears. inl (taken_alone slots (walked.alone shown) clears).0;

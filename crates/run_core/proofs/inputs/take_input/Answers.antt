@@ -18,6 +18,12 @@ say_why-requires g c =
     let (shown, says, fed) = c.in-Ok-Broken.ensures.fed in
     from_source _ _ _ _ _ _ (λ content fed done. fed_open _ had.opened (headed _ had.at c.in_ok-put_header.ensures.ok) fed) fed
 
+pub say_why-requires-in-Err : goal.say_why-requires-in-Err
+say_why-requires-in-Err g c =
+    let had = c.requires.outputs in
+    let (shown, says, fed) = c.in-Err.ensures.fed in
+    from_source _ _ _ _ _ _ (λ content fed done. fed_open _ had.opened (headed _ had.at c.in_ok-put_header.ensures.ok) fed) fed
+
 pub returns-in-Ok-Whole-clause-took : goal.returns-in-Ok-Whole-clause-took
 returns-in-Ok-Whole-clause-took g c so_far error opened at =
     let (shown, says, fed) = c.in-Ok-Whole.ensures.fed in (
@@ -67,5 +73,5 @@ returns-in-Verdict-clause-took g c so_far error opened at =
       says,
       of_source_too _ _ _ _ _ _ (λ content fed done. took_verdict _ _ _ _ _ _ _ _ so_far error _ _
           _ _ _ at c.in_ok-put_header.ensures.ok (done (ap (λ fault. is_stop (Err fault)) c.in-Verdict.is))
-          (rw c.in-Verdict.is at fed) (rw c.subject-subject.ensures at c.say_why.ensures)) fed,
+          (rw c.in-Verdict.is at fed) (rw c.subject-subject.ensures at c.say_why-in-Err.ensures)) fed,
     )
