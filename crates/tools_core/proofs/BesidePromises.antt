@@ -25,7 +25,7 @@ use Rattle.ports_core.specs.{
   Text.{Message, line_of},
 }
 use Rattle.run_core.{
-  proofs.{FeedingLemmas.needed_within, InputLemmas.said_from},
+  proofs.{FeedingLemmas.needed_within, InputLemmas.{said_from}},
   specs.{
     Input.{Input, World, shown_of, input_of, inputs_at, inputs_from, is_dash, standard_input},
     Reading.{AreDone, IsLeft, reason_of},
@@ -299,7 +299,7 @@ tee_well calling asked world few = record {
   lines : (error : Slot) × SaysAll true (tee_called calling) (said_of_input fault) standard_error error
   lines =
       let (error, says, sound) = took_lines (tee_called calling) Other (said_of_input fault) standard_error refl in
-      (error, said_from (said_of_input fault) says)
+      (error, said_from true (tee_called calling) Other (said_of_input fault) standard_error error says)
 
   left : Slot → List Slot
   left error = adds (concat pieces) standard_output ∷ error ∷ map (λ name. closes (adds (concat pieces) (opened name asked.mode))) asked.names
@@ -329,7 +329,7 @@ tee_well calling asked world few = record {
       ≡ tee.all_copied true asked.mode asked.names content.bytes
   all true well = absurd (let is : 1 ≡ 0 = sym
       (sound_status asked.on_broken (None ∷ unbroken asked.names) (Some (Read 0)) (all_sound asked.names)) ∙ well in omega (arith, is))
-  all false well = ap left (took_lines (tee_called calling) Other (said_of_input (met_by false)) standard_error refl).1.0
+  all false well = ap left (took_lines (tee_called calling) Other (said_of_input (met_by false)) standard_error refl).1
       ∙ rw (pieces_are content.bytes)
 
 does_well : (run : Run) (asked : Settings) → HasOperands asked → (HasLong run asked → ⊥)

@@ -35,16 +35,7 @@ use Rattle.split_core.specs.{
   Split.{manner_of as manner_by, Filing, Share, dealt_files, settled_shares, share},
 }
 use Rattle.ends_core.specs.Shown.{head_in, tail_in}
-use Rattle.tools_core.{
-  proofs.SameLemmas.{KnowsNoMore, all_made_alike, head_knows, shows_none, split_knows, tail_knows},
-  specs.Promises.{AllAlike, AreAlike, GivesBytes, are_same, give_same, SaysLines, Completes, FindAlike, IsCopied},
-  specs.Promises.{Gives, at_first, in_full},
-  specs.Promises.{IsMet, Tells, IsFound, IsGone, IsTask, IsUnstopped, LeaveAlike, Ran, Run, TellsMet, Unstopped, message_by},
-  specs.Promises.{broken_off, failing, judged, missing, removes_files},
-  specs.About.{TellsText, no_text, text_cut, text_whole},
-  specs.Outcome.{DoesAsked, RefusesOperands},
-  specs.Tasks.{filing_of, is_minus, is_plus, names_of, speaker_of},
-}
+use Rattle.tools_core.{proofs.SameLemmas.{KnowsNoMore, all_made_alike, head_knows, shows_none, split_knows, tail_knows}, specs.Promises.{AllAlike, AreAlike, GivesBytes, are_same, give_same, SaysLines, Completes, FindAlike, IsCopied}, specs.Promises.{Gives, at_first, in_full}, specs.Promises.{IsMet, Tells, IsFound, IsGone, IsTask, IsUnstopped, LeaveAlike, Ran, Run, TellsMet, Unstopped, message_by}, specs.Promises.{broken_off, failing, judged, missing, removes_files}, specs.About.{TellsText, no_text, text_cut, text_whole}, specs.Outcome.{DoesAsked, RefusesOperands}, specs.Tasks.{filing_of, names_of, speaker_of}}
 use Rattle.operand_core.{specs.{Style.Style}, proofs.ReadingLemmas.asks_once}
 use Rattle.csplit_core.specs.{Output.{file_in, shares_in, state_in}, Section.{Section}}
 use Rattle.run_core.specs.{
@@ -53,7 +44,7 @@ use Rattle.run_core.specs.{
   RunEnds.{RunStep, calling as call_step, heading, unheaded, unopened, EndsAs, as_defined},
   Task.{Outcome, Task, is_missing, joined, of_content, of_input, of_inputs, made_by, status_of},
 }
-use Rattle.run_core.proofs.{InputLemmas.said_of, StopLemmas.{beside_error, swept_error}}
+use Rattle.run_core.proofs.{InputLemmas.{said_of}, StopLemmas.{beside_error, swept_error}}
 use Rattle.tee_core.{
   specs.Run.{Break, IsRead, are_sound, tee_called, messages_of, said_of_input},
   proofs.EndLemmas.{nothing_before, nothing_in, sound_first, sound_goes_on, sound_status, whole_files, whole_output},
@@ -610,7 +601,7 @@ ends_left {run} {asked} {task} of makes (as_defined error reached says outputs s
       fits = inputs_fit task true found (all_tell run asked task [] found [] of (sym (append-nil found))) (task_lives run.calling asked task of);
       left = record {
         error = error;
-        says = let said = said_of true found says in grind (arith, common_steps, speaker_is);
+        says = let said = said_of true task true run.inputs found standard_error error says in grind (arith, common_steps, speaker_is);
         swept = rw (slots_at outputs) at swept;
         is = is;
       };

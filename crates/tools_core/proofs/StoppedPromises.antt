@@ -30,7 +30,7 @@ use Rattle.run_core.specs.{
   RunEnds.{EndsAs, RunStep, as_defined, calling as call_step, no_room, stopped},
   Task.{Task, made_by},
 }
-use Rattle.run_core.proofs.InputLemmas.said_of
+use Rattle.run_core.proofs.InputLemmas.{said_of}
 use Rattle.tee_core.{
   specs.{
     Run.{said_of_input, Break, FilesLeft, IsRead, OutputLeft, are_sound, messages_of, output_names, said_before},
@@ -256,7 +256,7 @@ ends_or {run} {asked} {task} of
             ];
       }))
       | inr loud ↦
-          let all = says_more true task.speaker lines (message_of fault name) standard_error said error (said_of true before says) (reason, rw loud at tells) in
+          let all = says_more true task.speaker lines (message_of fault name) standard_error said error (said_of true task true run.inputs before standard_error said says) (reason, rw loud at tells) in
           let Said : List Message → Type 0 = λ those.
           SaysAll true (speaker_of run.calling asked) those standard_error (slot_at run.outputs 1) in
           let said : Said (lines ++ message_of fault name ∷ []) = grind (arith, common_steps, stopped_error) in
