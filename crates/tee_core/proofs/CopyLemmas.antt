@@ -22,7 +22,7 @@ use Rattle.tee_core.specs.{
   TeeState.TeeState,
   declared.standing.Standing.{Standing, TheVariants.{Sound, Broken, Gone}},
 }
-use Rattle.tee_core.proofs.TellLemmas.{count_standings}
+use Rattle.tee_core.proofs.TellLemmas.{count_standings, input_silent}
 use Rattle.tee_core.proofs.ChangeLemmas.{IsDecided, KeepsBroken, stay_broken, still_broken}
 
 -- which slots are outputs
@@ -280,6 +280,17 @@ quiet_since : (run : TeeRun) (fault : Fault) (known : List Standing) (count n : 
 quiet_since run fault known count zero = refl
 quiet_since run fault known count (suc n) =
     rw (quiet_since run fault known count n, quiet_at run.on_broken (get_or known n Sound) n count) refl
+
+-- a step in which no output breaks
+pub sound_step : {run : TeeRun} {fault : Fault} {Change : Slot → Slot → Type 0} {IsOne : ℕ → Type 0}
+    {old new : List Slot} {count : ℕ} → HasStreams new count → AreSound new → ChangesEach Change IsOne old new
+    → Step run fault Change IsOne old new
+sound_step {run} {fault} {old = old} {new} {count} has sound changes = record {
+  mid = new;
+  changes = changes;
+  said = rw (sound_stand has sound, quiet_since run fault (standings_of old) (suc count) (length run.names + 1))
+      (input_silent run has);
+}
 
 -- a step after which no output is broken
 module _ {run : TeeRun} {fault : Fault} {Change : Slot → Slot → Type 0} {IsOne : ℕ → Type 0}

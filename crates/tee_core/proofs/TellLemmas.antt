@@ -31,7 +31,7 @@ seen_all known stand many so_far = grind (arith, common_steps, so_far)
 
 -- where outputs stand
 
-standing_at : (output error : Slot) (files : List Slot) (n : ℕ)
+pub standing_at : (output error : Slot) (files : List Slot) (n : ℕ)
     → stands_as (slot_at (output ∷ error ∷ files) (output_slot n))
     ≡ get_or (standings_of (output ∷ error ∷ files)) n Sound
 standing_at output error files zero = refl

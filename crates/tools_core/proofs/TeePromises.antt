@@ -1,60 +1,30 @@
 -- Lemmas on what a run of `tee` leaves and reports of its outputs, and on what ended it.
-use Rattle.std.proofs.{
-  Common.{◌≡◌, ◌⊎◌, ℕ, ◌≤◌, ◌<◌, ◌^◌, get_or, map, zero, suc, Bool, true, false, List, [], ◌∷◌, ◌++◌, length, take},
-  Common.{Option, None, Some, cond, inl, inr, refl, sym, ◌∙◌, ap, arith, append-nil, All, codes, not},
-  lemmas.{
-    List.{Elements.{All-append, All-cons, All-nil}, length-map},
-    Grind.common_steps,
-    Bool.{cases_Bool, cond_both, false≢true, not-true, or_cases, or_parts},
-  },
-}
+use Rattle.std.proofs.{Common.{◌≡◌, ◌⊎◌, ℕ, ◌+◌, ◌≤◌, ◌<◌, ◌^◌, get_or, zero, suc, Bool, true, false, List, [], ◌∷◌, ◌++◌, length}, Common.{take, Option, Some, cond, inl, inr, refl, sym, ◌∙◌, ap, arith, append-nil, All, codes, not}, lemmas.{List.{Elements.{All-append, All-nil}, Folds.list_any_at, get_or_past, length-map}, Grind.common_steps, Bool.{cases_Bool, cases_lt, cond_both, false≢true, not-true, or_cases, or_parts}}}
 use Rattle.std.specs.List.{concat, list_any}
-use Rattle.ports_core.specs.{
-  declared.{
-    reason.Reason.Reason,
-    fault.Fault.{Fault, TheVariants.{Memory, Open, Write}},
-    on_broken.OnBroken.OnBroken,
-    slot.{State.{State, TheVariants.Unopened}, Mode.Mode},
-  },
-  Inputs.largest_piece,
-  Slot.{Slot, adds, closes, is_open, slot_at},
-  Source.{Content, Source, source_at},
-  Streams.{streams_with, standard_error, standard_output},
-  Part.{IsBeginning, file_of},
-  Text.{Message, message_of},
-  Message.SaysAll,
-}
+use Rattle.ports_core.specs.{declared.{reason.Reason.Reason, fault.Fault.{Fault, TheVariants.{Memory, Open, Write}}, on_broken.OnBroken.OnBroken, slot.{State.{State, TheVariants.Unopened}, Mode.Mode}}, Inputs.largest_piece, Slot.{Slot, closes, is_open, no_slot, opened, slot_at}, Source.{Content, Source, source_at}, Streams.{streams_with, standard_error}, Part.{IsBeginning}, Text.{Message, message_of}, Message.SaysAll}
 use Rattle.ports_core.proofs.{
   MessageLemmas.says_after,
   PartLemmas.{begins_itself, begins_trans, nothing_begins},
 }
 use Rattle.tee_core.{
   specs.{
-    Outputs.{Closes, Gets, IsFile, IsOutput, gets_all, breaks_off, gets_none, is_closed, fails_to_close, was_broken},
+    Outputs.{Closes, Gets, gets_all, breaks_off, gets_none, is_closed, fails_to_close, was_broken},
     Opening.{OpensAs, is_opened, is_unopened},
     Run.{AreSound, ClosesAll, Copied, IsRead, LeavesOf, SaysTo, Step, TeeRun, all_opened, any_is, ends_run, is_done},
-    Run.{is_same, lost_for, output_names, said_of_input, said_since, standings_of, stands_as, tee_called, tee_of, tells},
+    Run.{is_same, lost_for, output_names, said_of_input, said_since, standings_of, stands_as, tee_called, tells},
     declared.standing.Standing.{Standing, TheVariants.{Broken, Gone, Sound}},
     inner.Steps.{HasStreams, output_slot},
   },
   proofs.{
-    CopyLemmas.{Has, Stands, error_no_output, has_all, has_begun, has_none, has_sound, joined_more, no_error, said_error},
-    CopyLemmas.{said_place, stands_of, stands_said, stands_streams, start_at, starts_well, streams_count, streams_kept},
+    CopyLemmas.{Has, Stands, has_all, has_begun, has_none, has_sound, joined_more, mapped_at, output_of, said_error},
+    CopyLemmas.{said_place, stands_of, stands_said, stands_streams, start_of, starts_well, streams_count, streams_kept},
+    CopyLemmas.streams_of,
+    EndLemmas.end_streams,
     TellLemmas.{count_standings, standing_at},
   },
 }
 use Rattle.words_core.specs.{TeeWords.TeeAsked, declared.settings.Settings.{Settings, TheVariants.Tee}}
-use Rattle.tools_core.{
-  specs.{
-    Outcome.tee_run,
-    Promises.{BeginsAs, BrokeAt, EndsWithBreak, HasGone, HasUpTo, IsCalled, LostReader, OneIs, Ran, Run, SaysLines},
-    Promises.{StopsRun, Tells, TellsMet, failing, message_by},
-    Tasks.speaker_of,
-  },
-  proofs.BeginLemmas.{bare_begins, empty_begins},
-  proofs.LeftLemmas.{copy, slot_of, slots_of, tee_made, HasLine, has_after, has_before, tells_one, ran_over},
-  proofs.LeftLemmas.{copies_are, same_content},
-}
+use Rattle.tools_core.{specs.{Outcome.tee_run, Promises.{BeginsAs, BrokeAt, EndsWithBreak, HasGone, HasUpTo, IsCalled, LostReader, OneIs, Ran, Run, SaysLines}, Promises.{SaysWhy, StopsRun, Tells, TellsMet, failing, message_by}}, proofs.BeginLemmas.{bare_begins, empty_begins}, proofs.LeftLemmas.{HasLine, copies_are, copy, has_after, has_before, one_line, ran_over, same_content, says_line}, proofs.LeftLemmas.{slots_of, tee_made, tells_one}}
 use Rattle.ports_core.specs.declared.slot.State.TheVariants as state
 use Rattle.ports_core.specs.declared.reason.Reason.TheVariants as reason
 use Rattle.tee_core.specs.Run as tee
@@ -178,20 +148,20 @@ any_tests one (standing ∷ standings) = rw (any_tests one standings)
 
 module _ (job : TeeRun) (fault : Fault) (was now : List Standing) where
   -- the output of this number broke in the step, and is reported
-  abbrev Tells : ℕ → Type 0
-  Tells n = tells job.on_broken (get_or was n Sound) (get_or now n Sound) ≡ true
+  abbrev IsDue : ℕ → Type 0
+  IsDue n = tells job.on_broken (get_or was n Sound) (get_or now n Sound) ≡ true
 
   abbrev line_of : ℕ → Message
   line_of n = message_of fault (get_or (output_names job.names) n [])
 
-  since_are : (Line : Message → Type 0) → ((n : ℕ) → Tells n → Line (line_of n)) → (count : ℕ)
+  since_are : (Line : Message → Type 0) → ((n : ℕ) → IsDue n → Line (line_of n)) → (count : ℕ)
       → All Line (said_since job fault was now count)
   since_are Line tell zero = All-nil Line
   since_are Line tell (suc count) = All-append Line _ _ (since_are Line tell count)
       (cond_both (tells job.on_broken (get_or was count Sound) (get_or now count Sound)) (line_of count ∷ []) [] (All Line)
       (λ is. one_line Line (line_of count) (tell count is)) (λ differs. All-nil Line))
 
-  since_has : (n count : ℕ) → n < count → Tells n → HasLine (line_of n) (said_since job fault was now count)
+  since_has : (n count : ℕ) → n < count → IsDue n → HasLine (line_of n) (said_since job fault was now count)
   since_has n zero within is = absurd (omega arith)
   since_has n (suc count) within is = elim (cases_lt n count) [
     | inl before ↦ has_before _ (since_has n count before is)
@@ -243,6 +213,10 @@ closes_breaks (is_closed sound) = sound_breaks sound (λ broken. refl)
 closes_breaks (fails_to_close sound why) = sound_breaks sound (λ broken. refl)
 closes_breaks (was_broken broken) = same_breaks refl
 
+closed_breaks : {old new : Slot} → (new ≡ old) ⊎ Closes old new → Breaks (Write 0) old new
+closed_breaks (inl same) = same_breaks same
+closed_breaks (inr ends) = closes_breaks ends
+
 module _ {job : TeeRun} {Other : Message → Type 0} {lines : List Message} {old new : List Slot}
     (has : HasStreams old (length job.names)) (so_far : Reports job Other lines old) where
   -- more lines follow; they speak of no output that was reported before
@@ -256,7 +230,7 @@ module _ {job : TeeRun} {Other : Message → Type 0} {lines : List Message} {old
       → Reports job Other (lines ++ messages) new
   more_lines {messages} says kept about has_line = record {
     said = says_after job.told (tee_called job.calling) lines messages standard_error (slot_at old 1) (slot_at new 1) so_far.said says;
-    are = All-append _ _ _ (λ k line within. still (so_far.are k line within)) about;
+    are = All-append (λ line. Other line ⊎ IsAbout job new line) _ _ (λ k line within. still (so_far.are k line within)) about;
     each = λ n within told. by n within told (slot_at old (output_slot n)).is_broken refl;
   } where
     still : {line : Message} → Other line ⊎ IsAbout job old line → Other line ⊎ IsAbout job new line
@@ -275,7 +249,7 @@ module _ {job : TeeRun} {Other : Message → Type 0} {lines : List Message} {old
   reports_said says others = more_lines (rw (said_error says (omega (arith, streams_count has))) says.said)
       (λ n within broken. said_place says (output_slot n) (not_error n)) (λ k line within. inl (others k line within))
       (λ n within sound told. absurd (false≢true (sym sound ∙ ap (λ (slot : Slot). slot.is_broken) (sym (said_place says (output_slot n) (not_error n)))
-      ∙ broken_slot (tee.is_told job.on_broken) refl _ told)))
+      ∙ broken_slot (tee.is_told job.on_broken) refl (slot_at new (output_slot n)) told)))
 
   reports_next : {fault : Fault} {Change : Slot → Slot → Type 0} {IsOne : ℕ → Type 0} → (IsOne 1 → ⊥)
       → (step : Step job fault Change IsOne old new)
@@ -286,21 +260,22 @@ module _ {job : TeeRun} {Other : Message → Type 0} {lines : List Message} {old
   reports_next {fault} apart step breaks = more_lines
       (rw (said_error step.said (omega (arith, streams_count mid))) (rw (step.changes.others 1 apart) at step.said.said))
       (λ n within broken. now_at n ∙ (breaks n within).0 broken)
-      (since_are job fault (standings_of old) (standings_of step.mid) _ about (length job.names + 1)) has_line where
+      (since_are job fault (standings_of old) (standings_of step.mid) (λ line. Other line ⊎ IsAbout job new line) about
+      (length job.names + 1)) has_line where
         mid : HasStreams step.mid (length job.names)
         mid = streams_kept has step.changes.count (step.changes.others 1 apart)
 
         now_at : (n : ℕ) → slot_at new (output_slot n) ≡ slot_at step.mid (output_slot n)
         now_at n = said_place step.said (output_slot n) (not_error n)
 
-        about : (n : ℕ) → Tells job fault (standings_of old) (standings_of step.mid) n
+        about : (n : ℕ) → IsDue job fault (standings_of old) (standings_of step.mid) n
             → Other (line_of job fault (standings_of old) (standings_of step.mid) n)
             ⊎ IsAbout job new (line_of job fault (standings_of old) (standings_of step.mid) n)
         about n told =
             let (was, now) = tells_parts job.on_broken _ _ (rw (stands_at has n, stands_at mid n) at told) in
             let broken = broken_slot (tee.is_told job.on_broken) refl (slot_at step.mid (output_slot n)) now in
             let within = broken_number mid n broken in
-            inr (n, within, rw (now_at n) broken, rw (now_at n, (breaks n within).1 (sound_slot _ was) broken) refl)
+            inr (n, within, rw (now_at n) broken, rw (now_at n, (breaks n within).1 (sound_slot (slot_at old (output_slot n)) was) broken) refl)
 
         has_line : (n : ℕ) → n ≤ length job.names → (slot_at old (output_slot n)).is_broken ≡ false
             → tee.is_told job.on_broken (stands_as (slot_at new (output_slot n))) ≡ true
@@ -318,11 +293,7 @@ usable_at {job} stands n within sound = rw (has_sound (stands.each n within) sou
 
 reports_of : {job : TeeRun} (Other : Message → Type 0) {pieces : List (List ℕ)} {slots : List Slot}
     → Copied job pieces slots → (lines : List Message) × Reports job Other lines slots
-reports_of {job} Other (tee.started new step) = (_, reports_next first (record {
-  said = refl;
-  are = All-nil _;
-  each = λ n within told. absurd (false≢true (sym (start n within) ∙ broken_slot (tee.is_told job.on_broken) refl _ told));
-}) (λ file. omega (arith, file.0)) step breaks) where
+reports_of {job} Other (tee.started new step) = (_, reports_next first none (λ file. omega (arith, file.0)) step breaks) where
   first : HasStreams (all_opened job) (length job.names)
   first = streams_of (omega (arith, length-map job.names (λ name. opened name job.mode))) refl
 
@@ -330,14 +301,24 @@ reports_of {job} Other (tee.started new step) = (_, reports_next first (record {
   start zero within = refl
   start (suc n) within = rw (mapped_at (λ name. opened name job.mode) job.names n within) refl
 
+  none : Reports job Other [] (all_opened job)
+  none = record {
+    said = refl;
+    are = All-nil (λ line. Other line ⊎ IsAbout job (all_opened job) line);
+    each = λ n within told. absurd (false≢true (sym (start n within)
+        ∙ broken_slot (tee.is_told job.on_broken) refl (slot_at (all_opened job) (output_slot n)) told));
+  }
+
   breaks : (n : ℕ) → n ≤ length job.names
       → Breaks (Open 0) (slot_at (all_opened job) (output_slot n)) (slot_at step.mid (output_slot n))
   breaks zero within = same_breaks (step.changes.others 0 (λ file. omega (arith, file.0)))
   breaks (suc n) within = opened_breaks (start (suc n) within) (step.changes.each (suc (suc n)) (omega arith, omega (arith, within)))
 reports_of {job} Other (tee.one_more pieces piece old new so_far goes some few step) =
-    let stands = stands_of so_far in let (lines, reports) = reports_of Other so_far in
-    (_, reports_next (stands_streams stands) reports (λ is. is.0 refl) step
-    (λ n within. gets_breaks (usable_at stands n within) (step.changes.each (output_slot n) (output_of n within))))
+    let stands = stands_of so_far in let (lines, reports) = reports_of Other so_far in (
+      _,
+      reports_next (stands_streams stands) reports (λ is. is.0 refl) step
+          (λ n within. gets_breaks (usable_at stands n within) (step.changes.each (output_slot n) (output_of job.names n within))),
+    )
 
 -- All pieces but the last, and the last.
 
@@ -390,10 +371,10 @@ last_of {job} told (tee.one_more pieces piece old new so_far goes more few step)
       rw same (gets_last job.on_broken start.2 start.1 (rw told at (stands.each n within))
       (λ ended. false≢true (sym (or_parts _ _ goes).0
       ∙ any_at (stands_streams stands) (λ standing. ends_run standing job.on_broken) within ended))
-      (rw told at (step.changes.each (output_slot n) (output_of n within))) (rw same at ends))
+      (rw told at (step.changes.each (output_slot n) (output_of job.names n within))) (rw same at ends))
 
 -- an output at the end, by how it began, or as that was closed
-record Ended (x : List ℕ) (start output : Slot) : Type 0 where
+pub record Ended (x : List ℕ) (start output : Slot) : Type 0 where
   pub from : Slot
   pub name : from.name ≡ start.name
   pub empty : from.written ≡ []
@@ -401,15 +382,15 @@ record Ended (x : List ℕ) (start output : Slot) : Type 0 where
 
 closed_ended : {x : List ℕ} {start old new : Slot} → start.written ≡ [] → Has true x start old → Closes old new
     → Ended x start new
-closed_ended {start = start} empty has_all (is_closed sound) = record { from = closes start; name = refl; empty = empty; has = has_all }
-closed_ended {x} {start} empty has_all (fails_to_close sound why) =
-    record { from = closes start; name = refl; empty = empty; has = has_begun x why (begins_itself x) }
+closed_ended {start = start} empty has (is_closed sound) = rw (has_sound has sound) (record
+    { from = closes start; name = refl; empty = empty; has = has_all })
+closed_ended {x} {start} empty has (fails_to_close sound why) = rw (has_sound has sound) (record
+    { from = closes start; name = refl; empty = empty; has = has_begun x why (begins_itself x) })
 closed_ended {start = start} empty has (was_broken broken) = record { from = start; name = refl; empty = empty; has = has }
-closed_ended empty has closes = absurd (cc)
 
 -- its name, and what it has
-has_named : {x : List ℕ} {start from output : Slot} → from.name ≡ start.name → from.written ≡ [] → Has true x from output
-    → IsCalled output start.name × ((output.name ≡ start.name) ⊎ (output.written ≡ [])) × IsBeginning output.written x
+has_named : {x name : List ℕ} {from output : Slot} → from.name ≡ name → from.written ≡ [] → Has true x from output
+    → IsCalled output name × ((output.name ≡ name) ⊎ (output.written ≡ [])) × IsBeginning output.written x
 has_named {x} same empty has_all = (inl same, inl same, rw empty (begins_itself x))
 has_named {x} same empty (has_none kept why (inl named)) = (inl (named ∙ same), inr refl, nothing_begins x)
 has_named {x} same empty (has_none kept why (inr none)) = (inr (none, refl), inr refl, nothing_begins x)
@@ -437,14 +418,11 @@ pub record TellsAll (run : Run) (asked : TeeAsked) (fault : Option Fault) : Type
       → IsToldAt run asked (output_slot n)
 
 -- a run whose outputs were left in this way
-module _ (run : Run) (asked : TeeAsked) {pieces : List (List ℕ)} {fault : Option Fault} {old mid : List Slot}
+module _ (run : Run) (asked : TeeAsked) {pieces : List (List ℕ)} {messages : List Message} {old mid : List Slot}
     (so_far : Copied (tee_run run.calling true asked) pieces old)
-    (says : SaysTo (tee_run run.calling true asked) (said_of_input fault) old mid)
+    (says : SaysTo (tee_run run.calling true asked) messages old mid)
     (ends : ClosesAll (tee_run run.calling true asked) mid run.outputs) where
-  abbrev job : TeeRun
-  job = tee_run run.calling true asked
-
-  stands_mid : Stands job (concat pieces) mid
+  stands_mid : Stands (tee_run run.calling true asked) (concat pieces) mid
   stands_mid = stands_said (stands_of so_far) says
 
   pub has : HasStreams run.outputs (length asked.names)
@@ -459,27 +437,26 @@ module _ (run : Run) (asked : TeeAsked) {pieces : List (List ℕ)} {fault : Opti
     by zero within = inl (ends.changes.others 0 (λ file. omega (arith, file.0)))
     by (suc n) within = inr (ends.changes.each (suc (suc n)) (omega arith, omega (arith, within)))
 
-  pub ended_at : (n : ℕ) → n ≤ length asked.names → Ended (concat pieces) (start_of job n) (slot_at run.outputs (output_slot n))
+  pub ended_at : (n : ℕ) → n ≤ length asked.names → Ended (concat pieces) (start_of (tee_run run.calling true asked) n) (slot_at run.outputs (output_slot n))
   ended_at n within = elim (closed_at n within) [
-    | inl same ↦ rw same (record { from = start_of job n; name = refl; empty = (starts_well job n).2; has = stands_mid.each n within })
-    | inr closes ↦ closed_ended (starts_well job n).2 (stands_mid.each n within) closes
+    | inl same ↦ rw same (record { from = start_of (tee_run run.calling true asked) n; name = refl; empty = (starts_well (tee_run run.calling true asked) n).2; has = stands_mid.each n within })
+    | inr closes ↦ closed_ended (starts_well (tee_run run.calling true asked) n).2 (stands_mid.each n within) closes
   ]
 
   -- an output that was broken once all was copied stays so
   pub stays : (n : ℕ) → n ≤ length asked.names → (slot_at old (output_slot n)).is_broken ≡ true
       → slot_at run.outputs (output_slot n) ≡ slot_at old (output_slot n)
-  stays n within broken = let same = said_place says (output_slot n) (not_error n) in elim (closed_at n within) [
-    | inl still ↦ still ∙ same
-    | inr closes ↦ (closes_breaks closes).0 (rw same broken) ∙ same
-  ]
+  stays n within broken =
+      let same = said_place says (output_slot n) (not_error n) in (closed_breaks (closed_at n within)).0 (rw same broken) ∙ same
 
   -- what was reported, if the line about the input tells what was met
-  pub told_all : All (TellsMet run (Tee asked)) (said_of_input fault) → TellsAll run asked fault
-  told_all of_input = record {
+  pub told_all : {fault : Option Fault} → messages ≡ said_of_input fault → All (TellsMet run (Tee asked)) messages
+      → TellsAll run asked fault
+  told_all for of_input = record {
     streams = has;
     lines = lines;
     says = says_lines;
-    input = λ met is. has_before _ (has_after said_before.0 (rw is ([], [], refl)));
+    input = λ met is. has_before _ (has_after said_before.0 (rw (for, is) ([], [], refl)));
     each = λ n within told.
         let which = (slot_at run.outputs (output_slot n)).state in
         (_, called n within, says_line (rw (failing_message run (output_slot n) which _) at (reports.each n within told)) says_lines);
@@ -487,34 +464,32 @@ module _ (run : Run) (asked : TeeAsked) {pieces : List (List ℕ)} {fault : Opti
     Line : Message → Type 0
     Line = TellsMet run (Tee asked)
 
-    said_before : (lines : List Message) × Reports job Line lines old
+    said_before : (lines : List Message) × Reports (tee_run run.calling true asked) Line lines old
     said_before = reports_of Line so_far
 
-    abbrev lines : List Message
-    lines = (said_before.0 ++ said_of_input fault)
-        ++ said_since job (Write 0) (standings_of mid) (standings_of ends.mid) (length asked.names + 1)
+    lines : List Message
+    lines = (said_before.0 ++ messages)
+        ++ said_since (tee_run run.calling true asked) (Write 0) (standings_of mid) (standings_of ends.mid) (length asked.names + 1)
 
-    reports : Reports job Line lines run.outputs
-    reports = reports_next (stands_streams stands_mid)
-        (reports_said (stands_streams (stands_of so_far)) said_before.1 says of_input) (λ file. omega (arith, file.0)) ends breaks where
-      breaks : (n : ℕ) → n ≤ length asked.names
-          → Breaks (Write 0) (slot_at mid (output_slot n)) (slot_at ends.mid (output_slot n))
-      breaks n within = rw (said_place ends.said (output_slot n) (not_error n)) at (elim (closed_at n within) [
-        | inl same ↦ same_breaks same
-        | inr closes ↦ closes_breaks closes
-      ])
+    reports : Reports (tee_run run.calling true asked) Line lines run.outputs
+    reports = reports_next (stands_streams stands_mid) (reports_said (stands_streams (stands_of so_far)) said_before.1 says of_input)
+        (λ file. omega (arith, file.0)) ends
+        (λ n within. rw (said_place ends.said (output_slot n) (not_error n)) at (closed_breaks (closed_at n within)))
 
     called : (n : ℕ) → n ≤ length asked.names
         → IsCalled (slot_at run.outputs (output_slot n)) (get_or (output_names asked.names) n [])
     called zero within = let ended = ended_at 0 within in (has_named ended.name ended.empty ended.has).0
     called (suc n) within = let ended = ended_at (suc n) within in (has_named ended.name ended.empty ended.has).0
 
-    tells_met : {line : Message} → Line line ⊎ IsAbout job run.outputs line → Line line
+    tells_met : {line : Message} → Line line ⊎ IsAbout (tee_run run.calling true asked) run.outputs line → Line line
     tells_met (inl met) = met
     tells_met (inr (n, within, broken, line)) =
-        let which = (slot_at run.outputs (output_slot n)).state in
-        (failing (output_slot n) which, _, inl (failing_stops run (Tee asked) which (not_error n, called n within, broken, refl)),
-        line ∙ failing_message run (output_slot n) which _)
+        let which = (slot_at run.outputs (output_slot n)).state in (
+          failing (output_slot n) which,
+          _,
+          inl (failing_stops run (Tee asked) which (not_error n, called n within, broken, refl)),
+          line ∙ failing_message run (output_slot n) which _,
+        )
 
     says_lines : SaysLines run (Tee asked) lines
     says_lines = record { are = λ k line within. tells_met (reports.are k line within); said = reports.said }
@@ -617,30 +592,32 @@ read_begins Leaves (tee.to_break x is breaks leaves) = rw is (begins_itself x)
 read_begins Leaves (tee.to_limit x piece rest is long short leaves) = grind (arith, common_steps)
 read_begins Leaves (tee.to_broken_output x rest is leaves) = (rest, is)
 
-pub tee_begins : {run : Run} {asked : TeeAsked} {content : Content} {source : Source} {status : ℕ} (place : ℕ)
+pub tee_begins : (run : Run) {asked : TeeAsked} {content : Content} {source : Source} {status : ℕ} (place : ℕ)
     → (place ≡ 1 → ⊥) → tee.EndsAs (tee_run run.calling true asked) true content source run.outputs status
     → BeginsAs (slot_at run.outputs place) (slot_at (slots_of (tee_made asked content).part) place)
-tee_begins place differs (tee.no_room error says unread slots failed) = rw slots (bare_begins error place differs)
-tee_begins {run} {asked} {content} place differs (tee.copied pieces fault old mid comes so_far says ends is) = each_place _ by place differs where
-  begins : (n : ℕ) → n ≤ length asked.names → {other : Slot} → other.written ≡ content.bytes
-      → other.name ≡ (start_of (tee_run run.calling true asked) n).name
-      → BeginsAs (slot_at run.outputs (output_slot n)) other
-  begins n within bytes name =
-      let ended = ended_at run asked so_far says ends n within in
-      let (called, named, part) = has_named ended.name ended.empty ended.has in record {
-        bytes = rw bytes (begins_trans _ (concat pieces) _ part (read_begins _ comes.read));
-        named = rw name named;
-      }
+tee_begins run place differs (tee.no_room error says unread slots failed) = rw slots (bare_begins error place differs)
+tee_begins run {asked} {content} place differs (tee.copied pieces fault old mid comes so_far says ends is) =
+    each_place (λ place. BeginsAs (slot_at run.outputs place) (slot_at (slots_of (tee_made asked content).part) place)) by
+    place differs where
+      begins : (n : ℕ) → n ≤ length asked.names → {other : Slot} → other.written ≡ content.bytes
+          → other.name ≡ (start_of (tee_run run.calling true asked) n).name
+          → BeginsAs (slot_at run.outputs (output_slot n)) other
+      begins n within bytes name =
+          let ended = ended_at run asked so_far says ends n within in
+          let (called, named, part) = has_named ended.name ended.empty ended.has in record {
+            bytes = rw bytes (begins_trans _ (concat pieces) _ part (read_begins _ comes.read));
+            named = rw name named;
+          }
 
-  by : (n : ℕ) → BeginsAs (slot_at run.outputs (output_slot n)) (slot_at (slots_of (tee_made asked content).part) (output_slot n))
-  by zero = begins 0 (omega arith) refl refl
-  by (suc n) = elim (cases_lt n (length asked.names)) [
-    | inl within ↦
-        let made = ap (λ those. slot_at those n) (copies_are asked.mode content.bytes asked.names)
-        ∙ mapped_at (copy asked.mode content.bytes) asked.names n within in
-        rw made (begins (suc n) within refl refl)
-    | inr past ↦ rw (get_or_past run.outputs (suc (suc n)) no_slot (omega (arith, past, streams_count (has run asked so_far says ends)))) (empty_begins refl)
-  ]
+      by : (n : ℕ) → BeginsAs (slot_at run.outputs (output_slot n)) (slot_at (slots_of (tee_made asked content).part) (output_slot n))
+      by zero = begins 0 (omega arith) refl refl
+      by (suc n) = elim (cases_lt n (length asked.names)) [
+        | inl within ↦
+            let made = ap (λ those. slot_at those n) (copies_are asked.mode content.bytes asked.names)
+            ∙ mapped_at (copy asked.mode content.bytes) asked.names n within in
+            rw made (begins (suc n) within refl refl)
+        | inr past ↦ rw (get_or_past run.outputs (suc (suc n)) no_slot (omega (arith, past, streams_count (has run asked so_far says ends)))) (empty_begins refl)
+      ]
 
 -- What was read, and what is left.
 
@@ -652,31 +629,40 @@ read_up_to source few (tee.to_break x is breaks leaves) = ([], is ∙ sym (appen
 read_up_to source few (tee.to_limit x piece rest is many within leaves) = grind (arith, common_steps)
 read_up_to source few (tee.to_broken_output x rest is leaves) = (rest, is, leaves refl, inr refl)
 
--- an output once the files were closed, by how it stood before
+-- an output that has all, and one that is as it was before the files were closed
+
+up_to_all : (run : Run) (on_broken : OnBroken) {before last : List ℕ} {output : Slot} → output.written ≡ before ++ last
+    → (output.state ≡ Unopened → ⊥) → HasUpTo run on_broken before last output
+up_to_all run on_broken {before} {last} all opens = record {
+  no_more = rw all (begins_itself (before ++ last));
+  sound = λ sound. all;
+  some = λ ends. rw all (last, refl);
+  unopened = λ ends unopened. absurd (opens unopened);
+}
+
+up_to_part : (run : Run) (on_broken : OnBroken) {before last x : List ℕ} {start output : Slot} → start.written ≡ []
+    → x ≡ before ++ last → Has true x start output
+    → (ends_run (stands_as output) on_broken ≡ true → IsBeginning before output.written
+    × (output.state ≡ Unopened → (source_at run.inputs 0).reads ≡ 0))
+    → HasUpTo run on_broken before last output
+up_to_part run on_broken {output = output} empty all part some = record {
+  no_more = rw all at (has_named refl empty part).2;
+  sound = λ sound. ap (λ (slot : Slot). slot.written) (has_sound part (sound_slot output sound)) ∙ rw empty all;
+  some = λ ends. (some ends).0;
+  unopened = λ ends. (some ends).1;
+}
+
 up_to : (run : Run) (on_broken : OnBroken) {before last x : List ℕ} {start old new : Slot} → start.written ≡ []
     → x ≡ before ++ last → Has true x start old → (new ≡ old) ⊎ Closes old new
     → (ends_run (stands_as old) on_broken ≡ true → IsBeginning before old.written
     × (old.state ≡ Unopened → (source_at run.inputs 0).reads ≡ 0))
     → HasUpTo run on_broken before last new
-up_to run on_broken {old = old} empty all has (inl same) some = rw same (record {
-  no_more = rw all at (has_named refl empty has).2;
-  sound = λ sound. rw (has_sound has (sound_slot old sound), empty) all;
-  some = λ ends. (some ends).0;
-  unopened = λ ends. (some ends).1;
-})
-up_to run on_broken empty all has (inr (was_broken broken)) some = up_to run on_broken empty all has (inl refl) some
-up_to run on_broken {before} {last} empty all has (inr (is_closed sound)) some = rw (has_sound has sound, empty, all) (record {
-  no_more = begins_itself (before ++ last);
-  sound = λ is. refl;
-  some = λ is. (last, refl);
-  unopened = λ ended is. absurd (cc);
-})
-up_to run on_broken {before} {last} empty all has (inr (fails_to_close sound why)) some = rw (has_sound has sound, empty, all) (record {
-  no_more = begins_itself (before ++ last);
-  sound = λ is. refl;
-  some = λ is. (last, refl);
-  unopened = λ ended is. absurd (cc);
-})
+up_to run on_broken empty all part (inl same) some = rw same (up_to_part run on_broken empty all part some)
+up_to run on_broken empty all part (inr (was_broken broken)) some = up_to_part run on_broken empty all part some
+up_to run on_broken empty all part (inr (is_closed sound)) some =
+    up_to_all run on_broken (ap (λ (slot : Slot). slot.written) (has_sound part sound) ∙ rw empty all) (λ is. absurd (cc))
+up_to run on_broken empty all part (inr (fails_to_close sound why)) some =
+    up_to_all run on_broken (ap (λ (slot : Slot). slot.written) (has_sound part sound) ∙ rw empty all) (λ is. absurd (cc))
 
 ends_with_break : (run : Run) (asked : TeeAsked) → length run.world.standard.bytes < 2 ^ 63
     → tee.EndsAs (tee_run run.calling true asked) true run.world.standard (source_at run.inputs 0) run.outputs run.status
@@ -710,21 +696,11 @@ ends_with_break run asked few (tee.copied pieces fault old mid comes so_far says
           let within = number_within streams n there in
           up_to run asked.on_broken (starts_well (tee_run run.calling true asked) n).2 last.all (stands.each n within)
           (rw (said_place says (output_slot n) (not_error n)) at (closed_at run asked so_far says ends n within))
-          (λ ended. let (begins, none) = last.some n within ended in (begins, λ unopened. comes.reads
-          ∙ rw (any_at (stands_streams stands) (λ standing. ends_run standing asked.on_broken) within ended, none unopened) refl))
-
-      ended : is_done asked.on_broken (standings_of old) ≡ true
-          → OneIs run (λ standing. ends_run standing asked.on_broken ≡ true)
-          ⊎ (OneIs run (λ standing. standing ≡ Sound) → ⊥)
-          ⊎ (((source_at run.inputs 0).reads ≡ 0) × Tells run (Tee asked) Memory [])
-      ended vain = elim (or_cases _ _ vain) [
-        | inl one ↦
-            let (n, within, ends_it) = one_at (stands_streams stands) (λ standing. ends_run standing asked.on_broken) one in
-            let broken = broken_slot (λ standing. ends_run standing asked.on_broken) refl (slot_at old (output_slot n)) ends_it in
-            let same = stays run asked so_far says ends n within broken in
-            inl (output_slot n, not_error n, broken_within run.outputs (output_slot n) (rw same broken), rw same ends_it)
-        | inr none ↦ inr (inl (λ (place, differs, within, sound). each_place _ (was_sound none) place differs within sound))
-      ]
+          (λ ended. let (begins, none) = last.some n within ended in (
+            begins,
+            λ unopened. comes.reads
+                ∙ rw (any_at (stands_streams stands) (λ standing. ends_run standing asked.on_broken) within ended, none unopened) refl,
+          ))
 
       was_sound : not (any_is Sound (standings_of old)) ≡ true → (n : ℕ) → output_slot n < length run.outputs
           → stands_as (slot_at run.outputs (output_slot n)) ≡ Sound → ⊥
@@ -737,6 +713,20 @@ ends_with_break run asked few (tee.copied pieces fault old mid comes so_far says
             ∙ any_at (stands_streams stands) (λ standing. is_same standing Sound) within (rw is refl))
         by true is = false≢true (sym (sound_slot (slot_at run.outputs (output_slot n)) sound)
             ∙ ap (λ (slot : Slot). slot.is_broken) (stays run asked so_far says ends n within is) ∙ is)
+
+      ended : is_done asked.on_broken (standings_of old) ≡ true
+          → OneIs run (λ standing. ends_run standing asked.on_broken ≡ true)
+          ⊎ (OneIs run (λ standing. standing ≡ Sound) → ⊥)
+          ⊎ (((source_at run.inputs 0).reads ≡ 0) × Tells run (Tee asked) Memory [])
+      ended vain = elim (or_cases _ _ vain) [
+        | inl one ↦
+            let (n, within, ends_it) = one_at (stands_streams stands) (λ standing. ends_run standing asked.on_broken) one in
+            let broken = broken_slot (λ standing. ends_run standing asked.on_broken) refl (slot_at old (output_slot n)) ends_it in
+            let same = stays run asked so_far says ends n within broken in
+            inl (output_slot n, not_error n, broken_within run.outputs (output_slot n) (rw same broken), rw same ends_it)
+        | inr none ↦ inr (inl (λ (place, differs, within, sound). each_place
+            (λ place. place < length run.outputs → stands_as (slot_at run.outputs place) ≡ Sound → ⊥) (was_sound none) place differs within sound))
+      ]
 ends_with_break run asked few (tee.no_room error says (there, unread, same) slots is) = record {
   before = [];
   last = [];
@@ -749,12 +739,7 @@ ends_with_break run asked few (tee.no_room error says (there, unread, same) slot
 } where
   at : (place : ℕ) → (place ≡ 1 → ⊥) → place < 2
       → HasUpTo run asked.on_broken [] [] (slot_at (streams_with error) place)
-  at zero differs within = record {
-    no_more = begins_itself [];
-    sound = λ is. refl;
-    some = λ ended. begins_itself [];
-    unopened = λ ended is. absurd (cc);
-  }
+  at zero differs within = up_to_all run asked.on_broken refl (λ is. absurd (cc))
   at (suc zero) differs within = absurd (differs refl)
   at (suc (suc place)) differs within = absurd (omega arith)
 
