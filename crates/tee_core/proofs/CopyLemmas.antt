@@ -18,7 +18,7 @@ use Rattle.tee_core.specs.{
   Outputs.{ChangesEach, Gets, gets_all, breaks_off, gets_none, IsFile, IsOutput, IsReady, IsUsable},
   Run.{AreSound, Copied, SaysTo, Step, TeeRun, all_opened, one_more, said_since, standings_of},
   Run.{IsFileOf, IsOutputOf, stands_as, started, tee_called, tells},
-  inner.Steps.{HasStreams, IsTeeOf, output_slot},
+  inner.Steps.{HasStreams, IsTeeOf, output_at, output_slot},
   TeeState.TeeState,
   declared.standing.Standing.{Standing, TheVariants.{Sound, Broken, Gone}},
 }
@@ -202,7 +202,7 @@ output_of names (suc n) within = (λ is. omega (arith, is), omega (arith, within
 pub record Stands (run : TeeRun) (x : List ℕ) (slots : List Slot) : Type 0 where
   pub count : length slots ≡ length run.names + 2
   pub opened : is_open (slot_at slots 1).state ≡ true
-  pub each : (n : ℕ) → n ≤ length run.names → Has run.told x (start_of run n) (slot_at slots (output_slot n))
+  pub each : (n : ℕ) → n ≤ length run.names → Has run.told x (start_of run n) (output_at slots n)
 
 module _ {run : TeeRun} {x : List ℕ} {slots : List Slot} (stands : Stands run x slots) where
   pub stands_streams : HasStreams slots (length run.names)
@@ -233,7 +233,7 @@ opened_first run {mid} changes = record {
   opened = ap (λ slot. is_open slot.state) (changes.others 1 (λ file. omega (arith, file.0)));
   each = by;
 } where
-  by : (n : ℕ) → n ≤ length run.names → Has run.told [] (start_of run n) (slot_at mid (output_slot n))
+  by : (n : ℕ) → n ≤ length run.names → Has run.told [] (start_of run n) (output_at mid n)
   by zero within = rw (changes.others 0 (λ file. omega (arith, file.0))) (has_nothing run.told standard_output)
   by (suc n) within = has_opened run.told (rw (mapped_at (λ name. opened name run.mode) run.names n within) at
       (changes.each (suc (suc n)) (omega arith, omega (arith, within))))

@@ -11,7 +11,7 @@ use Rattle.ports_core.proofs.{
   InputsLemmas.{HasRead, changed_source, came_broken, came_sound, still_readable, read_broken, read_failed},
   InputsLemmas.{read_more, read_none_more, read_to_end, of_content},
 }
-use Rattle.tee_core.{specs.{Run.{AreSound, ClosesAll, ComesIn, Copied, EndsAs, GaveLast, IsAsFound, IsRead, LeavesOf, SaysTo, TeeRun}, Run.{all_copied, any_is, copied, ends_run, forgives, gone_status, is_done, is_same, lost_for, no_room, one_more}, Run.{said_of_input, standings_of, stands_as, started, status_for, tee_called, to_end, IsFileOf}, Outputs.{Closes, is_closed, fails_to_close, was_broken}, declared.standing.Standing.{Standing, TheVariants.{Sound, Broken, Gone}}, inner.Steps.{CopiesRead, HasStreams, output_slot}}, proofs.{ChangeLemmas.{closed_broken, is_between}, CopyLemmas.{Stands, has_sound, joined_more, mapped_at, said_error, said_place, sound_error, sound_old}, CopyLemmas.{sound_said, sound_stand, stands_of, output_of, stands_said, stands_streams, start_of, streams_count}, CopyLemmas.{streams_kept, streams_next}}}
+use Rattle.tee_core.{specs.{Run.{AreSound, ClosesAll, ComesIn, Copied, EndsAs, GaveLast, IsAsFound, IsRead, LeavesOf, SaysTo, TeeRun}, Run.{all_copied, any_is, copied, ends_run, forgives, gone_status, is_done, is_same, lost_for, no_room, one_more}, Run.{said_of_input, standings_of, stands_as, started, status_for, tee_called, to_end, IsFileOf}, Outputs.{Closes, is_closed, fails_to_close, was_broken}, declared.standing.Standing.{Standing, TheVariants.{Sound, Broken, Gone}}, inner.Steps.{CopiesRead, HasStreams, output_at, output_slot}}, proofs.{ChangeLemmas.{closed_broken, is_between}, CopyLemmas.{Stands, has_sound, joined_more, mapped_at, said_error, said_place, sound_error, sound_old}, CopyLemmas.{sound_said, sound_stand, stands_of, output_of, stands_said, stands_streams, start_of, streams_count}, CopyLemmas.{streams_kept, streams_next}}}
 use Rattle.ports_core.specs.declared.reason.Reason.TheVariants as reason
 
 nothing_more : {x : List ℕ} (rest : List ℕ) → x ≡ x ++ rest → rest ≡ []
@@ -305,7 +305,7 @@ module _ {run : TeeRun} {pieces : List (List ℕ)} {messages : List Message} {ol
     abbrev bytes : List ℕ
     bytes = told_of run.told (concat pieces)
 
-    has_copied : (n : ℕ) → n ≤ length run.names → slot_at mid (output_slot n) ≡ adds bytes (start_of run n)
+    has_copied : (n : ℕ) → n ≤ length run.names → output_at mid n ≡ adds bytes (start_of run n)
     has_copied n within = has_sound (stands_mid.each n within) (sound_before (output_slot n) (output_of run.names n within).0)
 
     closed : {before after : Slot} → Closes before after → after.is_broken ≡ false → after ≡ closes before

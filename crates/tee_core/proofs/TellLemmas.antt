@@ -2,7 +2,7 @@
 use Rattle.std.{proofs.lemmas.{Grind.common_steps, Bool.cond_both, List.{append-nil, length-map}}, proofs.Common.{◌≡◌, ℕ, ◌+◌, ◌<◌, zero, suc, List, [], ◌∷◌, ◌++◌, length, take, drop, codes, get_or, set, true}, proofs.Common.{false, refl, sym, ◌∙◌, ap, arith, Option, Some}, proofs.Math.ListN.get_or-map}
 use Rattle.ports_core.specs.{Slot.{Slot, changed_at, no_slot, slot_at, is_open}, Text.{Message, message_of}, Message.SaysOn, declared.{reason.Reason.Reason, fault.Fault.Fault}}
 use Rattle.ports_core.proofs.MessageLemmas.{all_said_state, says_more}
-use Rattle.tee_core.specs.{Run.{SaysTo, TeeRun, output_names, said_of_input, said_since, standings_of, stands_as, tee_called, tells}, inner.Steps.{HasStreams, output_slot}, declared.standing.Standing.{Standing, TheVariants.{Sound}}}
+use Rattle.tee_core.specs.{Run.{SaysTo, TeeRun, output_names, said_of_input, said_since, standings_of, stands_as, tee_called, tells}, inner.Steps.{HasStreams, output_at, output_slot}, declared.standing.Standing.{Standing, TheVariants.{Sound}}}
 
 -- outputs up to a place that were looked at, and after it those that weren't
 abbrev SeenTo : ℕ → List Standing → List Standing → List Standing → Type 0
@@ -55,9 +55,9 @@ says_too message {run} {messages} {why = why} has so_far says =
     }
 
 stands_still : {run : TeeRun} {messages : List Message} {count : ℕ} {old now : List Slot} (n : ℕ) → HasStreams old count
-    → SaysTo run messages old now → stands_as (slot_at now (output_slot n)) ≡ get_or (standings_of old) n Sound
+    → SaysTo run messages old now → stands_as (output_at now n) ≡ get_or (standings_of old) n Sound
 stands_still n has said =
-    ap (λ those. stands_as (slot_at those (output_slot n))) (said.slots ∙ ap (changed_at 1 (λ _. said.error)) has.are)
+    ap (λ those. stands_as (output_at those n)) (said.slots ∙ ap (changed_at 1 (λ _. said.error)) has.are)
     ∙ standing_at has.output said.error has.files n ∙ sym (ap (λ those. get_or (standings_of those) n Sound) has.are)
 
 -- the message for the fault that ended the reading
@@ -94,7 +94,7 @@ module _ {run : TeeRun} {fault : Fault} {before known : List Standing} {n count 
 
   pub tells_next : (other : Standing) {new : List Slot} {name : List ℕ} {standing : Standing}
       → length before ≡ count + 1 → n < length before → name ≡ get_or (output_names run.names) n []
-      → standing ≡ stands_as (slot_at now (output_slot n))
+      → standing ≡ stands_as (output_at now n)
       → (tells run.on_broken (get_or known n other) standing ≡ true
       → (why : Reason) × SaysOn run.told (tee_called run.calling) why (message_of fault name) now new)
       → (tells run.on_broken (get_or known n other) standing ≡ false → new ≡ now)

@@ -105,6 +105,10 @@ said_since run fault was now (suc n) = said_since run fault was now n
     ++ (if tells run.on_broken (get_or was n Sound) (get_or now n Sound)
     then message_of fault (get_or (output_names run.names) n []) ∷ [] else [])
 
+-- the messages for all outputs that broke in a step
+abbrev pub said_in : TeeRun → Fault → (old new : List Slot) → List Message
+said_in run fault old new = said_since run fault (standings_of old) (standings_of new) (length run.names + 1)
+
 -- the message for the fault that ended the reading, if one did
 abbrev pub said_of_input : Option Fault → List Message
 said_of_input None = []
@@ -198,8 +202,7 @@ pub record Step (run : TeeRun) (fault : Fault) (Change : Slot → Slot → Type 
     (old new : List Slot) : Type 0 where
   pub mid : List Slot
   pub changes : ChangesEach Change IsOne old mid
-  pub said : SaysTo run
-      (said_since run fault (standings_of old) (standings_of mid) (length run.names + 1)) mid new
+  pub said : SaysTo run (said_in run fault old mid) mid new
 
 -- Each file was opened, or couldn't be. Messages about outputs don't have the numbers of their slots.
 abbrev pub OpensAll : TeeRun → List Slot → List Slot → Type 0

@@ -343,7 +343,7 @@ tee_or {run} asked {content} only (tee.copied pieces fault old mid came so_far s
 
       loudly : IsLoud asked.on_broken run.outputs
           → Unless run (Tee asked) (AreSound run.outputs × (concat pieces ≡ content.bytes))
-      loudly loud = elim (sound_or told.streams) [
+      loudly loud = elim (sound_or told) [
         | inr (place, differs, broken) ↦
             let (name, called, line) = tee_told told loud place differs broken in
             let which = (slot_at run.outputs place).state in

@@ -1,5 +1,5 @@
 -- Lemmas on what a run of `tee` leaves and reports of its outputs, and on what ended it.
-use Rattle.std.proofs.{Common.{◌≡◌, ◌⊎◌, ℕ, ◌+◌, ◌≤◌, ◌<◌, ◌^◌, get_or, zero, suc, Bool, true, false, List, [], ◌∷◌, ◌++◌, length}, Common.{take, Option, Some, cond, inl, inr, refl, sym, ◌∙◌, ap, arith, append-nil, All, codes, not}, lemmas.{List.{Elements.{All-append, All-nil}, Folds.list_any_at, get_or_past, length-map}, Grind.common_steps, Bool.{cases_Bool, cases_lt, cond_both, false≢true, not-true, or_cases, or_parts}}}
+use Rattle.std.proofs.{Common.{◌≡◌, ◌⊎◌, ℕ, ◌+◌, ◌≤◌, ◌<◌, ◌^◌, get_or, map, zero, suc, Bool, true, false, List, [], ◌∷◌, ◌++◌, length}, Common.{take, Option, Some, cond, inl, inr, refl, sym, ◌∙◌, ap, arith, append-nil, All, codes, not}, lemmas.{List.{Elements.{All-append, All-nil}, Folds.list_any_at, get_or_past, length-map}, Grind.common_steps, Bool.{cases_Bool, cases_lt, cond_both, false≢true, not-true, or_cases, or_parts}}}
 use Rattle.std.specs.List.{concat, list_any}
 use Rattle.ports_core.specs.{declared.{reason.Reason.Reason, fault.Fault.{Fault, TheVariants.{Memory, Open, Write}}, on_broken.OnBroken.OnBroken, slot.{State.{State, TheVariants.Unopened}, Mode.Mode}}, Inputs.largest_piece, Slot.{Slot, closes, is_open, no_slot, opened, slot_at}, Source.{Content, Source, source_at}, Streams.{streams_with, standard_error}, Part.{IsBeginning}, Text.{Message, message_of}, Message.SaysAll}
 use Rattle.ports_core.proofs.{
@@ -11,15 +11,15 @@ use Rattle.tee_core.{
     Outputs.{Closes, Gets, gets_all, breaks_off, gets_none, is_closed, fails_to_close, was_broken},
     Opening.{OpensAs, is_opened, is_unopened},
     Run.{AreSound, ClosesAll, Copied, IsRead, LeavesOf, SaysTo, Step, TeeRun, all_opened, any_is, ends_run, is_done},
-    Run.{is_same, lost_for, output_names, said_of_input, said_since, standings_of, stands_as, tee_called, tells},
+    Run.{is_same, lost_for, output_names, said_of_input, said_in, said_since, standings_of, stands_as, tee_called, tells},
     declared.standing.Standing.{Standing, TheVariants.{Broken, Gone, Sound}},
-    inner.Steps.{HasStreams, output_slot},
+    inner.Steps.{HasStreams, output_at, output_slot},
   },
   proofs.{
     CopyLemmas.{Has, Stands, has_all, has_begun, has_none, has_sound, joined_more, mapped_at, output_of, said_error},
     CopyLemmas.{said_place, stands_of, stands_said, stands_streams, start_of, starts_well, streams_count, streams_kept},
     CopyLemmas.streams_of,
-    EndLemmas.end_streams,
+    EndLemmas.{end_streams, none_broke},
     TellLemmas.{count_standings, standing_at},
   },
 }
@@ -115,15 +115,15 @@ module _ {slots : List Slot} {count : ℕ} (has : HasStreams slots count) where
   number_within zero within = omega arith
   number_within (suc n) within = omega (arith, within, streams_count has)
 
-  broken_number : (n : ℕ) → (slot_at slots (output_slot n)).is_broken ≡ true → n ≤ count
+  broken_number : (n : ℕ) → (output_at slots n).is_broken ≡ true → n ≤ count
   broken_number n broken = number_within n (broken_within slots (output_slot n) broken)
 
-  stands_at : (n : ℕ) → get_or (standings_of slots) n Sound ≡ stands_as (slot_at slots (output_slot n))
+  stands_at : (n : ℕ) → get_or (standings_of slots) n Sound ≡ stands_as (output_at slots n)
   stands_at n = rw has.are (sym (standing_at has.output has.error has.files n))
 
   -- some output passes a test
   one_at : (test : Standing → Bool) → list_any test (standings_of slots) ≡ true
-      → (n : ℕ) × (n ≤ count) × (test (stands_as (slot_at slots (output_slot n))) ≡ true)
+      → (n : ℕ) × (n ≤ count) × (test (stands_as (output_at slots n)) ≡ true)
   one_at test any = let (n, within, is) = one_of (standings_of slots) any in
       (n, omega (arith, within, count_standings has), rw (stands_at n) at is) where
         one_of : (standings : List Standing) → list_any test standings ≡ true
@@ -135,7 +135,7 @@ module _ {slots : List Slot} {count : ℕ} (has : HasStreams slots count) where
         ]
 
   any_at : (test : Standing → Bool) {n : ℕ} → n ≤ count
-      → test (stands_as (slot_at slots (output_slot n))) ≡ true → list_any test (standings_of slots) ≡ true
+      → test (stands_as (output_at slots n)) ≡ true → list_any test (standings_of slots) ≡ true
   any_at test {n} within tested =
       list_any_at test (standings_of slots) n Sound (omega (arith, within, count_standings has)) (rw (stands_at n) tested)
 
@@ -173,18 +173,6 @@ module _ (job : TeeRun) (fault : Fault) (was now : List Standing) where
 abbrev line_at : TeeRun → ℕ → Slot → Message
 line_at job n slot = message_of (fault_of slot.state) (get_or (output_names job.names) n [])
 
--- a line is about an output that is broken
-abbrev IsAbout : TeeRun → List Slot → Message → Type 0
-IsAbout job slots line = (n : ℕ) × (n ≤ length job.names) × ((slot_at slots (output_slot n)).is_broken ≡ true)
-    × (line ≡ line_at job n (slot_at slots (output_slot n)))
-
--- the lines so far: each is about an output that broke, or another line; and each output that is to be reported has one
-record Reports (job : TeeRun) (Other : Message → Type 0) (lines : List Message) (slots : List Slot) : Type 0 where
-  pub said : SaysAll job.told (tee_called job.calling) lines standard_error (slot_at slots 1)
-  pub are : All (λ line. Other line ⊎ IsAbout job slots line) lines
-  pub each : (n : ℕ) → n ≤ length job.names → tee.is_told job.on_broken (stands_as (slot_at slots (output_slot n))) ≡ true
-      → HasLine (line_at job n (slot_at slots (output_slot n))) lines
-
 -- an output in a step: if it was broken it stays as it is, and if it breaks it has the fault of the step
 abbrev Breaks : Fault → Slot → Slot → Type 0
 Breaks fault old new = (old.is_broken ≡ true → new ≡ old)
@@ -208,117 +196,115 @@ gets_breaks usable (gets_all sound) = sound_breaks sound (λ broken. absurd (fal
 gets_breaks {old = old} usable (breaks_off sound n why within) = sound_breaks sound (λ broken. open_writes old.state (usable sound))
 gets_breaks usable (gets_none broken) = same_breaks refl
 
-closes_breaks : {old new : Slot} → Closes old new → Breaks (Write 0) old new
-closes_breaks (is_closed sound) = sound_breaks sound (λ broken. refl)
-closes_breaks (fails_to_close sound why) = sound_breaks sound (λ broken. refl)
-closes_breaks (was_broken broken) = same_breaks refl
+-- an output that is told of is broken
+told_slot : (on_broken : OnBroken) (slot : Slot) → tee.is_told on_broken (stands_as slot) ≡ true → slot.is_broken ≡ true
+told_slot on_broken = broken_slot (tee.is_told on_broken) refl
 
-closed_breaks : {old new : Slot} → (new ≡ old) ⊎ Closes old new → Breaks (Write 0) old new
-closed_breaks (inl same) = same_breaks same
-closed_breaks (inr ends) = closes_breaks ends
+-- The lines of a run, if outputs that broke stand at the end as these, and each line about one of them is such a line.
+module _ (job : TeeRun) (final : List Slot) (Line : Message → Type 0)
+    (tell : (n : ℕ) → n ≤ length job.names → (output_at final n).is_broken ≡ true
+    → Line (line_at job n (output_at final n))) where
+  abbrev Stay : List Slot → Type 0
+  Stay slots = (n : ℕ) → (output_at slots n).is_broken ≡ true → output_at final n ≡ output_at slots n
 
-module _ {job : TeeRun} {Other : Message → Type 0} {lines : List Message} {old new : List Slot}
-    (has : HasStreams old (length job.names)) (so_far : Reports job Other lines old) where
-  -- more lines follow; they speak of no output that was reported before
-  more_lines : {messages : List Message} → SaysAll job.told (tee_called job.calling) messages (slot_at old 1) (slot_at new 1)
-      → ((n : ℕ) → n ≤ length job.names → (slot_at old (output_slot n)).is_broken ≡ true
-      → slot_at new (output_slot n) ≡ slot_at old (output_slot n))
-      → All (λ line. Other line ⊎ IsAbout job new line) messages
-      → ((n : ℕ) → n ≤ length job.names → (slot_at old (output_slot n)).is_broken ≡ false
-      → tee.is_told job.on_broken (stands_as (slot_at new (output_slot n))) ≡ true
-      → HasLine (line_at job n (slot_at new (output_slot n))) messages)
-      → Reports job Other (lines ++ messages) new
-  more_lines {messages} says kept about has_line = record {
-    said = says_after job.told (tee_called job.calling) lines messages standard_error (slot_at old 1) (slot_at new 1) so_far.said says;
-    are = All-append (λ line. Other line ⊎ IsAbout job new line) _ _ (λ k line within. still (so_far.are k line within)) about;
-    each = λ n within told. by n within told (slot_at old (output_slot n)).is_broken refl;
-  } where
-    still : {line : Message} → Other line ⊎ IsAbout job old line → Other line ⊎ IsAbout job new line
-    still (inl other) = inl other
-    still (inr (n, within, broken, line)) = let same = kept n within broken in inr (n, within, rw same broken, line ∙ rw same refl)
+  -- the lines so far: each output that is broken, and is to be reported, has one
+  record Reports (lines : List Message) (slots : List Slot) : Type 0 where
+    pub said : SaysAll job.told (tee_called job.calling) lines standard_error (slot_at slots 1)
+    pub are : All Line lines
+    pub each : (n : ℕ) → n ≤ length job.names → (output_at slots n).is_broken ≡ true
+        → tee.is_told job.on_broken (stands_as (output_at final n)) ≡ true → HasLine (line_at job n (output_at final n)) lines
 
-    by : (n : ℕ) → n ≤ length job.names → tee.is_told job.on_broken (stands_as (slot_at new (output_slot n))) ≡ true
-        → (broken : Bool) → (slot_at old (output_slot n)).is_broken ≡ broken
-        → HasLine (line_at job n (slot_at new (output_slot n))) (lines ++ messages)
-    by n within told true broken = let same = kept n within broken in
-        has_before messages (rw (← same) at (so_far.each n within (rw same at told)))
-    by n within told false sound = has_after lines (has_line n within sound told)
-
-  reports_said : {messages : List Message} → SaysTo job messages old new → All Other messages
-      → Reports job Other (lines ++ messages) new
-  reports_said says others = more_lines (rw (said_error says (omega (arith, streams_count has))) says.said)
-      (λ n within broken. said_place says (output_slot n) (not_error n)) (λ k line within. inl (others k line within))
-      (λ n within sound told. absurd (false≢true (sym sound ∙ ap (λ (slot : Slot). slot.is_broken) (sym (said_place says (output_slot n) (not_error n)))
-      ∙ broken_slot (tee.is_told job.on_broken) refl (slot_at new (output_slot n)) told)))
-
-  reports_next : {fault : Fault} {Change : Slot → Slot → Type 0} {IsOne : ℕ → Type 0} → (IsOne 1 → ⊥)
-      → (step : Step job fault Change IsOne old new)
-      → ((n : ℕ) → n ≤ length job.names
-      → Breaks fault (slot_at old (output_slot n)) (slot_at step.mid (output_slot n)))
-      → Reports job Other
-      (lines ++ said_since job fault (standings_of old) (standings_of step.mid) (length job.names + 1)) new
-  reports_next {fault} apart step breaks = more_lines
-      (rw (said_error step.said (omega (arith, streams_count mid))) (rw (step.changes.others 1 apart) at step.said.said))
-      (λ n within broken. now_at n ∙ (breaks n within).0 broken)
-      (since_are job fault (standings_of old) (standings_of step.mid) (λ line. Other line ⊎ IsAbout job new line) about
-      (length job.names + 1)) has_line where
-        mid : HasStreams step.mid (length job.names)
-        mid = streams_kept has step.changes.count (step.changes.others 1 apart)
-
-        now_at : (n : ℕ) → slot_at new (output_slot n) ≡ slot_at step.mid (output_slot n)
-        now_at n = said_place step.said (output_slot n) (not_error n)
-
-        about : (n : ℕ) → IsDue job fault (standings_of old) (standings_of step.mid) n
-            → Other (line_of job fault (standings_of old) (standings_of step.mid) n)
-            ⊎ IsAbout job new (line_of job fault (standings_of old) (standings_of step.mid) n)
-        about n told =
-            let (was, now) = tells_parts job.on_broken _ _ (rw (stands_at has n, stands_at mid n) at told) in
-            let broken = broken_slot (tee.is_told job.on_broken) refl (slot_at step.mid (output_slot n)) now in
-            let within = broken_number mid n broken in
-            inr (n, within, rw (now_at n) broken, rw (now_at n, (breaks n within).1 (sound_slot (slot_at old (output_slot n)) was) broken) refl)
-
-        has_line : (n : ℕ) → n ≤ length job.names → (slot_at old (output_slot n)).is_broken ≡ false
-            → tee.is_told job.on_broken (stands_as (slot_at new (output_slot n))) ≡ true
-            → HasLine (line_at job n (slot_at new (output_slot n)))
-            (said_since job fault (standings_of old) (standings_of step.mid) (length job.names + 1))
-        has_line n within sound told =
-            let now = rw (now_at n) at told in
-            let broken = broken_slot (tee.is_told job.on_broken) refl (slot_at step.mid (output_slot n)) now in
-            rw (now_at n, (breaks n within).1 sound broken) (since_has job fault (standings_of old) (standings_of step.mid)
-            n (length job.names + 1) (omega (arith, within)) (rw (stands_at has n, stands_at mid n, sound) now))
-
-usable_at : {job : TeeRun} {x : List ℕ} {slots : List Slot} → Stands job x slots → (n : ℕ) → n ≤ length job.names
-    → (slot_at slots (output_slot n)).is_broken ≡ false → is_open (slot_at slots (output_slot n)).state ≡ true
-usable_at {job} stands n within sound = rw (has_sound (stands.each n within) sound) (starts_well job n).1
-
-reports_of : {job : TeeRun} (Other : Message → Type 0) {pieces : List (List ℕ)} {slots : List Slot}
-    → Copied job pieces slots → (lines : List Message) × Reports job Other lines slots
-reports_of {job} Other (tee.started new step) = (_, reports_next first none (λ file. omega (arith, file.0)) step breaks) where
-  first : HasStreams (all_opened job) (length job.names)
-  first = streams_of (omega (arith, length-map job.names (λ name. opened name job.mode))) refl
-
-  start : (n : ℕ) → n ≤ length job.names → (slot_at (all_opened job) (output_slot n)).is_broken ≡ false
-  start zero within = refl
-  start (suc n) within = rw (mapped_at (λ name. opened name job.mode) job.names n within) refl
-
-  none : Reports job Other [] (all_opened job)
-  none = record {
-    said = refl;
-    are = All-nil (λ line. Other line ⊎ IsAbout job (all_opened job) line);
-    each = λ n within told. absurd (false≢true (sym (start n within)
-        ∙ broken_slot (tee.is_told job.on_broken) refl (slot_at (all_opened job) (output_slot n)) told));
+  reports_said : {lines messages : List Message} {old new : List Slot} → HasStreams old (length job.names)
+      → Reports lines old → SaysTo job messages old new → All Line messages → Reports (lines ++ messages) new
+  reports_said {lines} {messages} {old} has so_far says are = record {
+    said = rw (said_error says (omega (arith, streams_count has)))
+        (says_after job.told (tee_called job.calling) lines messages standard_error (slot_at old 1) says.error so_far.said says.said);
+    are = All-append Line lines messages so_far.are are;
+    each = λ n within broken told.
+        has_before messages (so_far.each n within (rw (said_place says (output_slot n) (not_error n)) at broken) told);
   }
 
-  breaks : (n : ℕ) → n ≤ length job.names
-      → Breaks (Open 0) (slot_at (all_opened job) (output_slot n)) (slot_at step.mid (output_slot n))
-  breaks zero within = same_breaks (step.changes.others 0 (λ file. omega (arith, file.0)))
-  breaks (suc n) within = opened_breaks (start (suc n) within) (step.changes.each (suc (suc n)) (omega arith, omega (arith, within)))
-reports_of {job} Other (tee.one_more pieces piece old new so_far goes some few step) =
-    let stands = stands_of so_far in let (lines, reports) = reports_of Other so_far in (
-      _,
-      reports_next (stands_streams stands) reports (λ is. is.0 refl) step
-          (λ n within. gets_breaks (usable_at stands n within) (step.changes.each (output_slot n) (output_of job.names n within))),
-    )
+  module _ {fault : Fault} {Change : Slot → Slot → Type 0} {IsOne : ℕ → Type 0} {old new : List Slot}
+      (has : HasStreams old (length job.names)) (step : Step job fault Change IsOne old new)
+      (breaks : (n : ℕ) → n ≤ length job.names → Breaks fault (output_at old n) (output_at step.mid n))
+      (stay : Stay new) where
+    now_at : (n : ℕ) → output_at new n ≡ output_at step.mid n
+    now_at n = said_place step.said (output_slot n) (not_error n)
+
+    stay_before : Stay old
+    stay_before n broken = let same = now_at n ∙ (breaks n (broken_number has n broken)).0 broken in stay n (rw same broken) ∙ same
+
+    reports_next : {lines : List Message} → (IsOne 1 → ⊥) → Reports lines old
+        → Reports (lines ++ said_in job fault old step.mid) new
+    reports_next {lines} apart so_far = record {
+      said = rw (said_error step.said (omega (arith, streams_count mid)))
+          (says_after job.told (tee_called job.calling) lines _ standard_error (slot_at old 1) step.said.error so_far.said
+          (rw (step.changes.others 1 apart) at step.said.said));
+      are = All-append Line lines _ so_far.are (since_are job fault (standings_of old) (standings_of step.mid) Line about (length job.names + 1));
+      each = λ n within broken told. by n within broken told (output_at old n).is_broken refl;
+    } where
+      mid : HasStreams step.mid (length job.names)
+      mid = streams_kept has step.changes.count (step.changes.others 1 apart)
+
+      -- the line about an output that broke in the step
+      line : (n : ℕ) → n ≤ length job.names → (output_at old n).is_broken ≡ false → (output_at step.mid n).is_broken ≡ true
+          → line_of job fault (standings_of old) (standings_of step.mid) n ≡ line_at job n (output_at final n)
+      line n within sound broken =
+          rw (stay n (rw (now_at n) broken), now_at n, (breaks n within).1 sound broken) refl
+
+      about : (n : ℕ) → IsDue job fault (standings_of old) (standings_of step.mid) n
+          → Line (line_of job fault (standings_of old) (standings_of step.mid) n)
+      about n told =
+          let (was, now) = tells_parts job.on_broken _ _ (rw (stands_at has n, stands_at mid n) at told) in
+          let broken = told_slot job.on_broken (output_at step.mid n) now in
+          let within = broken_number mid n broken in
+          rw (line n within (sound_slot (output_at old n) was) broken)
+          (tell n within (rw (stay n (rw (now_at n) broken), now_at n) broken))
+
+      by : (n : ℕ) → n ≤ length job.names → (output_at new n).is_broken ≡ true
+          → tee.is_told job.on_broken (stands_as (output_at final n)) ≡ true → (broken : Bool)
+          → (output_at old n).is_broken ≡ broken
+          → HasLine (line_at job n (output_at final n)) (lines ++ said_in job fault old step.mid)
+      by n within broken told true was = has_before _ (so_far.each n within was told)
+      by n within broken told false sound =
+          let now = rw (stay n broken, now_at n) at told in
+          has_after lines (rw (← (line n within sound (rw (now_at n) at broken)))
+          (since_has job fault (standings_of old) (standings_of step.mid) n (length job.names + 1) (omega (arith, within))
+          (rw (stands_at has n, stands_at mid n, sound) now)))
+
+  reports_of : {pieces : List (List ℕ)} {slots : List Slot} → Copied job pieces slots → Stay slots
+      → (lines : List Message) × Reports lines slots
+  reports_of (tee.started new step) stay = (_, reports_next first step breaks stay (λ file. omega (arith, file.0)) none) where
+    first : HasStreams (all_opened job) (length job.names)
+    first = streams_of (omega (arith, length-map job.names (λ name. opened name job.mode))) refl
+
+    start : (n : ℕ) → (output_at (all_opened job) n).is_broken ≡ false
+    start zero = refl
+    start (suc n) = by job.names n where
+      by : (names : List (List ℕ)) (n : ℕ) → (slot_at (map (λ name. opened name job.mode) names) n).is_broken ≡ false
+      by [] n = refl
+      by (name ∷ names) zero = refl
+      by (name ∷ names) (suc n) = by names n
+
+    none : Reports [] (all_opened job)
+    none = record {
+      said = refl;
+      are = All-nil Line;
+      each = λ n within broken told. absurd (false≢true (sym (start n) ∙ broken));
+    }
+
+    breaks : (n : ℕ) → n ≤ length job.names → Breaks (Open 0) (output_at (all_opened job) n) (output_at step.mid n)
+    breaks zero within = same_breaks (step.changes.others 0 (λ file. omega (arith, file.0)))
+    breaks (suc n) within = opened_breaks (start (suc n)) (step.changes.each (suc (suc n)) (omega arith, omega (arith, within)))
+  reports_of (tee.one_more pieces piece old new so_far goes some few step) stay =
+      let (lines, reports) = reports_of so_far (stay_before (stands_streams stands) step breaks stay) in
+      (_, reports_next (stands_streams stands) step breaks stay (λ is. is.0 refl) reports) where
+        stands : Stands job (concat pieces) old
+        stands = stands_of so_far
+
+        breaks : (n : ℕ) → n ≤ length job.names → Breaks (Write 0) (output_at old n) (output_at step.mid n)
+        breaks n within = gets_breaks (λ sound. rw (has_sound (stands.each n within) sound) (starts_well job n).1)
+            (step.changes.each (output_slot n) (output_of job.names n within))
 
 -- All pieces but the last, and the last.
 
@@ -328,9 +314,9 @@ record Last (job : TeeRun) (pieces : List (List ℕ)) (slots : List Slot) : Type
   pub all : concat pieces ≡ before ++ last
   pub small : length last ≤ largest_piece
   -- an output that ends the run didn't end it before the last piece
-  pub some : (n : ℕ) → n ≤ length job.names → ends_run (stands_as (slot_at slots (output_slot n))) job.on_broken ≡ true
-      → IsBeginning before (slot_at slots (output_slot n)).written
-      × ((slot_at slots (output_slot n)).state ≡ Unopened → pieces ≡ [])
+  pub some : (n : ℕ) → n ≤ length job.names → ends_run (stands_as (output_at slots n)) job.on_broken ≡ true
+      → IsBeginning before (output_at slots n).written
+      × ((output_at slots n).state ≡ Unopened → pieces ≡ [])
 
 -- an output that ends the run once a piece was written to the outputs
 gets_last : (on_broken : OnBroken) {x piece : List ℕ} {start old new : Slot} → start.written ≡ []
@@ -362,9 +348,9 @@ last_of {job} told (tee.one_more pieces piece old new so_far goes more few step)
   stands : Stands job (concat pieces) old
   stands = stands_of so_far
 
-  at : (n : ℕ) → n ≤ length job.names → ends_run (stands_as (slot_at new (output_slot n))) job.on_broken ≡ true
-      → IsBeginning (concat pieces) (slot_at new (output_slot n)).written
-      × ((slot_at new (output_slot n)).state ≡ Unopened → ⊥)
+  at : (n : ℕ) → n ≤ length job.names → ends_run (stands_as (output_at new n)) job.on_broken ≡ true
+      → IsBeginning (concat pieces) (output_at new n).written
+      × ((output_at new n).state ≡ Unopened → ⊥)
   at n within ends =
       let same = said_place step.said (output_slot n) (not_error n) in
       let start = starts_well job n in
@@ -373,28 +359,36 @@ last_of {job} told (tee.one_more pieces piece old new so_far goes more few step)
       ∙ any_at (stands_streams stands) (λ standing. ends_run standing job.on_broken) within ended))
       (rw told at (step.changes.each (output_slot n) (output_of job.names n within))) (rw same at ends))
 
--- an output at the end, by how it began, or as that was closed
-pub record Ended (x : List ℕ) (start output : Slot) : Type 0 where
-  pub from : Slot
-  pub name : from.name ≡ start.name
-  pub empty : from.written ≡ []
-  pub has : Has true x from output
+-- an output at the end: as it was once all was copied; or it was sound then, has all, and was closed
+pub data Final (x name : List ℕ) (old : Slot) : Slot → Type 0 where
+  as_before : Final x name old old
+  is_whole : (new : Slot) → old.is_broken ≡ false → new.written ≡ x → new.name ≡ name → new.state ≡ state.Closed
+      → Final x name old new
 
-closed_ended : {x : List ℕ} {start old new : Slot} → start.written ≡ [] → Has true x start old → Closes old new
-    → Ended x start new
-closed_ended {start = start} empty has (is_closed sound) = rw (has_sound has sound) (record
-    { from = closes start; name = refl; empty = empty; has = has_all })
-closed_ended {x} {start} empty has (fails_to_close sound why) = rw (has_sound has sound) (record
-    { from = closes start; name = refl; empty = empty; has = has_begun x why (begins_itself x) })
-closed_ended {start = start} empty has (was_broken broken) = record { from = start; name = refl; empty = empty; has = has }
+closed_final : {x : List ℕ} {start old new : Slot} → start.written ≡ [] → Has true x start old → Closes old new
+    → Final x start.name old new
+closed_final empty has (is_closed sound) = let all = has_sound has sound in
+    is_whole _ sound (rw (all, empty) refl) (rw all refl) refl
+closed_final empty has (fails_to_close sound why) = let all = has_sound has sound in
+    is_whole _ sound (rw (all, empty) refl) (rw all refl) refl
+closed_final empty has (was_broken broken) = as_before
+
+final_breaks : {x name : List ℕ} {old new : Slot} → Final x name old new → Breaks (Write 0) old new
+final_breaks as_before = same_breaks refl
+final_breaks (is_whole new sound all named closed) = sound_breaks sound (λ broken. rw closed refl)
 
 -- its name, and what it has
-has_named : {x name : List ℕ} {from output : Slot} → from.name ≡ name → from.written ≡ [] → Has true x from output
-    → IsCalled output name × ((output.name ≡ name) ⊎ (output.written ≡ [])) × IsBeginning output.written x
-has_named {x} same empty has_all = (inl same, inl same, rw empty (begins_itself x))
-has_named {x} same empty (has_none kept why (inl named)) = (inl (named ∙ same), inr refl, nothing_begins x)
-has_named {x} same empty (has_none kept why (inr none)) = (inr (none, refl), inr refl, nothing_begins x)
-has_named same empty (has_begun y why begins) = (inl same, inl same, rw empty begins)
+has_named : {x : List ℕ} {start output : Slot} → start.written ≡ [] → Has true x start output
+    → IsCalled output start.name × ((output.name ≡ start.name) ⊎ (output.written ≡ [])) × IsBeginning output.written x
+has_named {x} empty has_all = (inl refl, inl refl, rw empty (begins_itself x))
+has_named {x} empty (has_none kept why (inl named)) = (inl named, inr refl, nothing_begins x)
+has_named {x} empty (has_none kept why (inr none)) = (inr (none, refl), inr refl, nothing_begins x)
+has_named empty (has_begun y why begins) = (inl refl, inl refl, rw empty begins)
+
+final_named : {x : List ℕ} {start old new : Slot} → start.written ≡ [] → Has true x start old → Final x start.name old new
+    → IsCalled new start.name × ((new.name ≡ start.name) ⊎ (new.written ≡ [])) × IsBeginning new.written x
+final_named empty has as_before = has_named empty has
+final_named {x} empty has (is_whole new sound all named closed) = (inl named, inl named, rw all (begins_itself x))
 
 pub failing_stops : (run : Run) (asked : Settings) {name : List ℕ} {place : ℕ} (which : State)
     → BrokeAt run place name (failing place which) → StopsRun run asked name (failing place which)
@@ -414,40 +408,32 @@ pub record TellsAll (run : Run) (asked : TeeAsked) (fault : Option Fault) : Type
   pub says : SaysLines run (Tee asked) lines
   pub input : (met : Fault) → fault ≡ Some met → HasLine (message_of met (codes "standard input")) lines
   pub each : (n : ℕ) → n ≤ length asked.names
-      → tee.is_told asked.on_broken (stands_as (slot_at run.outputs (output_slot n))) ≡ true
+      → tee.is_told asked.on_broken (stands_as (output_at run.outputs n)) ≡ true
       → IsToldAt run asked (output_slot n)
+
+abbrev job_of : Run → TeeAsked → TeeRun
+job_of run asked = tee_run run.calling true asked
 
 -- a run whose outputs were left in this way
 module _ (run : Run) (asked : TeeAsked) {pieces : List (List ℕ)} {messages : List Message} {old mid : List Slot}
-    (so_far : Copied (tee_run run.calling true asked) pieces old)
-    (says : SaysTo (tee_run run.calling true asked) messages old mid)
-    (ends : ClosesAll (tee_run run.calling true asked) mid run.outputs) where
-  stands_mid : Stands (tee_run run.calling true asked) (concat pieces) mid
-  stands_mid = stands_said (stands_of so_far) says
-
+    (so_far : Copied (job_of run asked) pieces old) (says : SaysTo (job_of run asked) messages old mid)
+    (ends : ClosesAll (job_of run asked) mid run.outputs) where
   pub has : HasStreams run.outputs (length asked.names)
   has = end_streams so_far says ends
 
-  pub closed_at : (n : ℕ) → n ≤ length asked.names
-      → (slot_at run.outputs (output_slot n) ≡ slot_at mid (output_slot n))
-      ⊎ Closes (slot_at mid (output_slot n)) (slot_at run.outputs (output_slot n))
-  closed_at n within = rw (said_place ends.said (output_slot n) (not_error n)) (by n within) where
-    by : (n : ℕ) → n ≤ length asked.names → (slot_at ends.mid (output_slot n) ≡ slot_at mid (output_slot n))
-        ⊎ Closes (slot_at mid (output_slot n)) (slot_at ends.mid (output_slot n))
-    by zero within = inl (ends.changes.others 0 (λ file. omega (arith, file.0)))
-    by (suc n) within = inr (ends.changes.each (suc (suc n)) (omega arith, omega (arith, within)))
-
-  pub ended_at : (n : ℕ) → n ≤ length asked.names → Ended (concat pieces) (start_of (tee_run run.calling true asked) n) (slot_at run.outputs (output_slot n))
-  ended_at n within = elim (closed_at n within) [
-    | inl same ↦ rw same (record { from = start_of (tee_run run.calling true asked) n; name = refl; empty = (starts_well (tee_run run.calling true asked) n).2; has = stands_mid.each n within })
-    | inr closes ↦ closed_ended (starts_well (tee_run run.calling true asked) n).2 (stands_mid.each n within) closes
-  ]
+  pub final_at : (n : ℕ) → n ≤ length asked.names
+      → Final (concat pieces) (start_of (job_of run asked) n).name (output_at old n) (output_at run.outputs n)
+  final_at n within = rw (said_place ends.said (output_slot n) (not_error n), ← (said_place says (output_slot n) (not_error n)))
+      (by n within) where
+        by : (n : ℕ) → n ≤ length asked.names
+            → Final (concat pieces) (start_of (job_of run asked) n).name (output_at mid n) (output_at ends.mid n)
+        by zero within = rw (ends.changes.others 0 (λ file. omega (arith, file.0))) as_before
+        by (suc n) within = closed_final refl ((stands_said (stands_of so_far) says).each (suc n) within)
+            (ends.changes.each (suc (suc n)) (omega arith, omega (arith, within)))
 
   -- an output that was broken once all was copied stays so
-  pub stays : (n : ℕ) → n ≤ length asked.names → (slot_at old (output_slot n)).is_broken ≡ true
-      → slot_at run.outputs (output_slot n) ≡ slot_at old (output_slot n)
-  stays n within broken =
-      let same = said_place says (output_slot n) (not_error n) in (closed_breaks (closed_at n within)).0 (rw same broken) ∙ same
+  pub stays : (n : ℕ) → (output_at old n).is_broken ≡ true → output_at run.outputs n ≡ output_at old n
+  stays n broken = (final_breaks (final_at n (broken_number (stands_streams (stands_of so_far)) n broken))).0 broken
 
   -- what was reported, if the line about the input tells what was met
   pub told_all : {fault : Option Fault} → messages ≡ said_of_input fault → All (TellsMet run (Tee asked)) messages
@@ -455,44 +441,36 @@ module _ (run : Run) (asked : TeeAsked) {pieces : List (List ℕ)} {messages : L
   told_all for of_input = record {
     streams = has;
     lines = lines;
-    says = says_lines;
-    input = λ met is. has_before _ (has_after said_before.0 (rw (for, is) ([], [], refl)));
+    says = record { are = reports.are; said = reports.said };
+    input = λ met is. has_before _ (has_after before.0 (rw (for, is) ([], [], refl)));
     each = λ n within told.
-        let which = (slot_at run.outputs (output_slot n)).state in
-        (_, called n within, says_line (rw (failing_message run (output_slot n) which _) at (reports.each n within told)) says_lines);
+        (_, called n within, says_line (rw (failing_message run (output_slot n) (output_at run.outputs n).state _) at
+        (reports.each n within (told_slot asked.on_broken (output_at run.outputs n) told) told)) (record { are = reports.are; said = reports.said }));
   } where
-    Line : Message → Type 0
-    Line = TellsMet run (Tee asked)
+    called : (n : ℕ) → n ≤ length asked.names
+        → IsCalled (output_at run.outputs n) (get_or (output_names asked.names) n [])
+    called zero within = (final_named refl ((stands_of so_far).each 0 within) (final_at 0 within)).0
+    called (suc n) within = (final_named refl ((stands_of so_far).each (suc n) within) (final_at (suc n) within)).0
 
-    said_before : (lines : List Message) × Reports (tee_run run.calling true asked) Line lines old
-    said_before = reports_of Line so_far
+    tell : (n : ℕ) → n ≤ length asked.names → (output_at run.outputs n).is_broken ≡ true
+        → TellsMet run (Tee asked) (line_at (job_of run asked) n (output_at run.outputs n))
+    tell n within broken =
+        let which = (output_at run.outputs n).state in
+        (failing (output_slot n) which, _, inl (failing_stops run (Tee asked) which (not_error n, called n within, broken, refl)),
+        failing_message run (output_slot n) which _)
+
+    before : (lines : List Message) × Reports (job_of run asked) run.outputs (TellsMet run (Tee asked)) tell lines old
+    before = reports_of (job_of run asked) run.outputs (TellsMet run (Tee asked)) tell so_far stays
 
     lines : List Message
-    lines = (said_before.0 ++ messages)
-        ++ said_since (tee_run run.calling true asked) (Write 0) (standings_of mid) (standings_of ends.mid) (length asked.names + 1)
+    lines = (before.0 ++ messages) ++ said_in (job_of run asked) (Write 0) mid ends.mid
 
-    reports : Reports (tee_run run.calling true asked) Line lines run.outputs
-    reports = reports_next (stands_streams stands_mid) (reports_said (stands_streams (stands_of so_far)) said_before.1 says of_input)
-        (λ file. omega (arith, file.0)) ends
-        (λ n within. rw (said_place ends.said (output_slot n) (not_error n)) at (closed_breaks (closed_at n within)))
-
-    called : (n : ℕ) → n ≤ length asked.names
-        → IsCalled (slot_at run.outputs (output_slot n)) (get_or (output_names asked.names) n [])
-    called zero within = let ended = ended_at 0 within in (has_named ended.name ended.empty ended.has).0
-    called (suc n) within = let ended = ended_at (suc n) within in (has_named ended.name ended.empty ended.has).0
-
-    tells_met : {line : Message} → Line line ⊎ IsAbout (tee_run run.calling true asked) run.outputs line → Line line
-    tells_met (inl met) = met
-    tells_met (inr (n, within, broken, line)) =
-        let which = (slot_at run.outputs (output_slot n)).state in (
-          failing (output_slot n) which,
-          _,
-          inl (failing_stops run (Tee asked) which (not_error n, called n within, broken, refl)),
-          line ∙ failing_message run (output_slot n) which _,
-        )
-
-    says_lines : SaysLines run (Tee asked) lines
-    says_lines = record { are = λ k line within. tells_met (reports.are k line within); said = reports.said }
+    reports : Reports (job_of run asked) run.outputs (TellsMet run (Tee asked)) tell lines run.outputs
+    reports = reports_next (job_of run asked) run.outputs (TellsMet run (Tee asked)) tell
+        (stands_streams (stands_said (stands_of so_far) says)) ends
+        (λ n within. rw (said_place ends.said (output_slot n) (not_error n), ← (said_place says (output_slot n) (not_error n))) at
+        (final_breaks (final_at n within))) (λ n broken. refl) (λ file. omega (arith, file.0))
+        (reports_said (job_of run asked) run.outputs (TellsMet run (Tee asked)) tell (stands_streams (stands_of so_far)) before.1 says of_input)
 
 -- nothing is kept back: the mode doesn't allow it, or no reader is gone
 abbrev pub IsLoud : OnBroken → List Slot → Type 0
@@ -503,7 +481,7 @@ module _ {run : Run} {asked : TeeAsked} {fault : Option Fault} (told : TellsAll 
   told_at : (place : ℕ) → (place ≡ 1 → ⊥) → (slot_at run.outputs place).is_broken ≡ true
       → tee.is_told asked.on_broken (lost_for (slot_at run.outputs place).reason) ≡ true → IsToldAt run asked place
   told_at = each_place _ (λ n broken is. told.each n (broken_number told.streams n broken)
-      (rw (stands_lost (slot_at run.outputs (output_slot n)) broken) is))
+      (rw (stands_lost (output_at run.outputs n) broken) is))
 
   -- an output that is broken lost its reader, or was reported
   pub tee_broke : (place : ℕ) → (place ≡ 1 → ⊥) → (slot_at run.outputs place).is_broken ≡ true
@@ -521,66 +499,43 @@ module _ {run : Run} {asked : TeeAsked} {fault : Option Fault} (told : TellsAll 
   tee_told (inr none) place differs broken = told_at place differs broken (told_loud asked.on_broken _ (inr (not_gone place differs broken))) where
     not_gone : (place : ℕ) → (place ≡ 1 → ⊥) → (slot_at run.outputs place).is_broken ≡ true
         → is_same (lost_for (slot_at run.outputs place).reason) Gone ≡ false
-    not_gone = each_place _ (λ n broken. elim (cases_Bool (is_same (lost_for (slot_at run.outputs (output_slot n)).reason) Gone)) [
+    not_gone = each_place _ (λ n broken. elim (cases_Bool (is_same (lost_for (output_at run.outputs n).reason) Gone)) [
       | inl gone ↦ absurd (false≢true (sym none ∙ any_tests Gone (standings_of run.outputs)
           ∙ any_at told.streams (λ standing. is_same standing Gone) (broken_number told.streams n broken)
-          (rw (stands_lost (slot_at run.outputs (output_slot n)) broken) gone)))
+          (rw (stands_lost (output_at run.outputs n) broken) gone)))
       | inr other ↦ other
     ])
 
   -- some output stands so
   one_is : (one : Standing) → any_is one (standings_of run.outputs) ≡ true → is_same Sound one ≡ false
-      → (n : ℕ) × (n ≤ length asked.names) × ((slot_at run.outputs (output_slot n)).is_broken ≡ true)
-      × (is_same (stands_as (slot_at run.outputs (output_slot n))) one ≡ true)
+      → (n : ℕ) × (n ≤ length asked.names) × ((output_at run.outputs n).is_broken ≡ true)
+      × (is_same (stands_as (output_at run.outputs n)) one ≡ true)
   one_is one any lost =
       let (n, within, same) = one_at told.streams (λ standing. is_same standing one) (sym (any_tests one (standings_of run.outputs)) ∙ any) in
-      (n, within, broken_slot (λ standing. is_same standing one) lost (slot_at run.outputs (output_slot n)) same, same)
+      (n, within, broken_slot (λ standing. is_same standing one) lost (output_at run.outputs n) same, same)
 
   pub any_gone : any_is Gone (standings_of run.outputs) ≡ true → HasGone run
   any_gone any =
       let (n, within, broken, gone) = one_is Gone any refl in
-      (output_slot n, not_error n, broken, gone_why _ (rw (stands_lost (slot_at run.outputs (output_slot n)) broken) at gone))
+      (output_slot n, not_error n, broken, gone_why _ (rw (stands_lost (output_at run.outputs n) broken) at gone))
 
   -- an output that broke although it still has a reader was reported in any mode
   pub broken_why : any_is Broken (standings_of run.outputs) ≡ true → SaysWhy run (Tee asked)
   broken_why any =
       let (n, within, broken, is) = one_is Broken any refl in
-      let which = (slot_at run.outputs (output_slot n)).state in
+      let which = (output_at run.outputs n).state in
       let (name, called, line) = told.each n within (told_broken asked.on_broken _ is) in
       (failing (output_slot n) which, name, inl (failing_stops run (Tee asked) which (not_error n, called, broken, refl)), line)
 
--- no output broke, or one did
-pub sound_or : {slots : List Slot} {count : ℕ} → HasStreams slots count
-    → AreSound slots ⊎ ((place : ℕ) × (place ≡ 1 → ⊥) × ((slot_at slots place).is_broken ≡ true))
-sound_or {slots} has = elim (find (has.output ∷ has.files)) [
-  | inl sound ↦ inl (rw has.are (all_sound sound))
-  | inr (n, broken) ↦ inr (output_slot n, not_error n, rw has.are (there n broken))
-] where
-  find : (files : List Slot) → ((n : ℕ) → (slot_at files n).is_broken ≡ false)
-      ⊎ ((n : ℕ) × ((slot_at files n).is_broken ≡ true))
-  find [] = inl (λ n. refl)
-  find (file ∷ files) = elim (cases_Bool file.is_broken) [
-    | inl broken ↦ inr (0, broken)
-    | inr here ↦ elim (find files) [
-      | inl sound ↦ inl (both here sound)
-      | inr (n, broken) ↦ inr (suc n, broken)
+  -- no output broke, or one did
+  pub sound_or : AreSound run.outputs ⊎ ((place : ℕ) × (place ≡ 1 → ⊥) × ((slot_at run.outputs place).is_broken ≡ true))
+  sound_or = elim (cases_Bool (any_is Broken (standings_of run.outputs))) [
+    | inl any ↦ let (n, within, broken, is) = one_is Broken any refl in inr (output_slot n, not_error n, broken)
+    | inr whole ↦ elim (cases_Bool (any_is Gone (standings_of run.outputs))) [
+      | inl any ↦ let (n, within, broken, is) = one_is Gone any refl in inr (output_slot n, not_error n, broken)
+      | inr left ↦ inl (none_broke told.streams whole left)
     ]
-  ] where
-    both : file.is_broken ≡ false → ((n : ℕ) → (slot_at files n).is_broken ≡ false)
-        → (n : ℕ) → (slot_at (file ∷ files) n).is_broken ≡ false
-    both here sound zero = here
-    both here sound (suc n) = sound n
-
-  all_sound : ((n : ℕ) → (slot_at (has.output ∷ has.files) n).is_broken ≡ false)
-      → AreSound (has.output ∷ has.error ∷ has.files)
-  all_sound sound zero differs = sound 0
-  all_sound sound (suc zero) differs = absurd (differs refl)
-  all_sound sound (suc (suc n)) differs = sound (suc n)
-
-  there : (n : ℕ) → (slot_at (has.output ∷ has.files) n).is_broken ≡ true
-      → (slot_at (has.output ∷ has.error ∷ has.files) (output_slot n)).is_broken ≡ true
-  there zero broken = broken
-  there (suc n) broken = broken
+  ]
 
 -- Each output has a beginning of the input.
 
@@ -593,23 +548,23 @@ read_begins Leaves (tee.to_limit x piece rest is long short leaves) = grind (ari
 read_begins Leaves (tee.to_broken_output x rest is leaves) = (rest, is)
 
 pub tee_begins : (run : Run) {asked : TeeAsked} {content : Content} {source : Source} {status : ℕ} (place : ℕ)
-    → (place ≡ 1 → ⊥) → tee.EndsAs (tee_run run.calling true asked) true content source run.outputs status
+    → (place ≡ 1 → ⊥) → tee.EndsAs (job_of run asked) true content source run.outputs status
     → BeginsAs (slot_at run.outputs place) (slot_at (slots_of (tee_made asked content).part) place)
 tee_begins run place differs (tee.no_room error says unread slots failed) = rw slots (bare_begins error place differs)
 tee_begins run {asked} {content} place differs (tee.copied pieces fault old mid comes so_far says ends is) =
     each_place (λ place. BeginsAs (slot_at run.outputs place) (slot_at (slots_of (tee_made asked content).part) place)) by
     place differs where
       begins : (n : ℕ) → n ≤ length asked.names → {other : Slot} → other.written ≡ content.bytes
-          → other.name ≡ (start_of (tee_run run.calling true asked) n).name
-          → BeginsAs (slot_at run.outputs (output_slot n)) other
+          → other.name ≡ (start_of (job_of run asked) n).name
+          → BeginsAs (output_at run.outputs n) other
       begins n within bytes name =
-          let ended = ended_at run asked so_far says ends n within in
-          let (called, named, part) = has_named ended.name ended.empty ended.has in record {
+          let (called, named, part) = final_named (starts_well (job_of run asked) n).2 ((stands_of so_far).each n within)
+          (final_at run asked so_far says ends n within) in record {
             bytes = rw bytes (begins_trans _ (concat pieces) _ part (read_begins _ comes.read));
             named = rw name named;
           }
 
-      by : (n : ℕ) → BeginsAs (slot_at run.outputs (output_slot n)) (slot_at (slots_of (tee_made asked content).part) (output_slot n))
+      by : (n : ℕ) → BeginsAs (output_at run.outputs n) (slot_at (slots_of (tee_made asked content).part) (output_slot n))
       by zero = begins 0 (omega arith) refl refl
       by (suc n) = elim (cases_lt n (length asked.names)) [
         | inl within ↦
@@ -629,7 +584,7 @@ read_up_to source few (tee.to_break x is breaks leaves) = ([], is ∙ sym (appen
 read_up_to source few (tee.to_limit x piece rest is many within leaves) = grind (arith, common_steps)
 read_up_to source few (tee.to_broken_output x rest is leaves) = (rest, is, leaves refl, inr refl)
 
--- an output that has all, and one that is as it was before the files were closed
+-- an output that has all, and one as it was once all was copied
 
 up_to_all : (run : Run) (on_broken : OnBroken) {before last : List ℕ} {output : Slot} → output.written ≡ before ++ last
     → (output.state ≡ Unopened → ⊥) → HasUpTo run on_broken before last output
@@ -640,32 +595,22 @@ up_to_all run on_broken {before} {last} all opens = record {
   unopened = λ ends unopened. absurd (opens unopened);
 }
 
-up_to_part : (run : Run) (on_broken : OnBroken) {before last x : List ℕ} {start output : Slot} → start.written ≡ []
-    → x ≡ before ++ last → Has true x start output
-    → (ends_run (stands_as output) on_broken ≡ true → IsBeginning before output.written
-    × (output.state ≡ Unopened → (source_at run.inputs 0).reads ≡ 0))
-    → HasUpTo run on_broken before last output
-up_to_part run on_broken {output = output} empty all part some = record {
-  no_more = rw all at (has_named refl empty part).2;
-  sound = λ sound. ap (λ (slot : Slot). slot.written) (has_sound part (sound_slot output sound)) ∙ rw empty all;
+up_to : (run : Run) (on_broken : OnBroken) {before last x : List ℕ} {start old new : Slot} → start.written ≡ []
+    → x ≡ before ++ last → Has true x start old
+    → (ends_run (stands_as old) on_broken ≡ true → IsBeginning before old.written
+    × (old.state ≡ Unopened → (source_at run.inputs 0).reads ≡ 0))
+    → Final x start.name old new → HasUpTo run on_broken before last new
+up_to run on_broken {old = old} empty all part some as_before = record {
+  no_more = rw all at (has_named empty part).2;
+  sound = λ sound. ap (λ (slot : Slot). slot.written) (has_sound part (sound_slot old sound)) ∙ rw empty all;
   some = λ ends. (some ends).0;
   unopened = λ ends. (some ends).1;
 }
-
-up_to : (run : Run) (on_broken : OnBroken) {before last x : List ℕ} {start old new : Slot} → start.written ≡ []
-    → x ≡ before ++ last → Has true x start old → (new ≡ old) ⊎ Closes old new
-    → (ends_run (stands_as old) on_broken ≡ true → IsBeginning before old.written
-    × (old.state ≡ Unopened → (source_at run.inputs 0).reads ≡ 0))
-    → HasUpTo run on_broken before last new
-up_to run on_broken empty all part (inl same) some = rw same (up_to_part run on_broken empty all part some)
-up_to run on_broken empty all part (inr (was_broken broken)) some = up_to_part run on_broken empty all part some
-up_to run on_broken empty all part (inr (is_closed sound)) some =
-    up_to_all run on_broken (ap (λ (slot : Slot). slot.written) (has_sound part sound) ∙ rw empty all) (λ is. absurd (cc))
-up_to run on_broken empty all part (inr (fails_to_close sound why)) some =
-    up_to_all run on_broken (ap (λ (slot : Slot). slot.written) (has_sound part sound) ∙ rw empty all) (λ is. absurd (cc))
+up_to run on_broken empty all part some (is_whole new sound has_it named closed) =
+    up_to_all run on_broken (has_it ∙ all) (λ is. absurd (cc (closed, is)))
 
 ends_with_break : (run : Run) (asked : TeeAsked) → length run.world.standard.bytes < 2 ^ 63
-    → tee.EndsAs (tee_run run.calling true asked) true run.world.standard (source_at run.inputs 0) run.outputs run.status
+    → tee.EndsAs (job_of run asked) true run.world.standard (source_at run.inputs 0) run.outputs run.status
     → EndsWithBreak run asked
 ends_with_break run asked few (tee.copied pieces fault old mid comes so_far says ends is) =
     let (more, bytes, unread, over) = read_up_to (source_at run.inputs 0) few comes.read in record {
@@ -681,38 +626,35 @@ ends_with_break run asked few (tee.copied pieces fault old mid comes so_far says
         | inr vain ↦ inr (ended vain)
       ];
     } where
-      last : Last (tee_run run.calling true asked) pieces old
+      last : Last (job_of run asked) pieces old
       last = last_of refl so_far
 
-      stands : Stands (tee_run run.calling true asked) (concat pieces) old
+      stands : Stands (job_of run asked) (concat pieces) old
       stands = stands_of so_far
 
       streams : HasStreams run.outputs (length asked.names)
       streams = has run asked so_far says ends
 
       outputs : (n : ℕ) → output_slot n < length run.outputs
-          → HasUpTo run asked.on_broken last.before last.last (slot_at run.outputs (output_slot n))
+          → HasUpTo run asked.on_broken last.before last.last (output_at run.outputs n)
       outputs n there =
           let within = number_within streams n there in
-          up_to run asked.on_broken (starts_well (tee_run run.calling true asked) n).2 last.all (stands.each n within)
-          (rw (said_place says (output_slot n) (not_error n)) at (closed_at run asked so_far says ends n within))
-          (λ ended. let (begins, none) = last.some n within ended in (
-            begins,
-            λ unopened. comes.reads
-                ∙ rw (any_at (stands_streams stands) (λ standing. ends_run standing asked.on_broken) within ended, none unopened) refl,
-          ))
+          up_to run asked.on_broken (starts_well (job_of run asked) n).2 last.all (stands.each n within)
+          (λ ended. let (begins, none) = last.some n within ended in (begins, λ unopened. comes.reads
+          ∙ rw (any_at (stands_streams stands) (λ standing. ends_run standing asked.on_broken) within ended, none unopened) refl))
+          (final_at run asked so_far says ends n within)
 
       was_sound : not (any_is Sound (standings_of old)) ≡ true → (n : ℕ) → output_slot n < length run.outputs
-          → stands_as (slot_at run.outputs (output_slot n)) ≡ Sound → ⊥
-      was_sound none n there sound = by (slot_at old (output_slot n)).is_broken refl where
+          → stands_as (output_at run.outputs n) ≡ Sound → ⊥
+      was_sound none n there sound = by (output_at old n).is_broken refl where
         within : n ≤ length asked.names
         within = number_within streams n there
 
-        by : (broken : Bool) → (slot_at old (output_slot n)).is_broken ≡ broken → ⊥
+        by : (broken : Bool) → (output_at old n).is_broken ≡ broken → ⊥
         by false is = false≢true (sym (not-true _ none) ∙ any_tests Sound (standings_of old)
             ∙ any_at (stands_streams stands) (λ standing. is_same standing Sound) within (rw is refl))
-        by true is = false≢true (sym (sound_slot (slot_at run.outputs (output_slot n)) sound)
-            ∙ ap (λ (slot : Slot). slot.is_broken) (stays run asked so_far says ends n within is) ∙ is)
+        by true is = false≢true (sym (sound_slot (output_at run.outputs n) sound)
+            ∙ ap (λ (slot : Slot). slot.is_broken) (stays run asked so_far says ends n is) ∙ is)
 
       ended : is_done asked.on_broken (standings_of old) ≡ true
           → OneIs run (λ standing. ends_run standing asked.on_broken ≡ true)
@@ -721,8 +663,8 @@ ends_with_break run asked few (tee.copied pieces fault old mid comes so_far says
       ended vain = elim (or_cases _ _ vain) [
         | inl one ↦
             let (n, within, ends_it) = one_at (stands_streams stands) (λ standing. ends_run standing asked.on_broken) one in
-            let broken = broken_slot (λ standing. ends_run standing asked.on_broken) refl (slot_at old (output_slot n)) ends_it in
-            let same = stays run asked so_far says ends n within broken in
+            let broken = broken_slot (λ standing. ends_run standing asked.on_broken) refl (output_at old n) ends_it in
+            let same = stays run asked so_far says ends n broken in
             inl (output_slot n, not_error n, broken_within run.outputs (output_slot n) (rw same broken), rw same ends_it)
         | inr none ↦ inr (inl (λ (place, differs, within, sound). each_place
             (λ place. place < length run.outputs → stands_as (slot_at run.outputs place) ≡ Sound → ⊥) (was_sound none) place differs within sound))
