@@ -1,5 +1,10 @@
 -- Lemmas on copying, step by step: what the outputs have, and what standard error has if none broke.
-use Rattle.std.{proofs.lemmas.{Bool.{cases_lt, false≢true}, List.{Folds.concat-append, length-map}}, proofs.Common.{◌≡◌, ◌⊎◌, ℕ, ◌+◌, ◌<◌, ◌≤◌, zero, suc, List, [], ◌∷◌, ◌++◌, length, map, replicate, get_or, Bool}, proofs.Common.{take, true, false, refl, sym, subst, ◌∙◌, ap, arith, inl, inr, append-nil, append_assoc}, specs.List.concat}
+use Rattle.std.{
+  proofs.lemmas.{Bool.{cases_lt, false≢true}, List.{Folds.concat-append, length-map}},
+  proofs.Common.{◌≡◌, ◌⊎◌, ℕ, ◌+◌, ◌<◌, ◌≤◌, zero, suc, List, [], ◌∷◌, ◌++◌, length, map, replicate, get_or, Bool},
+  proofs.Common.{take, true, false, refl, sym, subst, ◌∙◌, ap, arith, inl, inr, append-nil, append_assoc},
+  specs.List.concat,
+}
 use Rattle.ports_core.specs.{
   Slot.{Slot, adds, breaks, is_open, opened, slot_at, told_of, unopened},
   Part.IsBeginning,

@@ -6,12 +6,37 @@ use Rattle.std.{
   proofs.Common.{not, ◌||◌, if◌then◌else◌, is_none, replicate},
   specs.List.{concat, list_any},
 }
-use Rattle.ports_core.specs.{Slot.{Slot, changed_at, no_slot, slot_at, adds, closes, opened, streams, told_of}, Source.{ReadFails, Content, Source, counted, source_at, unshown, is_readable, gives, BrokeOff, Gave, IsFresh}, declared.fault.Fault.{Fault, TheVariants.{Memory}}, declared.on_broken.OnBroken.{OnBroken, TheVariants.{Warn, Exit, WarnNoPipe, ExitNoPipe, Signal}}, declared.reason.Reason.{Reason, TheVariants.Other}, Inputs.{CameFrom, OfContent, empty}, Text.{Message, status_after}, Message.{SaysAll, TellsOn, output_reason}, Streams.{standard_output, standard_error}}
+use Rattle.ports_core.specs.{
+  Slot.{Slot, changed_at, no_slot, slot_at, adds, closes, opened, streams, told_of},
+  Source.{ReadFails, Content, Source, counted, source_at, unshown, is_readable, gives, BrokeOff, Gave, IsFresh},
+  declared.fault.Fault.{Fault, TheVariants.{Memory}},
+  declared.on_broken.OnBroken.{OnBroken, TheVariants.{Warn, Exit, WarnNoPipe, ExitNoPipe, Signal}},
+  declared.reason.Reason.{Reason, TheVariants.Other},
+  Inputs.{CameFrom, OfContent, empty},
+  Text.{Message, status_after},
+  Message.{SaysAll, TellsOn, output_reason},
+  Streams.{standard_output, standard_error},
+}
 use Rattle.ports_core.proofs.{
   InputsLemmas.{HasRead, changed_source, came_broken, came_sound, still_readable, read_broken, read_failed},
   InputsLemmas.{read_more, read_none_more, read_to_end, of_content},
 }
-use Rattle.tee_core.{specs.{Run.{AreSound, ClosesAll, ComesIn, Copied, EndsAs, GaveLast, IsAsFound, IsRead, LeavesOf, SaysTo, TeeRun}, Run.{all_copied, any_is, copied, ends_run, forgives, gone_status, is_done, is_same, lost_for, no_room, one_more}, Run.{said_of_input, standings_of, stands_as, started, status_for, tee_called, to_end, IsFileOf}, Outputs.{Closes, is_closed, fails_to_close, was_broken}, declared.standing.Standing.{Standing, TheVariants.{Sound, Broken, Gone}}, inner.Steps.{CopiesRead, HasStreams, output_at, output_slot}}, proofs.{ChangeLemmas.{closed_broken, is_between}, CopyLemmas.{Stands, has_sound, joined_more, mapped_at, said_error, said_place, sound_error, sound_old}, CopyLemmas.{sound_said, sound_stand, stands_of, output_of, stands_said, stands_streams, start_of, streams_count}, CopyLemmas.{streams_kept, streams_next}}}
+use Rattle.tee_core.{
+  specs.{
+    Run.{AreSound, ClosesAll, ComesIn, Copied, EndsAs, GaveLast, IsAsFound, IsRead, LeavesOf, SaysTo, TeeRun},
+    Run.{all_copied, any_is, copied, ends_run, forgives, gone_status, is_done, is_same, lost_for, no_room, one_more},
+    Run.{said_of_input, standings_of, stands_as, started, status_for, tee_called, to_end, IsFileOf},
+    Outputs.{Closes, is_closed, fails_to_close, was_broken},
+    declared.standing.Standing.{Standing, TheVariants.{Sound, Broken, Gone}},
+    inner.Steps.{CopiesRead, HasStreams, output_at, output_slot},
+  },
+  proofs.{
+    ChangeLemmas.{closed_broken, is_between},
+    CopyLemmas.{Stands, has_sound, joined_more, mapped_at, said_error, said_place, sound_error, sound_old},
+    CopyLemmas.{sound_said, sound_stand, stands_of, output_of, stands_said, stands_streams, start_of, streams_count},
+    CopyLemmas.{streams_kept, streams_next},
+  },
+}
 use Rattle.ports_core.specs.declared.reason.Reason.TheVariants as reason
 
 nothing_more : {x : List ℕ} (rest : List ℕ) → x ≡ x ++ rest → rest ≡ []

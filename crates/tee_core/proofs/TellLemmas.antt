@@ -1,8 +1,22 @@
 -- Lemmas on what is reported of outputs that broke, and on the loop that does it.
-use Rattle.std.{proofs.lemmas.{Grind.common_steps, Bool.cond_both, List.{append-nil, length-map}}, proofs.Common.{◌≡◌, ℕ, ◌+◌, ◌<◌, zero, suc, List, [], ◌∷◌, ◌++◌, length, take, drop, codes, get_or, set, true}, proofs.Common.{false, refl, sym, ◌∙◌, ap, arith, Option, Some}, proofs.Math.ListN.get_or-map}
-use Rattle.ports_core.specs.{Slot.{Slot, changed_at, no_slot, slot_at, is_open}, Text.{Message, message_of}, Message.SaysOn, declared.{reason.Reason.Reason, fault.Fault.Fault}}
+use Rattle.std.{
+  proofs.lemmas.{Grind.common_steps, Bool.cond_both, List.{append-nil, length-map}},
+  proofs.Common.{◌≡◌, ℕ, ◌+◌, ◌<◌, zero, suc, List, [], ◌∷◌, ◌++◌, length, take, drop, codes, get_or, set, true},
+  proofs.Common.{false, refl, sym, ◌∙◌, ap, arith, Option, Some},
+  proofs.Math.ListN.get_or-map,
+}
+use Rattle.ports_core.specs.{
+  Slot.{Slot, changed_at, no_slot, slot_at, is_open},
+  Text.{Message, message_of},
+  Message.SaysOn,
+  declared.{reason.Reason.Reason, fault.Fault.Fault},
+}
 use Rattle.ports_core.proofs.MessageLemmas.{all_said_state, says_more}
-use Rattle.tee_core.specs.{Run.{SaysTo, TeeRun, output_names, said_of_input, said_since, standings_of, stands_as, tee_called, tells}, inner.Steps.{HasStreams, output_at, output_slot}, declared.standing.Standing.{Standing, TheVariants.{Sound}}}
+use Rattle.tee_core.specs.{
+  Run.{SaysTo, TeeRun, output_names, said_of_input, said_since, standings_of, stands_as, tee_called, tells},
+  inner.Steps.{HasStreams, output_at, output_slot},
+  declared.standing.Standing.{Standing, TheVariants.{Sound}},
+}
 
 -- outputs up to a place that were looked at, and after it those that weren't
 abbrev SeenTo : ℕ → List Standing → List Standing → List Standing → Type 0

@@ -1,6 +1,28 @@
 -- Lemmas: over the inputs that any run found there is a run that no fault stops.
-use Rattle.std.{proofs.Common.{◌≡◌, ℕ, ◌+◌, ◌≤◌, ◌<◌, ◌^◌, suc, zero, Bool, true, false, ◌||◌, cond, List, [], ◌∷◌, ◌++◌}, proofs.Common.{length, map, Option, Some, None, inl, inr, ◌⊎◌, refl, sym, ◌∙◌, ap, arith, lit<, append_assoc}, proofs.Common.{append-nil, is_none, length-append}, proofs.Math.Seq.get_or-append_seam, proofs.lemmas.{Bool.{cases_Bool, cases_lt, false≢true}, List.{get_or_past, length-map}}, specs.List.concat}
-use Rattle.ports_core.specs.{Inputs.{CameFrom, largest_piece}, Message.{SaysAll, whole}, Part.{File, OutputsAt, Part, file_of, told_file}, Slot.{Slot, adds, closes, has_file, is_open, no_slot, opened, slot_at}, Source.{Content, Source, missing, source_at, source_of}, Streams.{standard_error, standard_output, streams_with}, Swept.{Cleared, Swept}, Work.{IsNeeded, Work}, declared.{fault.Fault.{Fault, TheVariants.Read}, calling.{Calling.Calling, Speaker.Speaker}, reason.Reason.TheVariants.Other}, Text.{Message, line_of}}
+use Rattle.std.{
+  proofs.Common.{◌≡◌, ℕ, ◌+◌, ◌≤◌, ◌<◌, ◌^◌, suc, zero, Bool, true, false, ◌||◌, cond, List, [], ◌∷◌, ◌++◌},
+  proofs.Common.{length, map, Option, Some, None, inl, inr, ◌⊎◌, refl, sym, ◌∙◌, ap, arith, lit<, append_assoc},
+  proofs.Common.{append-nil, is_none, length-append},
+  proofs.Math.Seq.get_or-append_seam,
+  proofs.lemmas.{Bool.{cases_Bool, cases_lt, false≢true}, List.{get_or_past, length-map}},
+  specs.List.concat,
+}
+use Rattle.ports_core.specs.{
+  Inputs.{CameFrom, largest_piece},
+  Message.{SaysAll, whole},
+  Part.{File, OutputsAt, Part, file_of, told_file},
+  Slot.{Slot, adds, closes, has_file, is_open, no_slot, opened, slot_at},
+  Source.{Content, Source, missing, source_at, source_of},
+  Streams.{standard_error, standard_output, streams_with},
+  Swept.{Cleared, Swept},
+  Work.{IsNeeded, Work},
+  declared.{
+    fault.Fault.{Fault, TheVariants.Read},
+    calling.{Calling.Calling, Speaker.Speaker},
+    reason.Reason.TheVariants.Other,
+  },
+  Text.{Message, line_of},
+}
 use Rattle.run_core.{
   proofs.FeedingLemmas.needed_within,
   specs.{
@@ -11,7 +33,7 @@ use Rattle.run_core.{
   },
 }
 use Rattle.tee_core.{
-  proofs.{CopyLemmas.{sound_step, streams_of}, EndLemmas.{sound_goes_on, sound_status}},
+  proofs.{CopyLemmas.{sound_step, streams_of}, EndLemmas.{sound_goes_on, whole_if}},
   specs.{
     Opening.{OpensAs, is_opened},
     Outputs.{ChangesEach, Closes, Gets, gets_all, is_closed},
@@ -334,13 +356,9 @@ tee_well calling asked world few = record {
   does = record {
     content = content;
     input = refl;
-    ends = tee.copied pieces fault copied (laid calling asked (has_open calling asked content.bytes) lines.0 content.bytes)
-        comes (copied_all calling asked content.bytes) (record { error = lines.0; said = lines.1; slots = refl })
-        (sound_step well.0 well.1 (files_change Closes (has_open calling asked content.bytes)
-        (λ name. closes (has_open calling asked content.bytes name)) (λ name. is_closed refl)
-        (adds content.bytes standard_output) lines.0 asked.names)) refl;
+    ends = ends;
     came = came_from source refl;
-    whole = λ told well_of told_of. all content.breaks_off (sym (sound_status asked.on_broken fault well.0 well.1) ∙ well_of);
+    whole = λ told well_of told_of. whole_if well_of told_of ends;
   };
   unstopped = (well.1, pieces_are content.bytes);
 } where
@@ -387,11 +405,13 @@ tee_well calling asked world few = record {
     reads = refl;
   })
 
-  all : (breaks_off : Bool) → ◌≡◌ {A = ℕ} (cond (is_none (met_by breaks_off)) 0 1) 0
-      → new (took_lines (tee_called calling) (said_of_input (met_by breaks_off)) standard_error refl).0
-      ≡ tee.all_copied true asked.mode asked.names content.bytes
-  all true well_of = absurd (omega (arith, well_of))
-  all false well_of = ap new (took_lines (tee_called calling) (said_of_input (met_by false)) standard_error refl).1
+  ends : tee.EndsAs (tee_run calling true asked) true content source (new lines.0)
+      (tee.status_for asked.on_broken (standings_of (new lines.0)) fault)
+  ends = tee.copied pieces fault copied (laid calling asked (has_open calling asked content.bytes) lines.0 content.bytes)
+      comes (copied_all calling asked content.bytes) (record { error = lines.0; said = lines.1; slots = refl })
+      (sound_step well.0 well.1 (files_change Closes (has_open calling asked content.bytes)
+      (λ name. closes (has_open calling asked content.bytes name)) (λ name. is_closed refl)
+      (adds content.bytes standard_output) lines.0 asked.names)) refl
 
 does_well : (run : Run) (asked : Settings) → HasOperands asked → (HasLong run asked → ⊥)
     → DoesWell run.calling asked run.world

@@ -10,7 +10,23 @@ use Rattle.std.proofs.{
   Common.{None, inl, inr, ◌⊎◌, refl, sym, ◌∙◌, ap, arith, append_assoc, append-nil, All, rules, ◌≤◌, ◌^◌, is_none},
   Common.{Ok, codes},
 }
-use Rattle.ports_core.specs.{Slot.{Slot, adds, has_file, slot_at, closes, opened, removes}, Source.{Content, Source}, Streams.{standard_error, standard_output, streams_with}, Inputs.largest_piece, Draft.{Draft, Manner, shares_of}, Part.{File, FilesBegin, Part, nothing, only_out, OutputsAt, file_of, told_file}, Text.{Message, is_quiet, message_of, status_after}, declared.calling.{Calling.{Calling, TheVariants.Cutters}, Speaker.Speaker}, declared.reason.Reason.Reason, declared.fault.Fault.{Fault, TheVariants.{Open as CannotOpen, Read, Write}}, declared.verdict.Verdict.Verdict, declared.slot.{State.{State, TheVariants.{Open, Closed}}, Mode.Mode}, Work.{Judges, Needs, Work}, Message.SaysAll, Swept.{Cleared, Swept}}
+use Rattle.ports_core.specs.{
+  Slot.{Slot, adds, has_file, slot_at, closes, opened, removes},
+  Source.{Content, Source},
+  Streams.{standard_error, standard_output, streams_with},
+  Inputs.largest_piece,
+  Draft.{Draft, Manner, shares_of},
+  Part.{File, FilesBegin, Part, nothing, only_out, OutputsAt, file_of, told_file},
+  Text.{Message, is_quiet, message_of, status_after},
+  declared.calling.{Calling.{Calling, TheVariants.Cutters}, Speaker.Speaker},
+  declared.reason.Reason.Reason,
+  declared.fault.Fault.{Fault, TheVariants.{Open as CannotOpen, Read, Write}},
+  declared.verdict.Verdict.Verdict,
+  declared.slot.{State.{State, TheVariants.{Open, Closed}}, Mode.Mode},
+  Work.{Judges, Needs, Work},
+  Message.SaysAll,
+  Swept.{Cleared, Swept},
+}
 use Rattle.seg_core.specs.declared.{cut.{Cut.{Cut, TheVariants.{Parts, Round}}, Way.Way}, unit.Unit.Unit as Counted}
 use Rattle.split_core.specs.{
   ChunkWork.{draft_by, way_work},
@@ -18,7 +34,17 @@ use Rattle.split_core.specs.{
   Split.{manner_of as manner_by, Filing, Share, dealt_files, settled_shares, share},
 }
 use Rattle.ends_core.specs.Shown.{head_in, tail_in}
-use Rattle.tools_core.{proofs.SameLemmas.{KnowsNoMore, all_made_alike, head_knows, shows_none, split_knows, tail_knows}, specs.Promises.{AllAlike, AreAlike, GivesBytes, are_same, give_same, SaysLines, Completes, FindAlike, IsCopied}, specs.Promises.{Gives, at_first, in_full}, specs.Promises.{IsMet, Tells, IsFound, IsGone, IsTask, IsUnstopped, LeaveAlike, Ran, Run, TellsMet, Unstopped, message_by}, specs.Promises.{broken_off, failing, judged, missing, removes_files}, specs.About.{TellsText, no_text, text_cut, text_whole}, specs.Outcome.{DoesAsked, RefusesOperands, tee_run}, specs.Tasks.{filing_of, names_of, speaker_of}}
+use Rattle.tools_core.{
+  proofs.SameLemmas.{KnowsNoMore, all_made_alike, head_knows, shows_none, split_knows, tail_knows},
+  specs.Promises.{AllAlike, AreAlike, GivesBytes, are_same, give_same, SaysLines, Completes, FindAlike, IsCopied},
+  specs.Promises.{Gives, at_first, in_full},
+  specs.Promises.{IsMet, Tells, IsFound, IsGone, IsTask, IsUnstopped, LeaveAlike, Ran, Run, TellsMet, Unstopped},
+  specs.Promises.{message_by},
+  specs.Promises.{broken_off, failing, judged, missing, removes_files},
+  specs.About.{TellsText, no_text, text_cut, text_whole},
+  specs.Outcome.{DoesAsked, RefusesOperands, tee_run},
+  specs.Tasks.{filing_of, names_of, speaker_of},
+}
 use Rattle.operand_core.{specs.{Style.Style}, proofs.ReadingLemmas.asks_once}
 use Rattle.csplit_core.specs.{Output.{file_in, shares_in, state_in}, Section.{Section}}
 use Rattle.run_core.specs.{

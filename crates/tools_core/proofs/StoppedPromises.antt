@@ -1,6 +1,27 @@
 -- Lemmas: a run that a fault stopped reported the fault; and which outputs are broken then.
-use Rattle.std.{proofs.lemmas.{Grind.common_steps, Bool.{cases_Bool, false≢true}, List.{Elements.{All-append, All-nil}}}, proofs.Common.{All, None, ◌≡◌, ℕ, ◌^◌, ◌≤◌, suc, Bool, true, false, cond, is_none, subst, List, [], not, ◌||◌, ◌∷◌}, proofs.Common.{◌++◌, length, length-append, Option, Some, codes, inl, inr, ◌⊎◌, refl, sym, ◌∙◌, ap, arith, zero}, proofs.Common.rules, proofs.Math.Seq.get_or-append_seam, specs.List.concat}
-use Rattle.ports_core.specs.{Message.{Says, SaysAll, output_named, output_reason}, declared.calling.{Calling.{Calling, TheVariants.{Cutters, OwnName}}}, declared.fault.{Fault.{Fault, TheVariants.{Memory, Write, Open, Read, TooLong, Usage}}}, declared.on_broken.OnBroken.{OnBroken, TheVariants.{Warn, Exit}}, declared.reason.Reason.Reason, declared.tool.Tool.Tool, Part.{Output, IsNext, Part, StoppedBetween}, Slot.{Slot, breaks, slot_at}, Source.{Content, Source}, Streams.{standard_error, streams_with}, Swept.Swept, Text.{Message, is_quiet, message_of}, Work.{Needs, Work}}
+use Rattle.std.{
+  proofs.lemmas.{Grind.common_steps, Bool.{cases_Bool, false≢true}, List.{Elements.{All-append, All-nil}}},
+  proofs.Common.{All, None, ◌≡◌, ℕ, ◌^◌, ◌≤◌, suc, Bool, true, false, cond, is_none, subst, List, [], not, ◌||◌, ◌∷◌},
+  proofs.Common.{◌++◌, length, length-append, Option, Some, codes, inl, inr, ◌⊎◌, refl, sym, ◌∙◌, ap, arith, zero},
+  proofs.Common.rules,
+  proofs.Math.Seq.get_or-append_seam,
+  specs.List.concat,
+}
+use Rattle.ports_core.specs.{
+  Message.{Says, SaysAll, output_named, output_reason},
+  declared.calling.{Calling.{Calling, TheVariants.{Cutters, OwnName}}},
+  declared.fault.{Fault.{Fault, TheVariants.{Memory, Write, Open, Read, TooLong, Usage}}},
+  declared.on_broken.OnBroken.{OnBroken, TheVariants.{Warn, Exit}},
+  declared.reason.Reason.Reason,
+  declared.tool.Tool.Tool,
+  Part.{Output, IsNext, Part, StoppedBetween},
+  Slot.{Slot, breaks, slot_at},
+  Source.{Content, Source},
+  Streams.{standard_error, streams_with},
+  Swept.Swept,
+  Text.{Message, is_quiet, message_of},
+  Work.{Needs, Work},
+}
 use Rattle.ports_core.proofs.MessageLemmas.{says_more}
 use Rattle.run_core.specs.{
   Feeding.{IsCall, Step, Stops, closes as ends_call, enough, feeds, opens, to_end},

@@ -1,7 +1,29 @@
 -- Lemmas on what a run of `tee` leaves and reports of its outputs, and on what ended it.
-use Rattle.std.proofs.{Common.{◌≡◌, ◌⊎◌, ℕ, ◌+◌, ◌≤◌, ◌<◌, ◌^◌, get_or, map, zero, suc, Bool, true, false, List, [], ◌∷◌, ◌++◌, length}, Common.{take, Option, Some, cond, inl, inr, refl, sym, ◌∙◌, ap, arith, append-nil, All, codes, not}, lemmas.{List.{Elements.{All-append, All-nil}, Folds.list_any_at, get_or_past, length-map}, Grind.common_steps, Bool.{cases_Bool, cases_lt, cond_both, false≢true, not-true, or_cases, or_parts}}}
+use Rattle.std.proofs.{
+  Common.{◌≡◌, ◌⊎◌, ℕ, ◌+◌, ◌≤◌, ◌<◌, ◌^◌, get_or, map, zero, suc, Bool, true, false, List, [], ◌∷◌, ◌++◌, length},
+  Common.{take, Option, Some, cond, inl, inr, refl, sym, ◌∙◌, ap, arith, append-nil, All, codes, not},
+  lemmas.{
+    List.{Elements.{All-append, All-nil}, Folds.{Any-from_list_any, list_any_at}, get_or_default, get_or_past, length-map},
+    Grind.common_steps,
+    Bool.{cases_Bool, cases_lt, cond_both, false≢true, not-true, or_cases, or_parts},
+  },
+}
 use Rattle.std.specs.List.{concat, list_any}
-use Rattle.ports_core.specs.{declared.{reason.Reason.Reason, fault.Fault.{Fault, TheVariants.{Memory, Open, Write}}, on_broken.OnBroken.OnBroken, slot.{State.{State, TheVariants.Unopened}, Mode.Mode}}, Inputs.largest_piece, Slot.{Slot, closes, is_open, no_slot, opened, slot_at}, Source.{Content, Source, source_at}, Streams.{streams_with, standard_error}, Part.{IsBeginning}, Text.{Message, message_of}, Message.SaysAll}
+use Rattle.ports_core.specs.{
+  declared.{
+    reason.Reason.Reason,
+    fault.Fault.{Fault, TheVariants.{Memory, Open, Write}},
+    on_broken.OnBroken.OnBroken,
+    slot.{State.{State, TheVariants.Unopened}, Mode.Mode},
+  },
+  Inputs.largest_piece,
+  Slot.{Slot, closes, is_open, no_slot, opened, slot_at},
+  Source.{Content, Source, source_at},
+  Streams.{streams_with, standard_error},
+  Part.{IsBeginning},
+  Text.{Message, message_of},
+  Message.SaysAll,
+}
 use Rattle.ports_core.proofs.{
   MessageLemmas.says_after,
   PartLemmas.{begins_itself, begins_trans, nothing_begins},
@@ -24,25 +46,32 @@ use Rattle.tee_core.{
   },
 }
 use Rattle.words_core.specs.{TeeWords.TeeAsked, declared.settings.Settings.{Settings, TheVariants.Tee}}
-use Rattle.tools_core.{specs.{Outcome.tee_run, Promises.{BeginsAs, BrokeAt, EndsWithBreak, HasGone, HasUpTo, IsCalled, LostReader, OneIs, Ran, Run, SaysLines}, Promises.{SaysWhy, StopsRun, Tells, TellsMet, failing, message_by}}, proofs.BeginLemmas.{bare_begins, empty_begins}, proofs.LeftLemmas.{HasLine, copies_are, copy, has_after, has_before, one_line, ran_over, same_content, says_line}, proofs.LeftLemmas.{slots_of, tee_made, tells_one}}
+use Rattle.tools_core.{
+  specs.{
+    Outcome.tee_run,
+    Promises.{BeginsAs, BrokeAt, EndsWithBreak, HasGone, HasUpTo, IsCalled, LostReader, OneIs, Ran, Run, SaysLines},
+    Promises.{SaysWhy, StopsRun, Tells, TellsMet, failing, message_by},
+  },
+  proofs.BeginLemmas.{bare_begins, empty_begins},
+  proofs.LeftLemmas.{HasLine, copies_are, copy, has_after, has_before, one_line, ran_over, same_content, says_line},
+  proofs.LeftLemmas.{slots_of, tee_made, tells_one},
+}
 use Rattle.ports_core.specs.declared.slot.State.TheVariants as state
 use Rattle.ports_core.specs.declared.reason.Reason.TheVariants as reason
 use Rattle.tee_core.specs.Run as tee
 
+abbrev job_of : Run → TeeAsked → TeeRun
+job_of run asked = tee_run run.calling true asked
+
 -- One output, by its slot.
 
--- the fault of an output that is broken and in this state; no message has the number of its slot
-abbrev fault_of : State → Fault
-fault_of Unopened = Open 0
-fault_of which = Write 0
-
-open_writes : (which : State) → is_open which ≡ true → fault_of which ≡ Write 0
+open_writes : (which : State) → is_open which ≡ true → failing 0 which ≡ Write 0
 open_writes state.Open opened = refl
 open_writes which opened = absurd (cc)
 
--- a fault of an output isn't about words
+-- no message has the number of an output's slot, and a fault of an output isn't about words
 failing_message : (run : Run) (place : ℕ) (which : State) (name : List ℕ)
-    → message_of (fault_of which) name ≡ message_by run (failing place which) name
+    → message_of (failing 0 which) name ≡ message_by run (failing place which) name
 failing_message run place state.Unopened name = refl
 failing_message run place state.Open name = refl
 failing_message run place state.Closed name = refl
@@ -124,15 +153,11 @@ module _ {slots : List Slot} {count : ℕ} (has : HasStreams slots count) where
   -- some output passes a test
   one_at : (test : Standing → Bool) → list_any test (standings_of slots) ≡ true
       → (n : ℕ) × (n ≤ count) × (test (stands_as (output_at slots n)) ≡ true)
-  one_at test any = let (n, within, is) = one_of (standings_of slots) any in
-      (n, omega (arith, within, count_standings has), rw (stands_at n) at is) where
-        one_of : (standings : List Standing) → list_any test standings ≡ true
-            → (n : ℕ) × (n < length standings) × (test (get_or standings n Sound) ≡ true)
-        one_of [] is = absurd (cc)
-        one_of (standing ∷ standings) is = elim (or_cases _ _ is) [
-          | inl here ↦ (0, omega arith, here)
-          | inr later ↦ let (n, within, one) = one_of standings later in (suc n, omega arith, one)
-        ]
+  one_at test any = let (n, standing, within, same, is) = Any-from_list_any test (standings_of slots) any in (
+    n,
+    omega (arith, within, count_standings has),
+    rw (← (stands_at n), get_or_default (standings_of slots) n Sound standing within, same) is,
+  )
 
   any_at : (test : Standing → Bool) {n : ℕ} → n ≤ count
       → test (stands_as (output_at slots n)) ≡ true → list_any test (standings_of slots) ≡ true
@@ -171,18 +196,18 @@ module _ (job : TeeRun) (fault : Fault) (was now : List Standing) where
 
 -- the line about an output of this number that is broken
 abbrev line_at : TeeRun → ℕ → Slot → Message
-line_at job n slot = message_of (fault_of slot.state) (get_or (output_names job.names) n [])
+line_at job n slot = message_of (failing 0 slot.state) (get_or (output_names job.names) n [])
 
 -- an output in a step: if it was broken it stays as it is, and if it breaks it has the fault of the step
 abbrev Breaks : Fault → Slot → Slot → Type 0
 Breaks fault old new = (old.is_broken ≡ true → new ≡ old)
-    × (old.is_broken ≡ false → new.is_broken ≡ true → fault_of new.state ≡ fault)
+    × (old.is_broken ≡ false → new.is_broken ≡ true → failing 0 new.state ≡ fault)
 
 same_breaks : {fault : Fault} {old new : Slot} → new ≡ old → Breaks fault old new
 same_breaks is = (λ broken. is, λ sound broken. absurd (false≢true (sym sound ∙ ap (λ (slot : Slot). slot.is_broken) (sym is) ∙ broken)))
 
 sound_breaks : {fault : Fault} {old new : Slot} → old.is_broken ≡ false
-    → (new.is_broken ≡ true → fault_of new.state ≡ fault) → Breaks fault old new
+    → (new.is_broken ≡ true → failing 0 new.state ≡ fault) → Breaks fault old new
 sound_breaks sound fails = (λ broken. absurd (false≢true (sym sound ∙ broken)), λ was. fails)
 
 opened_breaks : {mode : Mode} {name : List ℕ} {old new : Slot} → old.is_broken ≡ false → OpensAs mode name new
@@ -329,35 +354,35 @@ gets_last on_broken {x} {piece} none opened has goes (breaks_off sound n why wit
     rw (has_sound has sound, none) ((take n piece, refl), λ is. absurd (cc))
 gets_last on_broken none opened has goes (gets_none broken) ends = absurd (goes ends)
 
-last_of : {job : TeeRun} {pieces : List (List ℕ)} {slots : List Slot} → job.told ≡ true → Copied job pieces slots
-    → Last job pieces slots
-last_of {job} told (tee.started new step) = record {
+last_of : (run : Run) (asked : TeeAsked) {pieces : List (List ℕ)} {slots : List Slot}
+    → Copied (job_of run asked) pieces slots → Last (job_of run asked) pieces slots
+last_of run asked (tee.started new step) = record {
   before = [];
   last = [];
   all = refl;
   small = omega arith;
   some = λ n within ends. (nothing_begins _, λ unopened. refl);
 }
-last_of {job} told (tee.one_more pieces piece old new so_far goes more few step) = record {
+last_of run asked (tee.one_more pieces piece old new so_far goes more few step) = record {
   before = concat pieces;
   last = piece;
   all = sym (joined_more pieces piece);
   small = few;
   some = λ n within ends. let (begins, opened) = at n within ends in (begins, λ unopened. absurd (opened unopened));
 } where
-  stands : Stands job (concat pieces) old
+  stands : Stands (job_of run asked) (concat pieces) old
   stands = stands_of so_far
 
-  at : (n : ℕ) → n ≤ length job.names → ends_run (stands_as (output_at new n)) job.on_broken ≡ true
+  at : (n : ℕ) → n ≤ length asked.names → ends_run (stands_as (output_at new n)) asked.on_broken ≡ true
       → IsBeginning (concat pieces) (output_at new n).written
       × ((output_at new n).state ≡ Unopened → ⊥)
   at n within ends =
       let same = said_place step.said (output_slot n) (not_error n) in
-      let start = starts_well job n in
-      rw same (gets_last job.on_broken start.2 start.1 (rw told at (stands.each n within))
+      let start = starts_well (job_of run asked) n in
+      rw same (gets_last asked.on_broken start.2 start.1 ((stands.each n within))
       (λ ended. false≢true (sym (or_parts _ _ goes).0
-      ∙ any_at (stands_streams stands) (λ standing. ends_run standing job.on_broken) within ended))
-      (rw told at (step.changes.each (output_slot n) (output_of job.names n within))) (rw same at ends))
+      ∙ any_at (stands_streams stands) (λ standing. ends_run standing asked.on_broken) within ended))
+      ((step.changes.each (output_slot n) (output_of asked.names n within))) (rw same at ends))
 
 -- an output at the end: as it was once all was copied; or it was sound then, has all, and was closed
 pub data Final (x name : List ℕ) (old : Slot) : Slot → Type 0 where
@@ -411,9 +436,6 @@ pub record TellsAll (run : Run) (asked : TeeAsked) (fault : Option Fault) : Type
       → tee.is_told asked.on_broken (stands_as (output_at run.outputs n)) ≡ true
       → IsToldAt run asked (output_slot n)
 
-abbrev job_of : Run → TeeAsked → TeeRun
-job_of run asked = tee_run run.calling true asked
-
 -- a run whose outputs were left in this way
 module _ (run : Run) (asked : TeeAsked) {pieces : List (List ℕ)} {messages : List Message} {old mid : List Slot}
     (so_far : Copied (job_of run asked) pieces old) (says : SaysTo (job_of run asked) messages old mid)
@@ -443,9 +465,12 @@ module _ (run : Run) (asked : TeeAsked) {pieces : List (List ℕ)} {messages : L
     lines = lines;
     says = record { are = reports.are; said = reports.said };
     input = λ met is. has_before _ (has_after before.0 (rw (for, is) ([], [], refl)));
-    each = λ n within told.
-        (_, called n within, says_line (rw (failing_message run (output_slot n) (output_at run.outputs n).state _) at
-        (reports.each n within (told_slot asked.on_broken (output_at run.outputs n) told) told)) (record { are = reports.are; said = reports.said }));
+    each = λ n within told. (
+      _,
+      called n within,
+      says_line (rw (failing_message run (output_slot n) (output_at run.outputs n).state _) at
+          (reports.each n within (told_slot asked.on_broken (output_at run.outputs n) told) told)) (record { are = reports.are; said = reports.said }),
+    );
   } where
     called : (n : ℕ) → n ≤ length asked.names
         → IsCalled (output_at run.outputs n) (get_or (output_names asked.names) n [])
@@ -455,9 +480,12 @@ module _ (run : Run) (asked : TeeAsked) {pieces : List (List ℕ)} {messages : L
     tell : (n : ℕ) → n ≤ length asked.names → (output_at run.outputs n).is_broken ≡ true
         → TellsMet run (Tee asked) (line_at (job_of run asked) n (output_at run.outputs n))
     tell n within broken =
-        let which = (output_at run.outputs n).state in
-        (failing (output_slot n) which, _, inl (failing_stops run (Tee asked) which (not_error n, called n within, broken, refl)),
-        failing_message run (output_slot n) which _)
+        let which = (output_at run.outputs n).state in (
+          failing (output_slot n) which,
+          _,
+          inl (failing_stops run (Tee asked) which (not_error n, called n within, broken, refl)),
+          failing_message run (output_slot n) which _,
+        )
 
     before : (lines : List Message) × Reports (job_of run asked) run.outputs (TellsMet run (Tee asked)) tell lines old
     before = reports_of (job_of run asked) run.outputs (TellsMet run (Tee asked)) tell so_far stays
@@ -571,7 +599,8 @@ tee_begins run {asked} {content} place differs (tee.copied pieces fault old mid 
             let made = ap (λ those. slot_at those n) (copies_are asked.mode content.bytes asked.names)
             ∙ mapped_at (copy asked.mode content.bytes) asked.names n within in
             rw made (begins (suc n) within refl refl)
-        | inr past ↦ rw (get_or_past run.outputs (suc (suc n)) no_slot (omega (arith, past, streams_count (has run asked so_far says ends)))) (empty_begins refl)
+        | inr past ↦ rw (get_or_past run.outputs (suc (suc n)) no_slot (omega (arith, past, streams_count (has run asked so_far says ends))))
+            (empty_begins refl)
       ]
 
 -- What was read, and what is left.
@@ -627,7 +656,7 @@ ends_with_break run asked few (tee.copied pieces fault old mid comes so_far says
       ];
     } where
       last : Last (job_of run asked) pieces old
-      last = last_of refl so_far
+      last = last_of run asked so_far
 
       stands : Stands (job_of run asked) (concat pieces) old
       stands = stands_of so_far
@@ -640,8 +669,11 @@ ends_with_break run asked few (tee.copied pieces fault old mid comes so_far says
       outputs n there =
           let within = number_within streams n there in
           up_to run asked.on_broken (starts_well (job_of run asked) n).2 last.all (stands.each n within)
-          (λ ended. let (begins, none) = last.some n within ended in (begins, λ unopened. comes.reads
-          ∙ rw (any_at (stands_streams stands) (λ standing. ends_run standing asked.on_broken) within ended, none unopened) refl))
+          (λ ended. let (begins, none) = last.some n within ended in (
+            begins,
+            λ unopened. comes.reads
+                ∙ rw (any_at (stands_streams stands) (λ standing. ends_run standing asked.on_broken) within ended, none unopened) refl,
+          ))
           (final_at run asked so_far says ends n within)
 
       was_sound : not (any_is Sound (standings_of old)) ≡ true → (n : ℕ) → output_slot n < length run.outputs

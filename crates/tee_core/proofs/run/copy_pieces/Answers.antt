@@ -1,6 +1,14 @@
-use Rattle.std.proofs.{Common.{◌≡◌, ◌≤◌, ◌<◌, ◌^◌, ◌+◌, length, length-take, ◌∷◌, ap, ◌++◌, ◌∙◌, [], take, Some, inl, inr, arith, refl, sym}, lemmas.{Bool.false≢true, Grind.common_steps}}
+use Rattle.std.proofs.{
+  Common.{◌≡◌, ◌≤◌, ◌<◌, ◌^◌, ◌+◌, length, length-take, ◌∷◌, ap, ◌++◌, ◌∙◌, [], take, Some, inl, inr, arith, refl},
+  Common.{sym},
+  lemmas.{Bool.false≢true, Grind.common_steps},
+}
 use Rattle.std.specs.List.{concat}
-use Rattle.ports_core.{specs.{Source.{Source, fails, gives}}, proofs.InputsLemmas.{asked_again, changed_source, ended_now, keeps_again, keeps_itself, keeps_others, nothing_read}, proofs.InputsLemmas.{read_more, sound_at, still_readable}}
+use Rattle.ports_core.{
+  specs.{Source.{Source, fails, gives}},
+  proofs.InputsLemmas.{asked_again, changed_source, ended_now, keeps_again, keeps_itself, keeps_others, nothing_read},
+  proofs.InputsLemmas.{read_more, sound_at, still_readable},
+}
 use Rattle.tee_core.{
   proofs.{
     CopyLemmas.{joined_more, stands_of, stands_ready, stands_streams},
