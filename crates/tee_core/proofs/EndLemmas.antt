@@ -1,35 +1,41 @@
 -- Lemmas on what a run reads of its input, and on how it ends.
 use Rattle.std.{
-  proofs.lemmas.{Grind.common_steps, Bool.{cases_Bool, false≢true}},
+  proofs.lemmas.{Grind.common_steps, Bool.{cases_Bool, false≢true, or_parts}, List.{ext_get_or, length-map}},
   proofs.Common.{◌≡◌, ℕ, ◌+◌, ◌<◌, ◌≤◌, ◌^◌, List, [], ◌∷◌, ◌++◌, length, take, Bool, true, false, Option, Some},
-  proofs.Common.{None, IsTrue, ◌⊎◌, refl, sym, ◌∙◌, ap, subst, arith, length-append, append-nil, inl, inr, All, zero},
-  proofs.Common.{suc, map, not, ◌&&◌, ◌||◌, if◌then◌else◌, is_none},
+  proofs.Common.{None, IsTrue, refl, sym, ◌∙◌, ap, subst, arith, length-append, append-nil, inl, inr, zero, suc, map},
+  proofs.Common.{not, ◌||◌, if◌then◌else◌, is_none, replicate},
   specs.List.{concat, list_any},
 }
 use Rattle.ports_core.specs.{
-  Slot.{Slot, changed_at, slot_at, adds, closes, opened, streams, told_of},
+  Slot.{Slot, changed_at, no_slot, slot_at, adds, closes, opened, streams, told_of},
   Source.{ReadFails, Content, Source, counted, source_at, unshown, is_readable, gives, BrokeOff, Gave, IsFresh},
-  declared.fault.Fault.{Fault, TheVariants.{Read, Memory}},
+  declared.fault.Fault.{Fault, TheVariants.{Memory}},
   declared.on_broken.OnBroken.{OnBroken, TheVariants.{Warn, Exit, WarnNoPipe, ExitNoPipe, Signal}},
-  declared.calling.Calling.Calling,
   declared.reason.Reason.{Reason, TheVariants.Other},
-  declared.slot.Mode.Mode,
-  Inputs.{CameFrom, largest_piece, OfContent, empty},
-  Text.status_after,
-  Message.{TellsOn, output_reason},
+  Inputs.{CameFrom, OfContent, empty},
+  Text.{Message, status_after},
+  Message.{SaysAll, TellsOn, output_reason},
   Streams.{standard_output, standard_error},
 }
 use Rattle.ports_core.proofs.{
   InputsLemmas.{HasRead, changed_source, came_broken, came_sound, still_readable, read_broken, read_failed},
   InputsLemmas.{read_more, read_none_more, read_to_end, of_content},
 }
-use Rattle.tee_core.specs.{
-  Run.{AreSound, lost_for, GaveLast, IsRead, LeavesOf, to_end, EndsAs, copied, no_room, FileLeft, file_whole},
-  Run.{FilesLeft, no_file, one_file, ComesIn, IsAsFound, OutputLeft, output_whole, output_cut, Break, all_copied},
-  Run.{any_is, are_sound, ends_run, forgives, gone_status, is_done, is_same, messages_of, output_names, said_before},
-  Run.{said_in, standing_of, standings_before, status_for, status_of, tee_called},
-  declared.standing.Standing.{Standing, TheVariants.{Sound, Broken, Gone}},
-  inner.Steps.{Copies, CopiesRead, HasCopied},
+use Rattle.tee_core.{
+  specs.{
+    Run.{AreSound, ClosesAll, ComesIn, Copied, EndsAs, GaveLast, IsAsFound, IsRead, LeavesOf, SaysTo, TeeRun},
+    Run.{all_copied, any_is, copied, ends_run, forgives, gone_status, is_done, is_same, lost_for, no_room, one_more},
+    Run.{said_of_input, standings_of, stands_as, started, status_for, tee_called, to_end, IsFileOf},
+    Outputs.{Closes, is_closed, fails_to_close, was_broken},
+    declared.standing.Standing.{Standing, TheVariants.{Sound, Broken, Gone}},
+    inner.Steps.{CopiesRead, HasStreams, output_at, output_slot},
+  },
+  proofs.{
+    ChangeLemmas.{closed_broken, is_between},
+    CopyLemmas.{Stands, has_sound, joined_more, mapped_at, said_error, said_place, sound_error, sound_old},
+    CopyLemmas.{sound_said, sound_stand, stands_of, output_of, stands_said, stands_streams, start_of, streams_count},
+    CopyLemmas.{streams_kept, streams_next},
+  },
 }
 use Rattle.ports_core.specs.declared.reason.Reason.TheVariants as reason
 
@@ -118,16 +124,6 @@ counted_more x buffer n counted within is = grind (arith, common_steps)
 
 -- the pieces
 
-abbrev pub AreSized : List (List ℕ) → Type 0
-AreSized pieces = All (λ (piece : List ℕ). (0 < length piece) × (length piece ≤ largest_piece)) pieces
-
-pub none_sized : AreSized []
-none_sized k d low = absurd (omega arith)
-
-pub more_sized : (pieces : List (List ℕ)) (buffer : List ℕ) {n : ℕ} → AreSized pieces → (n ≡ 0 → ⊥) → n ≤ length buffer
-    → length buffer ≤ largest_piece → AreSized (pieces ++ take n buffer ∷ [])
-more_sized pieces buffer sized some within most = grind (arith, common_steps)
-
 last_same : (before others : List (List ℕ)) (piece other : List ℕ) → before ++ piece ∷ [] ≡ others ++ other ∷ []
     → piece ≡ other
 last_same [] [] piece other is = cc
@@ -145,149 +141,141 @@ gave_last pieces size sources new can gave is before piece same = grind (arith, 
 
 -- each piece took one read, and there are no more pieces than bytes
 
-few_pieces : (pieces : List (List ℕ)) → AreSized pieces → length pieces ≤ length (concat pieces)
-few_pieces [] sized = omega arith
-few_pieces (piece ∷ pieces) sized =
-    let rest = few_pieces pieces (λ k byte within. sized (suc k) byte (omega arith)) in
-    omega (arith, (sized 0 piece (omega arith)).0, length-append piece (concat pieces))
+few_pieces : {run : TeeRun} {pieces : List (List ℕ)} {slots : List Slot} → Copied run pieces slots
+    → length pieces ≤ length (concat pieces)
+few_pieces (started new step) = omega arith
+few_pieces (one_more pieces piece old new so_far goes some few step) =
+    omega (
+      arith,
+      few_pieces so_far,
+      some,
+      length-append pieces (piece ∷ []),
+      ap length (joined_more pieces piece),
+      length-append (concat pieces) piece,
+    )
 
-pub reads_once : {x : List ℕ} (pieces : List (List ℕ)) {was now : ℕ} → x ≡ concat pieces → AreSized pieces
-    → length x < 2 ^ 63 → was ≡ length pieces → now ≡ counted was → now ≡ length pieces + 1
-reads_once pieces joined sized few so_far is = grind (arith, common_steps, few_pieces)
+pub reads_once : {run : TeeRun} {pieces : List (List ℕ)} {slots : List Slot} {was now : ℕ} → Copied run pieces slots
+    → length (concat pieces) < 2 ^ 63 → was ≡ length pieces → now ≡ counted was → now ≡ length pieces + 1
+reads_once so_far few same is = grind (arith, common_steps, few_pieces so_far)
 
-pub reads_more : {x : List ℕ} (pieces : List (List ℕ)) (piece : List ℕ) {was now : ℕ} → x ≡ concat pieces
-    → AreSized pieces → length x < 2 ^ 63 → was ≡ length pieces → now ≡ counted was
+pub reads_more : {run : TeeRun} {pieces : List (List ℕ)} (piece : List ℕ) {slots : List Slot} {was now : ℕ}
+    → Copied run pieces slots → length (concat pieces) < 2 ^ 63 → was ≡ length pieces → now ≡ counted was
     → now ≡ length (pieces ++ piece ∷ [])
-reads_more pieces piece joined sized few so_far is =
-    omega (arith, reads_once pieces joined sized few so_far is, length-append pieces (piece ∷ []))
+reads_more {pieces = pieces} piece so_far few same is =
+    omega (arith, reads_once so_far few same is, length-append pieces (piece ∷ []))
 
 -- the fault was reported, and the run has this status
-abbrev pub ToldSo : Bool → Calling → Fault → List Slot → List Slot → ℕ → Type 0
-ToldSo told calling fault mid new status = TellsOn told (tee_called calling) fault mid new
-    × (status ≡ status_after fault calling (output_reason mid fault))
+abbrev pub ToldSo : TeeRun → Fault → List Slot → List Slot → ℕ → Type 0
+ToldSo run fault mid new status = TellsOn run.told (tee_called run.calling) fault mid new
+    × (status ≡ status_after fault run.calling (output_reason mid fault))
 
-module _ {told_in told : Bool} {calling : Calling} {mode : Mode} {on_broken : OnBroken} {names : List (List ℕ)} where
+module _ {run : TeeRun} {told_in : Bool} where
   pub reads_copied : {content : Content} {source : Source} {slots : List Slot} {known : List Standing}
-      {fault : Option Fault} {came : List ℕ} {pieces : List (List ℕ)} {is_vain : Bool} → came ≡ concat pieces
-      → is_done on_broken known ≡ is_vain → AreSized pieces → length came < 2 ^ 63
-      → (fault ≡ Some (Read 0)) ⊎ (source.is_broken ≡ false) → (fault ≡ None → is_vain ≡ false → source.ended ≡ true)
-      → (told_in ≡ true → is_vain ≡ true → GaveLast pieces source)
-      → source.reads ≡ length pieces + (if is_vain then 0 else 1)
-      → IsRead content (LeavesOf told_in source) is_vain came fault
-      → Copies told calling mode on_broken names pieces [] slots known
-      → CopiesRead told_in told calling mode on_broken names content source slots known fault
-  reads_copied joined vain sized few met ended last reads read copies = grind (arith, common_steps)
+      {fault : Option Fault} {pieces : List (List ℕ)} {is_vain : Bool} → known ≡ standings_of slots
+      → is_done run.on_broken known ≡ is_vain → Copied run pieces slots
+      → ComesIn told_in content source is_vain pieces fault → CopiesRead run told_in content source slots fault
+  reads_copied {pieces = pieces} seen vain so_far comes = record {
+    pieces = pieces;
+    read = rw (← seen, vain) comes;
+    copied = so_far;
+  }
 
   -- the end
 
-  pub ends_copied : {content : Content} {source : Source} {pieces : List (List ℕ)}
-      {fault : Option Fault} {status : ℕ} {slots : List Slot} {before known : List Standing}
-      → status ≡ status_for on_broken known fault
-      → ComesIn told_in content source (is_done on_broken before) pieces fault
-      → HasCopied told calling mode on_broken names pieces fault before slots known
-      → EndsAs told_in told calling mode on_broken names content source slots status
-  ends_copied {pieces = pieces} {fault} is read left =
-      copied pieces fault left.first left.broke left.output left.error left.files (rw (← left.before_are) at read)
-      left.goes_on left.output_left left.files_left left.said left.are
-      (cc)
+  pub ends_copied : {content : Content} {source : Source} {fault : Option Fault} {status : ℕ}
+      {old mid new : List Slot} {known : List Standing} → status ≡ status_for run.on_broken known fault
+      → known ≡ standings_of new → CopiesRead run told_in content source old fault
+      → SaysTo run (said_of_input fault) old mid → ClosesAll run mid new
+      → EndsAs run told_in content source new status
+  ends_copied {fault = fault} {old = old} {mid} is seen read says closes =
+      copied read.pieces fault old mid read.read read.copied says closes
+      (is ∙ ap (λ those. status_for run.on_broken those fault) seen)
 
   -- there was no memory
 
-  ends_nowhere : {content : Content} {source : Source} {mid new : List Slot}
-      {fault : Fault} {status : ℕ} → fault ≡ Memory → mid ≡ streams → IsAsFound told_in content source
-      → ToldSo told calling fault mid new status
-      → EndsAs told_in told calling mode on_broken names content source new status
+  ends_nowhere : {content : Content} {source : Source} {mid new : List Slot} {fault : Fault} {status : ℕ}
+      → fault ≡ Memory → mid ≡ streams → IsAsFound told_in content source → ToldSo run fault mid new status
+      → EndsAs run told_in content source new status
   ends_nowhere {mid = mid} {new} {status = status} is at unread says =
-      let (tells, one) = subst (λ (those : Fault). ToldSo told calling those mid new status) is says in
+      let (tells, one) = subst (λ (those : Fault). ToldSo run those mid new status) is says in
       let said = tells standard_output standard_error [] at in
       no_room said.0 (said.0, (Other, said.1), refl) unread said.2 one
 
-  pub ends_at_once : {old new_sources : List Source} {first mid new : List Slot}
-      {fault : Fault} {status : ℕ} → fault ≡ Memory → IsFresh old → first ≡ streams → mid ≡ first → new_sources ≡ old
-      → ToldSo told calling fault mid new status
+  pub ends_at_once : {old new_sources : List Source} {first mid new : List Slot} {fault : Fault} {status : ℕ}
+      → fault ≡ Memory → IsFresh old → first ≡ streams → mid ≡ first → new_sources ≡ old
+      → ToldSo run fault mid new status
       → OfContent told_in (source_at old 0).left
-      (λ content. EndsAs told_in told calling mode on_broken names content (source_at new_sources 0) new status
+      (λ content. EndsAs run told_in content (source_at new_sources 0) new status
       × CameFrom told_in content (source_at new_sources 0))
   ends_at_once {old} {new_sources} {new = new} {status = status} is fresh at same sources says =
       let unread = ap (λ those. source_at those 0) (sources ∙ fresh.only) in
       of_content told_in (source_at old 0).left empty (source_at new_sources 0)
-      (λ content. EndsAs told_in told calling mode on_broken names content (source_at new_sources 0) new status)
+      (λ content. EndsAs run told_in content (source_at new_sources 0) new status)
       (λ _. ends_nowhere is (same ∙ at) (fresh.standard, unread, λ _. cc) says)
       (λ untold. ends_nowhere is (same ∙ at) (fresh.standard, unread, λ tells. absurd (cc)) says)
       (cc) (cc)
 
--- nothing broke
+-- no output broke
 
-pub sound_first : {X : Type 0} (first : Option X) (rest : Bool) → (is_none first && rest) ≡ true
-    → (first ≡ None) × (rest ≡ true)
-sound_first None rest is = (refl, is)
-sound_first (Some x) rest is = absurd (cc)
+pub read_whole : {content : Content} (Leaves : List ℕ → Type 0) {is_vain : Bool} {x : List ℕ} {fault : Option Fault}
+    → is_vain ≡ false → is_none fault ≡ true → IsRead content Leaves is_vain x fault → content.bytes ≡ x
+read_whole Leaves left sound (to_end x is _ _) = is
+read_whole Leaves left sound read = absurd (cc)
 
-pub nothing_in : (on_broken : OnBroken) (call : ℕ) (names : List (List ℕ)) (broke : List (Option Break))
-    → are_sound broke ≡ true → said_in on_broken call names broke ≡ []
-nothing_in on_broken call [] broke sound = refl
-nothing_in on_broken call (name ∷ names) [] sound = refl
-nothing_in on_broken call (name ∷ names) (None ∷ broke) sound = nothing_in on_broken call names broke sound
-nothing_in on_broken call (name ∷ names) (Some other ∷ broke) sound = absurd (cc)
+none_is : (one : Standing) (count : ℕ) → is_same Sound one ≡ false → any_is one (replicate count Sound) ≡ false
+none_is one zero differs = refl
+none_is one (suc count) differs = rw differs (none_is one count differs)
 
-pub nothing_before : (on_broken : OnBroken) (call : ℕ) (names : List (List ℕ)) (broke : List (Option Break))
-    → are_sound broke ≡ true → said_before on_broken call names broke ≡ []
-nothing_before on_broken zero names broke sound = refl
-nothing_before on_broken (suc call) names broke sound =
-    cc (nothing_before on_broken call names broke sound, nothing_in on_broken call names broke sound)
+none_ends : (on_broken : OnBroken) (count : ℕ)
+    → list_any (λ standing. ends_run standing on_broken) (replicate count Sound) ≡ false
+none_ends on_broken zero = refl
+none_ends on_broken (suc count) = none_ends on_broken count
 
-pub whole_output : (told : Bool) (pieces : List (List ℕ)) (first : Option Break) (output : Slot) → first ≡ None
-    → OutputLeft told pieces first output → output ≡ adds (told_of told (concat pieces)) standard_output
-whole_output told pieces _ _ is output_whole = refl
-whole_output told pieces _ _ is (output_cut _ _ _ n is_there within) = absurd (cc)
+-- a run in which nothing broke goes on
+pub sound_goes_on : (on_broken : OnBroken) {slots : List Slot} {count : ℕ} → HasStreams slots count → AreSound slots
+    → is_done on_broken (standings_of slots) ≡ false
+sound_goes_on on_broken {count = count} has sound = rw (sound_stand has sound, none_ends on_broken (suc count)) refl
 
-pub whole_files : (told : Bool) (mode : Mode) (pieces : List (List ℕ)) (names : List (List ℕ))
-    (broke : List (Option Break)) (files : List Slot) → are_sound broke ≡ true
-    → FilesLeft told mode pieces names broke files
-    → files ≡ map (λ name. closes (adds (told_of told (concat pieces)) (opened name mode))) names
-whole_files told mode pieces _ _ _ sound no_file = refl
-whole_files told mode pieces _ _ _ sound (one_file name names _ broke _ files file_whole rest) =
-    cc (whole_files told mode pieces names broke files sound rest)
-whole_files told mode pieces names broke files sound left = absurd (cc)
+-- its status says whether the reading ended well
+pub sound_status : (on_broken : OnBroken) {slots : List Slot} {count : ℕ} (fault : Option Fault)
+    → HasStreams slots count → AreSound slots
+    → status_for on_broken (standings_of slots) fault ≡ (if is_none fault then 0 else 1)
+sound_status on_broken {count = count} fault has sound =
+    rw (sound_stand has sound, none_is Gone (suc count) refl, none_is Broken (suc count) refl) (by (is_none fault)) where
+      by : (ended : Bool) → ◌≡◌ {A = ℕ} (if not ended || false then 1 else 0) (if ended then 0 else 1)
+      by true = refl
+      by false = refl
 
-module _ {told : Bool} {pieces : List (List ℕ)} where
-  -- outputs of which none is broken never broke
+none_faulty : (ended : Bool) → ◌≡◌ {A = ℕ} (if ended then 0 else 1) 0 → ended ≡ true
+none_faulty true is = refl
+none_faulty false is = absurd (omega arith)
 
-  output_sound : {first : Option Break} {output : Slot} → output.is_broken ≡ false
-      → OutputLeft told pieces first output → first ≡ None
-  output_sound whole output_whole = refl
-  output_sound whole (output_cut _ _ _ n is _) = absurd (cc)
+-- an output that is neither gone nor broken otherwise is sound
+sound_as : (slot : Slot) → is_same (stands_as slot) Broken ≡ false → is_same (stands_as slot) Gone ≡ false
+    → slot.is_broken ≡ false
+sound_as slot whole left = by slot.is_broken slot.reason whole left where
+  by : (broken : Bool) (why : Reason) → is_same (if broken then lost_for why else Sound) Broken ≡ false
+      → is_same (if broken then lost_for why else Sound) Gone ≡ false → broken ≡ false
+  by false why whole left = refl
+  by true reason.Gone whole left = absurd (cc)
+  by true why whole left = absurd (cc)
 
-  file_sound : {mode : Mode} {name : List ℕ} {first : Option Break} {file : Slot}
-      → file.is_broken ≡ false → FileLeft told mode pieces name first file → first ≡ None
-  file_sound whole file_whole = refl
-  file_sound whole left = absurd (cc)
+sound_if : (files : List Slot) → any_is Broken (map stands_as files) ≡ false
+    → any_is Gone (map stands_as files) ≡ false → (n : ℕ) → (slot_at files n).is_broken ≡ false
+sound_if [] whole left n = refl
+sound_if (file ∷ files) whole left zero = sound_as file (or_parts _ _ whole).0 (or_parts _ _ left).0
+sound_if (file ∷ files) whole left (suc n) = sound_if files (or_parts _ _ whole).1 (or_parts _ _ left).1 n
 
-  files_sound : {mode : Mode} {names : List (List ℕ)} {broke : List (Option Break)}
-      {files : List Slot} → ((place : ℕ) → (slot_at files place).is_broken ≡ false)
-      → FilesLeft told mode pieces names broke files → are_sound broke ≡ true
-  files_sound whole no_file = refl
-  files_sound whole (one_file name _ _ _ file _ left rest) =
-      rw (file_sound (whole 0) left) (files_sound (λ place. whole (suc place)) rest)
+pub none_broke : {slots : List Slot} {count : ℕ} → HasStreams slots count → any_is Broken (standings_of slots) ≡ false
+    → any_is Gone (standings_of slots) ≡ false → AreSound slots
+none_broke has whole left place differs = rw has.are (by place differs) where
+  those : (n : ℕ) → (slot_at (has.output ∷ has.files) n).is_broken ≡ false
+  those = sound_if (has.output ∷ has.files) (rw has.are at whole) (rw has.are at left)
 
-  pub all_sound_if : {mode : Mode} {names : List (List ℕ)} {first : Option Break}
-      {broke : List (Option Break)} {output error : Slot} {files new : List Slot} → OutputLeft told pieces first output
-      → FilesLeft told mode pieces names broke files → new ≡ output ∷ error ∷ files → AreSound new
-      → are_sound (first ∷ broke) ≡ true
-  all_sound_if left rest is whole =
-      let those = rw is at whole in rw (output_sound (those 0 (λ same. omega arith)) left)
-      (files_sound (λ place. those (suc (suc place)) (λ same. omega arith)) rest)
-
--- if no output is gone and none failed, nothing broke
-pub sound_if : (broke : List (Option Break)) → any_is Broken (map standing_of broke) ≡ false
-    → any_is Gone (map standing_of broke) ≡ false → are_sound broke ≡ true
-sound_if [] whole left = refl
-sound_if (None ∷ broke) whole left = sound_if broke whole left
-sound_if (Some one ∷ broke) whole left = by one.why whole left where
-  by : (why : Reason) → any_is Broken (lost_for why ∷ map standing_of broke) ≡ false
-      → any_is Gone (lost_for why ∷ map standing_of broke) ≡ false → false ≡ true
-  by reason.Gone none left = absurd (cc)
-  by why none left = absurd (cc)
+  by : (place : ℕ) → (place ≡ 1 → ⊥) → (slot_at (has.output ∷ has.error ∷ has.files) place).is_broken ≡ false
+  by zero differs = those 0
+  by (suc zero) differs = absurd (differs refl)
+  by (suc (suc n)) differs = those (suc n)
 
 gone_fails : (on_broken : OnBroken) (failed : Bool) → forgives on_broken ≡ false → gone_status on_broken failed ≡ 0 → ⊥
 gone_fails Warn failed strict zero_is = omega arith
@@ -296,94 +284,100 @@ gone_fails WarnNoPipe failed strict zero_is = false≢true (sym strict)
 gone_fails ExitNoPipe failed strict zero_is = false≢true (sym strict)
 gone_fails Signal failed strict zero_is = omega arith
 
-status_zero : (on_broken : OnBroken) (broke : List (Option Break)) (fault : Option Fault) → forgives on_broken ≡ false
-    → status_of on_broken broke fault ≡ 0 → (is_none fault ≡ true) × (are_sound broke ≡ true)
-status_zero on_broken broke fault strict = by (any_is Gone (map standing_of broke)) (any_is Broken (map standing_of broke)) (is_none fault) refl refl refl where
-  by : (gone broken ended : Bool) → any_is Gone (map standing_of broke) ≡ gone
-      → any_is Broken (map standing_of broke) ≡ broken → is_none fault ≡ ended
+status_zero : (on_broken : OnBroken) {slots : List Slot} {count : ℕ} (fault : Option Fault) → HasStreams slots count
+    → forgives on_broken ≡ false → status_for on_broken (standings_of slots) fault ≡ 0
+    → (is_none fault ≡ true) × AreSound slots
+status_zero on_broken {slots} fault has strict = by (any_is Gone (standings_of slots)) (any_is Broken (standings_of slots)) (is_none fault) refl refl refl where
+  by : (gone broken ended : Bool) → any_is Gone (standings_of slots) ≡ gone
+      → any_is Broken (standings_of slots) ≡ broken → is_none fault ≡ ended
       → (if gone then gone_status on_broken (not ended || broken) else if not ended || broken then 1 else 0) ≡ 0
-      → (ended ≡ true) × (are_sound broke ≡ true)
-  by true broken ended is_gone is_broken is_ended zero_is = grind (arith, common_steps, gone_fails)
+      → (ended ≡ true) × AreSound slots
+  by true broken ended is_gone is_broken is_ended zero_is =
+      absurd (gone_fails on_broken (not ended || broken) strict zero_is)
   by false true true is_gone is_broken is_ended zero_is = absurd (omega arith)
   by false broken false is_gone is_broken is_ended zero_is = absurd (omega arith)
-  by false false true is_gone is_broken is_ended zero_is = (refl, sound_if broke is_broken is_gone)
-
-read_whole : {content : Content} (Leaves : List ℕ → Type 0) {is_vain : Bool} {x : List ℕ} {fault : Option Fault}
-    → is_vain ≡ false → is_none fault ≡ true → IsRead content Leaves is_vain x fault → content.bytes ≡ x
-read_whole Leaves left sound (to_end x is _ _) = is
-read_whole Leaves left sound read = absurd (cc)
-
--- if nothing broke, the run goes on
-none_ends : (on_broken : OnBroken) (call : ℕ) (broke : List (Option Break)) → are_sound broke ≡ true
-    → list_any (λ standing. ends_run standing on_broken) (standings_before call broke) ≡ false
-none_ends on_broken call [] sound = refl
-none_ends on_broken call (None ∷ broke) sound = none_ends on_broken call broke sound
-none_ends on_broken call (Some broke ∷ rest) sound = absurd (cc)
-
-pub sound_goes_on : (on_broken : OnBroken) (call : ℕ) (first : Option Break) (broke : List (Option Break))
-    → are_sound (first ∷ broke) ≡ true → is_done on_broken (standings_before call (first ∷ broke)) ≡ false
-sound_goes_on on_broken call first broke sound = rw (none_ends on_broken call (first ∷ broke) sound, (sound_first first (are_sound broke) sound).0) refl
-
--- if nothing broke, the status says whether the reading ended well
-none_lost : (one : Standing) → is_same Sound one ≡ false → (broke : List (Option Break)) → are_sound broke ≡ true
-    → any_is one (map standing_of broke) ≡ false
-none_lost one differs [] sound = refl
-none_lost one differs (None ∷ broke) sound = rw differs (none_lost one differs broke sound)
-none_lost one differs (Some other ∷ broke) sound = absurd (cc)
-
-pub sound_status : (on_broken : OnBroken) (broke : List (Option Break)) (fault : Option Fault) → are_sound broke ≡ true
-    → status_of on_broken broke fault ≡ (if is_none fault then 0 else 1)
-sound_status on_broken broke fault sound = rw (none_lost Gone refl broke sound, none_lost Broken refl broke sound) (by (is_none fault)) where
-  by : (ended : Bool) → ◌≡◌ {A = ℕ} (if not ended || false then 1 else 0) (if ended then 0 else 1)
-  by true = refl
-  by false = refl
-
-none_faulty : (ended : Bool) → ◌≡◌ {A = ℕ} (if ended then 0 else 1) 0 → ended ≡ true
-none_faulty true is = refl
-none_faulty false is = absurd (omega arith)
+  by false false true is_gone is_broken is_ended zero_is = (refl, none_broke has is_broken is_gone)
 
 -- a run with the status 0 met no fault, and nothing broke; if it forgives, that is so if its outputs are sound
-pub well_of : {told : Bool} {mode : Mode} (on_broken : OnBroken) {pieces names : List (List ℕ)} (fault : Option Fault)
-    {first : Option Break} {broke : List (Option Break)} {output error : Slot} {files new : List Slot}
-    → OutputLeft told pieces first output → FilesLeft told mode pieces names broke files → new ≡ output ∷ error ∷ files
-    → (forgives on_broken ≡ true → AreSound new) → status_of on_broken (first ∷ broke) fault ≡ 0
-    → (is_none fault ≡ true) × (are_sound (first ∷ broke) ≡ true)
-well_of on_broken fault {first} {broke} left rest at sound zero_is = elim (cases_Bool (forgives on_broken)) [
-  | inl forgiving ↦ let all = all_sound_if left rest at (sound forgiving) in
-      (none_faulty (is_none fault) (cc (sound_status on_broken (first ∷ broke) fault all)), all)
-  | inr strict ↦ status_zero on_broken (first ∷ broke) fault strict zero_is
+pub well_of : (on_broken : OnBroken) {slots : List Slot} {count : ℕ} (fault : Option Fault) → HasStreams slots count
+    → (forgives on_broken ≡ true → AreSound slots) → status_for on_broken (standings_of slots) fault ≡ 0
+    → (is_none fault ≡ true) × AreSound slots
+well_of on_broken fault has sound zero_is = elim (cases_Bool (forgives on_broken)) [
+  | inl forgiving ↦ let all = sound forgiving in
+      (none_faulty (is_none fault) (sym (sound_status on_broken fault has all) ∙ zero_is), all)
+  | inr strict ↦ status_zero on_broken fault has strict zero_is
 ]
 
-module _ {told_in told : Bool} {calling : Calling} {mode : Mode} {on_broken : OnBroken} {names : List (List ℕ)} where
-  pub whole_if : {content : Content} {source : Source} {new : List Slot} {status : ℕ}
-      → status ≡ 0 → (forgives on_broken ≡ true → AreSound new)
-      → EndsAs told_in told calling mode on_broken names content source new status
-      → new ≡ all_copied told mode names content.bytes
-  whole_if zero_is sound (no_room _ said left at one) = absurd (omega arith)
-  whole_if zero_is sound (copied pieces fault first broke output error files read some output_left files_left said at is) =
-      let good = well_of on_broken fault output_left files_left at sound (sym is ∙ zero_is) in let sounds = sound_first first (are_sound broke) good.1 in
-      let silent = quiet fault (length pieces) (first ∷ broke) good.0 good.1 in
-      let made : error ≡ standard_error = rw silent at said in
-      rw (
-        at,
-        whole_output told pieces first output sounds.0 output_left,
-        made,
-        whole_files told mode pieces names broke files sounds.1 files_left,
-        read_whole _ (sound_goes_on on_broken _ first broke good.1) good.0 read.read,
-      ) refl where
-        quiet : (fault : Option Fault) (pieces : ℕ) (broke : List (Option Break)) → is_none fault ≡ true
-            → are_sound broke ≡ true → messages_of on_broken names broke pieces fault ≡ []
-        quiet None pieces broke ended sound =
-            cc (
-              nothing_before on_broken (suc pieces) (output_names names) broke sound,
-              nothing_in on_broken (suc pieces)
-                  (output_names names) broke sound,
-            )
-        quiet (Some _) pieces broke ended sound = absurd (cc)
+-- the end of a run
+module _ {run : TeeRun} {pieces : List (List ℕ)} {messages : List Message} {old mid new : List Slot}
+    (so_far : Copied run pieces old) (says : SaysTo run messages old mid) (ends : ClosesAll run mid new) where
+  no_file : IsFileOf run.names 1 → ⊥
+  no_file file = omega (arith, file.0)
 
-  pub whole_of : (there : Content) {source : Source} {new : List Slot} {status : ℕ}
-      → told_in ≡ true → status ≡ 0 → (forgives on_broken ≡ true → AreSound new)
-      → OfContent told_in there
-      (λ content. EndsAs told_in told calling mode on_broken names content source new status
-      × CameFrom told_in content source) → new ≡ all_copied told mode names there.bytes
+  stands_mid : Stands run (concat pieces) mid
+  stands_mid = stands_said (stands_of so_far) says
+
+  pub end_streams : HasStreams new (length run.names)
+  end_streams = streams_next (stands_streams stands_mid) no_file ends
+
+  module _ (sound : AreSound new) where
+    sound_before : AreSound mid
+    sound_before = sound_old ends sound closed_broken (is_between 2 (length run.names + 2))
+
+    pub old_sound : AreSound old
+    old_sound place differs = rw (said_place says place differs) at (sound_before place differs)
+
+    abbrev bytes : List ℕ
+    bytes = told_of run.told (concat pieces)
+
+    has_copied : (n : ℕ) → n ≤ length run.names → output_at mid n ≡ adds bytes (start_of run n)
+    has_copied n within = has_sound (stands_mid.each n within) (sound_before (output_slot n) (output_of run.names n within).0)
+
+    closed : {before after : Slot} → Closes before after → after.is_broken ≡ false → after ≡ closes before
+    closed (is_closed well) still = refl
+    closed (fails_to_close well why) still = absurd (cc)
+    closed (was_broken broken) still = absurd (cc)
+
+    pub all_sound : new ≡ adds bytes standard_output ∷ says.error
+        ∷ map (λ name. closes (adds bytes (opened name run.mode))) run.names
+    all_sound = ext_get_or no_slot _ _ (streams_count end_streams ∙ omega (
+      arith,
+      length-map run.names
+          (λ name. closes (adds bytes (opened name run.mode))),
+    )) at where
+      at : (place : ℕ) → place < length new → slot_at new place ≡ slot_at (adds bytes standard_output ∷ says.error
+          ∷ map (λ name. closes (adds bytes (opened name run.mode))) run.names) place
+      at zero within = said_place ends.said 0 (λ is. omega (arith, is)) ∙ ends.changes.others 0 (λ file. omega (arith, file.0))
+          ∙ has_copied 0 (omega arith)
+      at (suc zero) within = sound_error ends sound (streams_kept (stands_streams stands_mid) ends.changes.count
+          (ends.changes.others 1 no_file)) no_file ∙ said_error says (omega (arith, streams_count (stands_streams (stands_of so_far))))
+      at (suc (suc n)) within =
+          let file : IsFileOf run.names (suc (suc n)) = (omega arith, omega (arith, within, streams_count end_streams)) in
+          let same = said_place ends.said (suc (suc n)) (λ is. omega (arith, is)) in
+          same ∙ closed (ends.changes.each (suc (suc n)) file) (rw same at (sound (suc (suc n)) (λ is. omega (arith, is))))
+          ∙ ap closes (has_copied (suc n) (omega (arith, file.1)))
+          ∙ sym (mapped_at (λ name. closes (adds bytes (opened name run.mode))) run.names n (omega (arith, file.1)))
+
+    pub sound_says : SaysAll run.told (tee_called run.calling) messages standard_error says.error
+    sound_says = rw (sound_said so_far old_sound) at says.said
+
+pub said_none : (fault : Option Fault) → is_none fault ≡ true → said_of_input fault ≡ []
+said_none None ended = refl
+said_none (Some one) ended = absurd (cc)
+
+module _ {run : TeeRun} {told_in : Bool} where
+  pub whole_if : {content : Content} {source : Source} {new : List Slot} {status : ℕ} → status ≡ 0
+      → (forgives run.on_broken ≡ true → AreSound new) → EndsAs run told_in content source new status
+      → new ≡ all_copied run.told run.mode run.names content.bytes
+  whole_if zero_is sound (no_room _ said left at one) = absurd (omega arith)
+  whole_if zero_is sound (copied pieces fault old mid comes so_far says ends is) =
+      let good = well_of run.on_broken fault (end_streams so_far says ends) sound (sym is ∙ zero_is) in
+      let goes = sound_goes_on run.on_broken (stands_streams (stands_of so_far)) (old_sound so_far says ends good.1) in
+      let quiet : says.error ≡ standard_error = rw (said_none fault good.0) at (sound_says so_far says ends good.1) in
+      rw (all_sound so_far says ends good.1, quiet, read_whole _ goes good.0 comes.read) refl
+
+  pub whole_of : (there : Content) {source : Source} {new : List Slot} {status : ℕ} → told_in ≡ true → status ≡ 0
+      → (forgives run.on_broken ≡ true → AreSound new)
+      → OfContent told_in there (λ content. EndsAs run told_in content source new status × CameFrom told_in content source)
+      → new ≡ all_copied run.told run.mode run.names there.bytes
   whole_of there tells zero_is sound (content, is, holds) = cc (whole_if zero_is sound holds.0, is tells)

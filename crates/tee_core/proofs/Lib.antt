@@ -1,5 +1,6 @@
 pub mod ChangeLemmas
 pub mod CopyLemmas
+pub mod TellLemmas
 pub mod EndLemmas
 pub mod StartLemmas
 pub mod AgreedLemmas

@@ -1,31 +1,28 @@
 -- Lemmas on a run's start: files that are opened one after another, and the messages for those that could not be.
 use Rattle.std.{
-  proofs.lemmas.{Grind.common_steps, List.{append-nil, get_or-append-add, get_or_append_left, length-map}},
-  proofs.Common.{◌≡◌, ℕ, ◌+◌, ◌-◌, ◌^◌, ◌<◌, ◌≤◌, zero, suc, List, [], ◌∷◌, ◌++◌, length, map, take, drop},
-  proofs.Common.{get_or, Bor, true, inl, inr, refl, sym, ◌∙◌, ap, arith, append_assoc, length-append, replicate},
-  proofs.Common.{Bool, false, Option, Some, None},
-  specs.List.list_any,
-}
-use Rattle.ports_core.{
-  specs.Slot.{Slot, no_slot, slot_at, opened, unopened, is_open, FailsToOpen, broke, streams},
-  specs.declared.{on_broken.OnBroken.OnBroken, calling.Calling.Calling, slot.Mode.Mode},
-  specs.Streams.{standard_output, standard_error},
-  proofs.Runs.adds-nil,
-}
-use Rattle.tee_core.specs.{
-  Opening.{OpensAs, is_opened, is_unopened, OpensEach, no_more, one_more, Opens, OpensSome},
-  inner.{
-    Opening.OpensOne,
-    Steps.{Copies, FileHas, has_all, has_none, HasStreams, IsTeeOf, SaysTo, standings_of, said_since},
+  proofs.lemmas.{
+    Grind.common_steps,
+    Bool.cases_lt,
+    List.{append-nil, get_or-append-add, get_or_append_left, get_or_past, length-map, length-replicate},
   },
-  Outputs.{IsOutput, IsReady, IsUsable},
-  TeeState.TeeState,
-  Run.{Break, EachFile, no_file, one_file, output_whole, ends_run, fault_in, output_names, standing_of},
-  Run.{standings_before, stands_as},
-  declared.standing.Standing.{Standing, TheVariants.Sound},
+  proofs.Common.{◌≡◌, ℕ, ◌+◌, ◌-◌, ◌^◌, ◌<◌, ◌≤◌, zero, suc, List, [], ◌∷◌, ◌++◌, length, map, take, drop},
+  proofs.Common.{get_or, Bor, true, false, inl, inr, refl, sym, ◌∙◌, ap, arith, append_assoc, length-append, replicate},
 }
-use Rattle.tee_core.proofs.{
-  CopyLemmas.{AllMark, Marked, all_marked, break_now, marked_none, marked_now, none_marked, said_marked, stood},
+use Rattle.ports_core.specs.{
+  Slot.{Slot, no_slot, slot_at, opened, unopened, is_open, FailsToOpen, broke, streams},
+  declared.slot.Mode.Mode,
+}
+use Rattle.tee_core.{
+  specs.{
+    Opening.{OpensAs, is_opened, is_unopened, OpensEach, no_more, one_more, Opens, OpensSome},
+    inner.{Opening.OpensOne, Steps.{HasStreams, IsTeeOf}},
+    Outputs.{ChangesEach, IsOutput, IsReady, IsUsable},
+    TeeState.TeeState,
+    Run.{Copied, SaysTo, TeeRun, all_opened, said_since, standings_of, stands_as, started},
+    Run.IsFileOf,
+    declared.standing.Standing.{Standing, TheVariants.Sound},
+  },
+  proofs.CopyLemmas.mapped_at,
 }
 use Rattle.ports_core.specs.declared.fault.Fault.TheVariants as fault
 
@@ -160,66 +157,63 @@ pub in_range : {mode : Mode} {names : List (List ℕ)} {old new : List Slot} →
     → length new ≡ length old + length names
 in_range opens = grind (arith, common_steps, length-since)
 
-file_starts : (told : Bool) {mode : Mode} {name : List ℕ} {file : Slot} → OpensAs mode name file
-    → Marked (FileHas told mode [] name) 0 None file
-file_starts told {mode} {name} is_opened = (None, rw (← (adds-nil told (opened name mode))) has_all, marked_none)
-file_starts told (is_unopened kept why named) = (Some (break_now 0 why), has_none kept named, marked_now why)
-
-files_start : (told : Bool) {mode : Mode} {names : List (List ℕ)} {files : List Slot} → OpensEach mode names files
-    → (broke : List (Option Break)) × EachFile (FileHas told mode []) names broke files
-    × AllMark 0 (replicate (length names) None) broke (map stands_as files)
-files_start told no_more = ([], no_file, none_marked)
-files_start told (one_more name _ file _ one rest) =
-    let here = file_starts told one in
-    let there = files_start told rest in
-    (here.0 ∷ there.0, one_file _ _ _ _ _ _ here.1 there.1, all_marked _ _ _ _ _ _ here.2 there.2)
-
 pub opened_streams : {mode : Mode} {names : List (List ℕ)} {slots : List Slot} → Opens mode names streams slots
     → HasStreams slots (length names)
 opened_streams opens = grind (arith, common_steps, length-since)
 
--- nothing broke before a run
+-- the files begin as they are if each can be opened, or as outputs that are broken
 
-none_before : (on_broken : OnBroken) (whens : List (Option Break))
-    → list_any (λ standing. ends_run standing on_broken) (standings_before 0 whens) ≡ false
-none_before on_broken [] = refl
-none_before on_broken (None ∷ whens) = none_before on_broken whens
-none_before on_broken (Some lost ∷ whens) = grind (arith, common_steps, none_before on_broken whens)
+opens_at : {mode : Mode} {names : List (List ℕ)} {slots : List Slot} (n : ℕ) → OpensEach mode names slots
+    → n < length names → OpensAs mode (get_or names n []) (slot_at slots n)
+opens_at n no_more within = absurd (omega arith)
+opens_at zero (one_more name names slot slots one rest) within = one
+opens_at (suc n) (one_more name names slot slots one rest) within = opens_at n rest (omega arith)
 
-standing_none : (count : ℕ) → map standing_of (replicate count None) ≡ replicate count Sound
-standing_none zero = refl
-standing_none (suc count) = cc (standing_none count)
+opened_all : (run : TeeRun) {mid : List Slot} → Opens run.mode run.names streams mid
+    → ChangesEach (λ file now. OpensAs file.mode file.name now) (IsFileOf run.names) (all_opened run) mid
+opened_all run {mid} opens = rw opens.slots (record {
+  count = omega (arith, many, length-map run.names (λ name. opened name run.mode));
+  each = each;
+  others = others;
+}) where
+  many : length opens.since ≡ length run.names
+  many = length-since run.names opens.since opens.each
 
-pub starts : (told : Bool) {calling : Calling} {mode : Mode} (on_broken : OnBroken) {names : List (List ℕ)}
-    {old new : List Slot} {known nows : List Standing} → Opens mode names streams old
-    → known ≡ replicate (length names + 1) Sound
-    → SaysTo told calling (said_since on_broken (fault_in 0) (output_names names) known nows) old new
-    → nows ≡ standings_of old → Copies told calling mode on_broken names [] [] new nows
-starts told on_broken {names} {known = known} {nows} opens unknown says sees =
-    let known_is : known ≡ Sound ∷ replicate (length names) Sound = unknown
-    ∙ ap (λ n. replicate n Sound) (let e : length names + 1 ≡ suc (length names) = omega arith in e) in
-    let stand : nows ≡ standings_of (standard_output ∷ standard_error ∷ opens.since) = cc in
-    let files = files_start told opens.each in
-    let marked = all_marked None None Sound _ files.0 (map stands_as opens.since) marked_none files.2 in
-    let known_so = map standing_of (None ∷ replicate (length names) None) in
-    let unbroken : known ≡ known_so = cc (standing_none (length names)) in
-    let says_since = said_since on_broken (fault_in 0) (output_names names) in
-    record {
-      output = standard_output;
-      error = says.0;
-      files = opens.since;
-      first = None;
-      broke = files.0;
-      are = cc;
-      output_has = rw (← (adds-nil told standard_output)) output_whole;
-      files_have = files.1;
-      said = rw (ap (λ those. says_since those nows) unbroken ∙ ap (says_since known_so) stand
-          ∙ sym (said_marked on_broken (output_names names) marked) ∙ sym (append-nil _)) at
-          (rw (ap (λ those. slot_at those 1) opens.slots) at says.1);
-      known_are = stand ∙ (stood marked).3;
-      goes_on = rw (none_before on_broken files.0) refl;
-      are_known = (stood marked).2 ∙ sym stand;
-    }
+  each : (place : ℕ) → IsFileOf run.names place
+      → OpensAs (slot_at (all_opened run) place).mode (slot_at (all_opened run) place).name
+      (slot_at (streams ++ opens.since) place)
+  each zero file = absurd (omega (arith, file.0))
+  each (suc zero) file = absurd (omega (arith, file.0))
+  each (suc (suc n)) file = rw (mapped_at (λ name. opened name run.mode) run.names n (omega (arith, file.1)))
+      (opens_at n opens.each (omega (arith, file.1)))
+
+  others : (place : ℕ) → (IsFileOf run.names place → ⊥)
+      → slot_at (streams ++ opens.since) place ≡ slot_at (all_opened run) place
+  others zero none = refl
+  others (suc zero) none = refl
+  others (suc (suc n)) none = elim (cases_lt n (length run.names)) [
+    | inl within ↦ absurd (none (omega arith, omega (arith, within)))
+    | inr past ↦ get_or_past opens.since n no_slot (omega (arith, many, past)) ∙ sym
+        (get_or_past (map (λ name. opened name run.mode) run.names) n no_slot (omega (arith, past, length-map run.names (λ name. opened name run.mode))))
+  ]
+
+stand_sound : (mode : Mode) (names : List (List ℕ))
+    → map stands_as (map (λ name. opened name mode) names) ≡ replicate (length names) Sound
+stand_sound mode [] = refl
+stand_sound mode (name ∷ names) = cc (stand_sound mode names)
+
+pub starts : (run : TeeRun) {old new : List Slot} {known nows : List Standing} → Opens run.mode run.names streams old
+    → known ≡ replicate (length run.names + 1) Sound
+    → SaysTo run (said_since run (fault.Open 0) known nows (length known)) old new
+    → nows ≡ standings_of old → Copied run [] new
+starts run {old} {new} {known} opens unknown says sees = started new (record {
+  mid = old;
+  changes = opened_all run opens;
+  said = rw (ap length unknown ∙ length-replicate (length run.names + 1) Sound, known_is, sees) at says;
+}) where
+  known_is : known ≡ standings_of (all_opened run)
+  known_is = unknown ∙ ap (λ n. replicate n Sound) (let e : length run.names + 1 ≡ suc (length run.names) = omega arith in e)
+      ∙ sym (ap (λ those. Sound ∷ those) (stand_sound run.mode run.names))
 
 pub length-names : (names : List (Bor (List ℕ))) {known : List Standing} → known ≡ replicate (length names + 1) Sound
     → known ≡ replicate (length (map (λ (name : Bor (List ℕ)). name.now) names) + 1) Sound

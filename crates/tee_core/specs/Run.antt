@@ -1,11 +1,11 @@
--- What a run of `tee` leaves, by its input and by what broke when.
+-- What a run of `tee` leaves, step by step.
 use Rattle.std.specs.{
-  Prelude.{is_none, ◌≡◌, ℕ, ◌≤◌, ◌<◌, ◌^◌, zero, suc, ◌==◌, ◌&&◌, ◌||◌, ◌+◌, not, nat_lt, All, Bool, true},
-  Prelude.{false, List, [], ◌∷◌, ◌++◌, length, map, take, Option, Some, None, ◌⊎◌, codes, if◌then◌else◌},
+  Prelude.{is_none, ◌≡◌, ℕ, ◌≤◌, ◌<◌, ◌^◌, ◌||◌, ◌+◌, not, Bool, true, false, List, [], ◌∷◌, ◌++◌, length, map},
+  Prelude.{zero, suc, get_or, Option, Some, None, ◌⊎◌, codes, if◌then◌else◌},
   List.{concat, list_any},
 }
 use Rattle.ports_core.specs.{
-  Slot.{Slot, opened, slot_at, unopened, adds, breaks, closes, told_of},
+  Slot.{Slot, adds, changed_at, closes, opened, slot_at, told_of},
   Inputs.largest_piece,
   Source.{Content, Source, source_of},
   Text.{Message, message_of},
@@ -18,20 +18,24 @@ use Rattle.ports_core.specs.{
   declared.fault.Fault.{Fault, TheVariants.{Memory, Write, Read, Open, TooLong}},
   Streams.{standard_output, standard_error, streams_with},
 }
-use Rattle.tee_core.specs.declared.standing.Standing.{Standing, TheVariants.{Sound, Broken, Gone}}
+use Rattle.tee_core.specs.{
+  declared.standing.Standing.{Standing, TheVariants.{Sound, Broken, Gone}},
+  Opening.OpensAs,
+  Outputs.{ChangesEach, Closes, Gets},
+}
 use Rattle.ports_core.specs.declared.reason.Reason.TheVariants as reason
 
 -- who speaks in the messages of `tee`
 abbrev pub tee_called : Calling → Speaker
 tee_called calling = record { calling = calling; tool = Tee }
 
--- The calls of a run are numbered: call 0 opens the files, one call follows for each piece of the input, and the last
--- one closes the files. What broke when is a list: for standard output and then for each file, how it broke, if it did.
-
--- an output broke in this call, for this reason
-pub record Break : Type 0 where
-  pub call : ℕ
-  pub why : Reason
+-- what is asked of a run, and whether its outputs tell their bytes
+pub record TeeRun : Type 0 where
+  pub told : Bool
+  pub calling : Calling
+  pub mode : Mode
+  pub on_broken : OnBroken
+  pub names : List (List ℕ)
 
 -- how an output stands that broke for this reason: it is gone if its reader is gone
 abbrev pub lost_for : Reason → Standing
@@ -42,18 +46,11 @@ lost_for why = Broken
 abbrev pub stands_as : Slot → Standing
 stands_as slot = if slot.is_broken then lost_for slot.reason else Sound
 
-abbrev pub standing_of : Option Break → Standing
-standing_of None = Sound
-standing_of (Some broke) = lost_for broke.why
-
--- how the outputs stand by what broke before this call
-
-abbrev pub standing_before : ℕ → Option Break → Standing
-standing_before call None = Sound
-standing_before call (Some broke) = if nat_lt broke.call call then lost_for broke.why else Sound
-
-abbrev pub standings_before : ℕ → List (Option Break) → List Standing
-standings_before call broke = map (standing_before call) broke
+-- how the outputs stand: standard output, and then the files; standard error stands between them
+abbrev pub standings_of : List Slot → List Standing
+standings_of [] = []
+standings_of (output ∷ []) = []
+standings_of (output ∷ error ∷ files) = stands_as output ∷ map stands_as files
 
 -- whether some output stands so
 
@@ -92,48 +89,36 @@ is_told on_broken Sound = false
 is_told on_broken Broken = true
 is_told on_broken Gone = not (is_quiet on_broken)
 
--- whether an output broke in this call, and there is a message for it
-abbrev pub tells_in : OnBroken → ℕ → Option Break → Bool
-tells_in on_broken call None = false
-tells_in on_broken call (Some broke) = broke.call == call && is_told on_broken (lost_for broke.why)
-
--- the fault of an output that broke in this call; no message has the number of its slot
-abbrev pub fault_in : ℕ → Fault
-fault_in zero = Open 0
-fault_in (suc call) = Write 0
+-- whether there is a message for an output that stood as the first says, and now stands as the second says
+abbrev pub tells : OnBroken → Standing → Standing → Bool
+tells on_broken Sound now = is_told on_broken now
+tells on_broken was now = false
 
 -- what messages call the outputs
 abbrev pub output_names : List (List ℕ) → List (List ℕ)
 output_names names = codes "standard output" ∷ names
 
--- the messages for the outputs that broke in this call, in the outputs' order
-abbrev pub said_in : OnBroken → ℕ → List (List ℕ) → List (Option Break) → List Message
-said_in on_broken call [] broke = []
-said_in on_broken call (name ∷ names) [] = []
-said_in on_broken call (name ∷ names) (first ∷ broke) = if tells_in on_broken call first
-    then message_of (fault_in call) name ∷ said_in on_broken call names broke
-    else said_in on_broken call names broke
+-- the messages for those of the first n outputs that broke since, in their order
+abbrev pub said_since : TeeRun → Fault → (was now : List Standing) → ℕ → List Message
+said_since run fault was now zero = []
+said_since run fault was now (suc n) = said_since run fault was now n
+    ++ (if tells run.on_broken (get_or was n Sound) (get_or now n Sound)
+    then message_of fault (get_or (output_names run.names) n []) ∷ [] else [])
 
--- the messages for the calls before this call, one call after another
-abbrev pub said_before : OnBroken → ℕ → List (List ℕ) → List (Option Break) → List Message
-said_before on_broken zero names broke = []
-said_before on_broken (suc call) names broke =
-    said_before on_broken call names broke ++ said_in on_broken call names broke
+-- the messages for all outputs that broke in a step
+abbrev pub said_in : TeeRun → Fault → (old new : List Slot) → List Message
+said_in run fault old new = said_since run fault (standings_of old) (standings_of new) (length run.names + 1)
 
 -- the message for the fault that ended the reading, if one did
 abbrev pub said_of_input : Option Fault → List Message
 said_of_input None = []
 said_of_input (Some fault) = message_of fault (codes "standard input") ∷ []
 
--- all messages of a run over `pieces` pieces: for opening and pieces, then for the input, then for closing
-abbrev pub messages_of : OnBroken → List (List ℕ) → List (Option Break) → ℕ → Option Fault → List Message
-messages_of on_broken names broke pieces fault =
-    said_before on_broken (suc pieces) (output_names names) broke ++ said_of_input fault
-    ++ said_in on_broken (suc pieces) (output_names names) broke
-
-abbrev pub are_sound : List (Option Break) → Bool
-are_sound [] = true
-are_sound (first ∷ broke) = is_none first && are_sound broke
+-- standard error got these messages, and no other output changed
+pub record SaysTo (run : TeeRun) (messages : List Message) (old new : List Slot) : Type 0 where
+  pub error : Slot
+  pub said : SaysAll run.told (tee_called run.calling) messages (slot_at old 1) error
+  pub slots : new ≡ changed_at 1 (λ _. error) old
 
 -- whether the input failed, or an output broke whose reader isn't gone
 abbrev pub has_failed : List Standing → Option Fault → Bool
@@ -149,9 +134,6 @@ gone_status on_broken failed = 1
 abbrev pub status_for : OnBroken → List Standing → Option Fault → ℕ
 status_for on_broken standings fault = if any_is Gone standings
     then gone_status on_broken (has_failed standings fault) else if has_failed standings fault then 1 else 0
-
-abbrev pub status_of : OnBroken → List (Option Break) → Option Fault → ℕ
-status_of on_broken broke fault = status_for on_broken (map standing_of broke) fault
 
 -- whether an output that is gone is no failure
 abbrev pub forgives : OnBroken → Bool
@@ -192,8 +174,6 @@ GaveLast pieces source = (before : List (List ℕ)) (piece : List ℕ) → piece
 pub record ComesIn (told : Bool) (content : Content) (source : Source) (is_vain : Bool) (pieces : List (List ℕ))
     (fault : Option Fault) : Type 0 where
   pub read : IsRead content (LeavesOf told source) is_vain (concat pieces) fault
-  -- each piece has a size that one read gives
-  pub sizes : All (λ piece. (0 < length piece) × (length piece ≤ largest_piece)) pieces
   -- together the pieces have no more bytes than any tool takes
   pub few : length (concat pieces) < 2 ^ 63
   -- a read failed only if that is the fault
@@ -205,60 +185,59 @@ pub record ComesIn (told : Bool) (content : Content) (source : Source) (is_vain 
   -- one read for each piece, and one that reported the end, failed or gave too much, unless broken outputs ended that
   pub reads : source.reads ≡ length pieces + (if is_vain then 0 else 1)
 
--- What standard output is left with: all that was copied; or it broke in a piece, and has a beginning.
-pub data OutputLeft (told : Bool) (pieces : List (List ℕ)) : Option Break → Slot → Type 0 where
-  output_whole : OutputLeft told pieces None (adds (told_of told (concat pieces)) standard_output)
-  output_cut : {why : Reason} (before : List (List ℕ)) (piece : List ℕ) (after : List (List ℕ)) (n : ℕ)
-      → pieces ≡ before ++ piece ∷ after → n < length piece
-      → OutputLeft told pieces (Some (record { call = suc (length before); why = why }))
-      (breaks why (adds (told_of told (concat before ++ take n piece)) standard_output))
+-- the outputs before a run, and its files as they are if each can be opened
+abbrev pub all_opened : TeeRun → List Slot
+all_opened run = standard_output ∷ standard_error ∷ map (λ name. opened name run.mode) run.names
 
--- What a file is left with: all that was copied, and it was closed; or it couldn't be opened, and its name is lost if
--- there was no memory for it; or it broke in a piece, and has a beginning; or it has all, and broke as it was closed.
-pub data FileLeft (told : Bool) (mode : Mode) (pieces : List (List ℕ)) (name : List ℕ) : Option Break → Slot → Type 0
-  where
-    file_whole : FileLeft told mode pieces name None (closes (adds (told_of told (concat pieces)) (opened name mode)))
-    file_unopened : {why : Reason} (kept : List ℕ) → (kept ≡ name) ⊎ (kept ≡ [])
-        → FileLeft told mode pieces name (Some (record { call = 0; why = why })) (unopened why kept)
-    file_cut : {why : Reason} (before : List (List ℕ)) (piece : List ℕ) (after : List (List ℕ)) (n : ℕ)
-        → pieces ≡ before ++ piece ∷ after → n < length piece
-        → FileLeft told mode pieces name (Some (record { call = suc (length before); why = why }))
-        (breaks why (adds (told_of told (concat before ++ take n piece)) (opened name mode)))
-    file_unclosed : {why : Reason}
-        → FileLeft told mode pieces name (Some (record { call = suc (length pieces); why = why }))
-        (breaks why (closes (adds (told_of told (concat pieces)) (opened name mode))))
+-- the places of the files of these names, which follow the streams
+abbrev pub IsFileOf : List (List ℕ) → ℕ → Type 0
+IsFileOf names place = (2 ≤ place) × (place < length names + 2)
 
--- `Is` is true of each file, by its name and how it broke, whatever became of the other files
-pub data EachFile (Is : List ℕ → Option Break → Slot → Type 0) : List (List ℕ) → List (Option Break) → List Slot
-    → Type 0 where
-  no_file : EachFile Is [] [] []
-  one_file : (name : List ℕ) (names : List (List ℕ)) (first : Option Break) (broke : List (Option Break)) (file : Slot)
-      (files : List Slot) → Is name first file → EachFile Is names broke files
-      → EachFile Is (name ∷ names) (first ∷ broke) (file ∷ files)
+-- and those of all outputs: standard error is none
+abbrev pub IsOutputOf : List (List ℕ) → ℕ → Type 0
+IsOutputOf names place = (place ≡ 1 → ⊥) × (place < length names + 2)
 
-abbrev pub FilesLeft : Bool → Mode → List (List ℕ) → List (List ℕ) → List (Option Break) → List Slot → Type 0
-FilesLeft told mode pieces = EachFile (FileLeft told mode pieces)
+-- One step of a run: outputs were changed so, and then those that broke in that were reported.
+pub record Step (run : TeeRun) (fault : Fault) (Change : Slot → Slot → Type 0) (IsOne : ℕ → Type 0)
+    (old new : List Slot) : Type 0 where
+  pub mid : List Slot
+  pub changes : ChangesEach Change IsOne old mid
+  pub said : SaysTo run (said_in run fault old mid) mid new
+
+-- Each file was opened, or couldn't be. Messages about outputs don't have the numbers of their slots.
+abbrev pub OpensAll : TeeRun → List Slot → List Slot → Type 0
+OpensAll run = Step run (Open 0) (λ file now. OpensAs file.mode file.name now) (IsFileOf run.names)
+
+-- each output got a piece, unless it was broken
+abbrev pub CopiesPiece : TeeRun → List ℕ → List Slot → List Slot → Type 0
+CopiesPiece run piece = Step run (Write 0) (Gets run.told piece) (IsOutputOf run.names)
+
+-- each file was closed, unless it was broken
+abbrev pub ClosesAll : TeeRun → List Slot → List Slot → Type 0
+ClosesAll run = Step run (Write 0) Closes (IsFileOf run.names)
+
+-- The files were opened, and these pieces were copied. Each has a size that one read gives. Before each piece the
+-- outputs stood so that the run went on.
+pub data Copied (run : TeeRun) : List (List ℕ) → List Slot → Type 0 where
+  started : (new : List Slot) → OpensAll run (all_opened run) new → Copied run [] new
+  one_more : (pieces : List (List ℕ)) (piece : List ℕ) (old new : List Slot) → Copied run pieces old
+      → is_done run.on_broken (standings_of old) ≡ false → 0 < length piece → length piece ≤ largest_piece
+      → CopiesPiece run piece old new → Copied run (pieces ++ piece ∷ []) new
 
 -- How a run ends.
-pub data EndsAs (told_in told : Bool) (calling : Calling) (mode : Mode) (on_broken : OnBroken)
-    (names : List (List ℕ)) (content : Content) (source : Source) (new : List Slot) (status : ℕ) : Type 0 where
-  -- The input came in pieces, and outputs that broke before the last piece didn't end the run. The outputs are left
-  -- as they must be by what broke and when. The messages for that are reported, each with some reason, and the status
-  -- says whether anything failed.
-  copied : (pieces : List (List ℕ)) (fault : Option Fault) (first : Option Break) (broke : List (Option Break))
-      (output error : Slot) (files : List Slot)
-      → ComesIn told_in content source (is_done on_broken (standings_before (suc (length pieces)) (first ∷ broke)))
-      pieces fault
-      → is_done on_broken (standings_before (length pieces) (first ∷ broke)) ≡ false
-      → OutputLeft told pieces first output → FilesLeft told mode pieces names broke files
-      → SaysAll told (tee_called calling) (messages_of on_broken names (first ∷ broke) (length pieces) fault)
-      standard_error error
-      → new ≡ output ∷ error ∷ files → status ≡ status_of on_broken (first ∷ broke) fault
-      → EndsAs told_in told calling mode on_broken names content source new status
+pub data EndsAs (run : TeeRun) (told_in : Bool) (content : Content) (source : Source) (new : List Slot) (status : ℕ)
+    : Type 0 where
+  -- The input came in pieces, and each was copied. Then the fault that ended the reading was reported, if one did, and
+  -- the files were closed. The status says whether anything failed.
+  copied : (pieces : List (List ℕ)) (fault : Option Fault) (old mid : List Slot)
+      → ComesIn told_in content source (is_done run.on_broken (standings_of old)) pieces fault → Copied run pieces old
+      → SaysTo run (said_of_input fault) old mid → ClosesAll run mid new
+      → status ≡ status_for run.on_broken (standings_of new) fault → EndsAs run told_in content source new status
   -- There was no memory for the run, and nothing was opened or read.
-  no_room : (error : Slot) → SaysAll told (tee_called calling) (message_of Memory [] ∷ []) standard_error error
+  no_room : (error : Slot)
+      → SaysAll run.told (tee_called run.calling) (message_of Memory [] ∷ []) standard_error error
       → IsAsFound told_in content source → new ≡ streams_with error → status ≡ 1
-      → EndsAs told_in told calling mode on_broken names content source new status
+      → EndsAs run told_in content source new status
 
 -- the outputs if nothing breaks: standard output and each file have these bytes, files are closed, nothing is reported
 abbrev pub all_copied : Bool → Mode → List (List ℕ) → List ℕ → List Slot

@@ -1,21 +1,22 @@
 //! A whole run of `tee`.
 ghost use Rattle.std.specs.{
-  Prelude.{◌≡◌, ◌∷◌, ◌+◌, ◌<◌, ◌≤◌, ◌^◌, ◌-◌, replicate, ◌++◌, ℕ, List, Option, [], true, false, map, length, get_or},
+  Prelude.{◌≡◌, ◌+◌, ◌<◌, ◌≤◌, ◌^◌, ◌-◌, replicate, ℕ, List, Option, [], true, false, map, length, get_or},
   Prelude.{IfOk, IfErr, IfSome, IsTrue, codes},
 };
 ghost use Rattle.ports_core.specs.{
-  declared.{fault.Fault.Fault, slot.Mode.Mode},
+  declared.fault.Fault.Fault,
   Slot.{is_open, slot_at, streams},
-  Text.{Message, message_of},
+  Text.message_of,
   Message.SaysOn,
   Source.{source_at, is_readable, IsFresh},
   Inputs.{CameFrom, KeepsOthers, OfContent, AsksAtMost, largest_piece},
 };
 ghost use Rattle.tee_core.specs.{
   Opening.Opens,
-  Run.{AreSound, EndsAs, all_copied, forgives, is_done, output_names, said_of_input, tee_called, stands_as},
-  inner.Steps.{HasCopied, Copies, CopiesRead, HasStreams, IsTeeOf, SaysTo, said_since, standings_of, tells},
-  inner.Steps.output_slot,
+  Outputs.IsReady,
+  Run.{AreSound, ClosesAll, CopiesPiece, Copied, EndsAs, SaysTo, all_copied, forgives, is_done, output_names, said_of_input},
+  Run.{said_since, standings_of, stands_as, tee_called, tells},
+  inner.Steps.{CopiesRead, HasStreams, IsTeeOf, output_slot, run_for},
   declared.standing.Standing.TheVariants.Sound,
 };
 
@@ -32,6 +33,7 @@ struct Job<'a> {
     alloc: Global,
     calling: Calling,
     names: &'a [&'a str],
+    mode: Mode,
     on_broken: OnBroken,
 }
 
@@ -62,8 +64,13 @@ pub fn run_tee<I: Inputs, O: Outs>(
     requires fresh { IsFresh (I.sources inputs.old) }
     requires outputs { O.slots outs.old ≡ streams }
     ensures ends { OfContent I.told (source_at (I.sources inputs.old) 0).left
-        (λ content. EndsAs I.told O.told calling mode on_broken (map (λ name. name.now) names.now) content
-        (source_at (I.sources inputs.new) 0) (O.slots outs.new) result
+        (λ content. EndsAs (record {
+          told = O.told;
+          calling = calling;
+          mode = mode;
+          on_broken = on_broken;
+          names = map (λ name. name.now) names.now;
+        }) I.told content (source_at (I.sources inputs.new) 0) (O.slots outs.new) result
         × CameFrom I.told content (source_at (I.sources inputs.new) 0)) }
     ensures whole { I.told ≡ true → result ≡ 0 → (forgives on_broken ≡ true → AreSound (O.slots outs.new))
         → O.slots outs.new
@@ -75,9 +82,10 @@ pub fn run_tee<I: Inputs, O: Outs>(
         alloc,
         calling,
         names,
+        mode,
         on_broken,
     };
-    match copy_input(&job, mode, inputs, outs) {
+    match copy_input(&job, inputs, outs) {
         Ok(status) => status,
         Err(fault) => tell(alloc, tee_called(calling), &fault, outs),
     }
@@ -98,18 +106,12 @@ fn tee_called(calling: Calling) -> Speaker
 /// # Errors
 ///
 /// `Memory` if there is none: nothing was opened or read.
-fn copy_input<I: Inputs, O: Outs>(
-    job: &Job<'_>,
-    mode: Mode,
-    inputs: &mut I,
-    outs: &mut O,
-) -> Result<u8, Fault>
+fn copy_input<I: Inputs, O: Outs>(job: &Job<'_>, inputs: &mut I, outs: &mut O) -> Result<u8, Fault>
     requires fresh { IsFresh (I.sources inputs.old) }
     requires outputs { O.slots outs.old ≡ streams }
     ensures copied { IfOk result (λ status. OfContent I.told (source_at (I.sources inputs.old) 0).left
-        (λ content. EndsAs I.told O.told job.now.calling mode job.now.on_broken
-        (map (λ name. name.now) job.now.names.now) content (source_at (I.sources inputs.new) 0) (O.slots outs.new)
-        status × CameFrom I.told content (source_at (I.sources inputs.new) 0))) }
+        (λ content. EndsAs (run_for O.told job.now) I.told content (source_at (I.sources inputs.new) 0)
+        (O.slots outs.new) status × CameFrom I.told content (source_at (I.sources inputs.new) 0))) }
     ensures err { IfErr result
         (λ fault. (fault ≡ Fault.Memory) × (O.slots outs.new ≡ O.slots outs.old)
         × (I.sources inputs.new ≡ I.sources inputs.old)) }
@@ -121,7 +123,7 @@ fn copy_input<I: Inputs, O: Outs>(
         return Err(Fault::Memory);
     };
     let mut known = vec![in job.alloc; Standing::Sound; outputs]?;
-    let tee = Tee::open(job.alloc, job.names, mode, outs)?;
+    let tee = Tee::open(job.alloc, job.names, job.mode, outs)?;
     Ok(copy_all(job, tee, &mut buffer, &mut known, inputs, outs))
 }
 
@@ -137,14 +139,11 @@ fn copy_all<I: Inputs, O: Outs>(
     requires room { length buffer.old ≡ largest_piece }
     requires fresh { IsFresh (I.sources inputs.old) }
     requires tee { IsTeeOf (map (λ name. name.now) job.now.names.now) tee }
-    requires opened { (mode : Mode)
-        × Opens mode (map (λ name. name.now) job.now.names.now) streams (O.slots outs.old) }
+    requires opened { Opens job.now.mode (map (λ name. name.now) job.now.names.now) streams (O.slots outs.old) }
     requires unknown { known.old ≡ replicate (length job.now.names.now + 1) Sound }
-    ensures copied { (mode : Mode) → Opens mode (map (λ name. name.now) job.now.names.now) streams (O.slots outs.old)
-        → OfContent I.told (source_at (I.sources inputs.old) 0).left
-        (λ content. EndsAs I.told O.told job.now.calling mode job.now.on_broken
-        (map (λ name. name.now) job.now.names.now) content (source_at (I.sources inputs.new) 0) (O.slots outs.new)
-        result × CameFrom I.told content (source_at (I.sources inputs.new) 0)) }
+    ensures copied { OfContent I.told (source_at (I.sources inputs.old) 0).left
+        (λ content. EndsAs (run_for O.told job.now) I.told content (source_at (I.sources inputs.new) 0)
+        (O.slots outs.new) result × CameFrom I.told content (source_at (I.sources inputs.new) 0)) }
     ensures others { KeepsOthers 0 (I.sources inputs.old) (I.sources inputs.new) }
     ensures asked { AsksAtMost largest_piece (I.sources inputs.new) }
 {
@@ -172,16 +171,13 @@ fn copy_pieces<I: Inputs, O: Outs>(
     requires input { IsTrue (is_readable (I.sources inputs.old) 0) }
     requires unread { (source_at (I.sources inputs.old) 0).reads ≡ 0 }
     requires tee { IsTeeOf (map (λ name. name.now) job.now.names.now) tee.old }
-    requires copies { (mode : Mode) × Copies O.told job.now.calling mode job.now.on_broken
-        (map (λ name. name.now) job.now.names.now) [] [] (O.slots outs.old) known.old }
+    requires started { Copied (run_for O.told job.now) [] (O.slots outs.old) }
+    requires known { known.old ≡ standings_of (O.slots outs.old) }
     ensures same { tee.new ≡ tee.old }
-    ensures copies { (mode : Mode)
-        → Copies O.told job.now.calling mode job.now.on_broken (map (λ name. name.now) job.now.names.now) [] []
-        (O.slots outs.old) known.old
-        → OfContent I.told (source_at (I.sources inputs.old) 0).left
-        (λ content. CopiesRead I.told O.told job.now.calling mode job.now.on_broken
-        (map (λ name. name.now) job.now.names.now) content (source_at (I.sources inputs.new) 0) (O.slots outs.new)
-        known.new result × CameFrom I.told content (source_at (I.sources inputs.new) 0)) }
+    ensures copies { OfContent I.told (source_at (I.sources inputs.old) 0).left
+        (λ content. CopiesRead (run_for O.told job.now) I.told content (source_at (I.sources inputs.new) 0)
+        (O.slots outs.new) result × CameFrom I.told content (source_at (I.sources inputs.new) 0)) }
+    ensures known { known.new ≡ standings_of (O.slots outs.new) }
     ensures others { KeepsOthers 0 (I.sources inputs.old) (I.sources inputs.new) }
     ensures asked { (source_at (I.sources inputs.old) 0).asked ≤ length buffer.old
         → (source_at (I.sources inputs.new) 0).asked ≤ length buffer.old }
@@ -213,14 +209,12 @@ fn copy_piece<O: Outs>(
     outs: &mut O,
 )
     requires tee { IsTeeOf (map (λ name. name.now) job.now.names.now) tee.old }
-    requires copies { (mode : Mode) × (pieces : List (List ℕ)) × Copies O.told job.now.calling mode job.now.on_broken
-        (map (λ name. name.now) job.now.names.now) pieces [] (O.slots outs.old) known.old }
+    requires ready { IsReady tee.old (O.slots outs.old) }
+    requires streams { HasStreams (O.slots outs.old) (length (map (λ name. name.now) job.now.names.now)) }
+    requires known { known.old ≡ standings_of (O.slots outs.old) }
     ensures same { tee.new ≡ tee.old }
-    ensures copies { (mode : Mode) (pieces : List (List ℕ)) → is_done job.now.on_broken known.old ≡ false
-        → Copies O.told job.now.calling mode job.now.on_broken (map (λ name. name.now) job.now.names.now) pieces []
-        (O.slots outs.old) known.old
-        → Copies O.told job.now.calling mode job.now.on_broken (map (λ name. name.now) job.now.names.now)
-        (pieces ++ piece.now ∷ []) [] (O.slots outs.new) known.new }
+    ensures copies { CopiesPiece (run_for O.told job.now) piece.now (O.slots outs.old) (O.slots outs.new) }
+    ensures known { known.new ≡ standings_of (O.slots outs.new) }
 {
     tee.feed(piece, outs);
     tell_broken(job, &Fault::Write(0), known, outs);
@@ -229,14 +223,11 @@ fn copy_piece<O: Outs>(
 /// Closes the files, and reports which of them broke in that.
 fn close_all<O: Outs>(job: &Job<'_>, tee: &mut Tee, known: &mut [Standing], outs: &mut O)
     requires tee { IsTeeOf (map (λ name. name.now) job.now.names.now) tee.old }
-    requires copies { (mode : Mode) × (pieces : List (List ℕ)) × (messages : List Message)
-        × Copies O.told job.now.calling mode job.now.on_broken (map (λ name. name.now) job.now.names.now) pieces
-        messages (O.slots outs.old) known.old }
-    ensures closed { (mode : Mode) (pieces : List (List ℕ)) (fault : Option Fault)
-        → Copies O.told job.now.calling mode job.now.on_broken (map (λ name. name.now) job.now.names.now) pieces
-        (said_of_input fault) (O.slots outs.old) known.old
-        → HasCopied O.told job.now.calling mode job.now.on_broken (map (λ name. name.now) job.now.names.now) pieces
-        fault known.old (O.slots outs.new) known.new }
+    requires ready { IsReady tee.old (O.slots outs.old) }
+    requires streams { HasStreams (O.slots outs.old) (length (map (λ name. name.now) job.now.names.now)) }
+    requires known { known.old ≡ standings_of (O.slots outs.old) }
+    ensures closes { ClosesAll (run_for O.told job.now) (O.slots outs.old) (O.slots outs.new) }
+    ensures known { known.new ≡ standings_of (O.slots outs.new) }
 {
     tee.close(outs);
     tell_broken(job, &Fault::Write(0), known, outs);
@@ -245,7 +236,7 @@ fn close_all<O: Outs>(job: &Job<'_>, tee: &mut Tee, known: &mut [Standing], outs
 /// Reports what ended the reading before the input's end, if anything did.
 fn tell_input<I: Inputs, O: Outs>(job: &Job<'_>, fault: &Option<Fault>, inputs: &I, outs: &mut O)
     requires { (count : ℕ) × HasStreams (O.slots outs.old) count }
-    ensures told { SaysTo O.told job.now.calling (said_of_input fault.now) (O.slots outs.old) (O.slots outs.new) }
+    ensures told { SaysTo (run_for O.told job.now) (said_of_input fault.now) (O.slots outs.old) (O.slots outs.new) }
     ensures reason { IfSome fault.now (λ fault. SaysOn O.told (tee_called job.now.calling)
         (source_at (I.sources inputs.now) 0).reason (message_of fault (codes "standard input")) (O.slots outs.old)
         (O.slots outs.new)) }
@@ -267,9 +258,9 @@ fn tell_input<I: Inputs, O: Outs>(job: &Job<'_>, fault: &Option<Fault>, inputs: 
 fn tell_broken<O: Outs>(job: &Job<'_>, fault: &Fault, known: &mut [Standing], outs: &mut O)
     requires streams { HasStreams (O.slots outs.old) (length job.now.names.now) }
     requires known { length known.old ≡ length job.now.names.now + 1 }
-    ensures said { SaysTo O.told job.now.calling
-        (said_since job.now.on_broken fault.now (output_names (map (λ name. name.now) job.now.names.now)) known.old
-        known.new) (O.slots outs.old) (O.slots outs.new) }
+    ensures said { SaysTo (run_for O.told job.now)
+        (said_since (run_for O.told job.now) fault.now known.old known.new (length known.old))
+        (O.slots outs.old) (O.slots outs.new) }
     ensures seen { known.new ≡ standings_of (O.slots outs.old) }
 {
     for n in 0..known.len() {

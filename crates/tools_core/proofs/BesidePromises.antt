@@ -2,23 +2,22 @@
 use Rattle.std.{
   proofs.Common.{◌≡◌, ℕ, ◌+◌, ◌≤◌, ◌<◌, ◌^◌, suc, zero, Bool, true, false, ◌||◌, cond, List, [], ◌∷◌, ◌++◌},
   proofs.Common.{length, map, Option, Some, None, inl, inr, ◌⊎◌, refl, sym, ◌∙◌, ap, arith, lit<, append_assoc},
-  proofs.Common.length-append,
+  proofs.Common.{append-nil, is_none, length-append},
   proofs.Math.Seq.get_or-append_seam,
-  proofs.lemmas.{Bool.{cases_Bool, cases_lt, false≢true}, List.{length-map, Elements.All-map}},
+  proofs.lemmas.{Bool.{cases_Bool, cases_lt, false≢true}, List.{get_or_past, length-map}},
   specs.List.concat,
 }
 use Rattle.ports_core.specs.{
   Inputs.{CameFrom, largest_piece},
   Message.{SaysAll, whole},
   Part.{File, OutputsAt, Part, file_of, told_file},
-  Slot.{Slot, adds, closes, has_file, opened, slot_at},
+  Slot.{Slot, adds, closes, has_file, is_open, no_slot, opened, slot_at},
   Source.{Content, Source, missing, source_at, source_of},
   Streams.{standard_error, standard_output, streams_with},
   Swept.{Cleared, Swept},
   Work.{IsNeeded, Work},
   declared.{
     fault.Fault.{Fault, TheVariants.Read},
-    slot.Mode.Mode,
     calling.{Calling.Calling, Speaker.Speaker},
     reason.Reason.{Reason, TheVariants.Other},
   },
@@ -34,8 +33,13 @@ use Rattle.run_core.{
   },
 }
 use Rattle.tee_core.{
-  proofs.EndLemmas.{sound_goes_on, sound_status},
-  specs.Run.{Break, FilesLeft, tee_called, IsRead, LeavesOf, are_sound, said_of_input},
+  proofs.{CopyLemmas.{sound_step, streams_of}, EndLemmas.{sound_goes_on, whole_if}},
+  specs.{
+    Opening.{OpensAs, is_opened},
+    Outputs.{ChangesEach, Closes, Gets, gets_all, is_closed},
+    Run.{AreSound, Copied, IsFileOf, IsOutputOf, IsRead, LeavesOf, TeeRun, said_of_input, standings_of, tee_called},
+    inner.Steps.HasStreams,
+  },
 }
 use Rattle.words_core.specs.{
   TeeWords.TeeAsked,
@@ -45,12 +49,13 @@ use Rattle.words_core.specs.{
 use Rattle.tools_core.{
   specs.{
     About.text_whole,
-    Outcome.DoesAsked,
+    Outcome.{DoesAsked, tee_run},
     Promises.{Completes, FindAlike, HasLong, IsUnstopped, Ran, Run, Unstopped},
     Tasks.{csplit_task, head_task, names_of, split_task, tail_task},
   },
-  proofs.{SameLemmas.all_alike, LeftLemmas.{gone, met_by, outputs_of, quiet_outputs, slot_of}},
+  proofs.{SameLemmas.all_alike, LeftLemmas.{gone, met_by, outputs_of, slot_of}},
 }
+use Rattle.ports_core.proofs.MessageLemmas.{all_said_state}
 use Rattle.ports_core.specs.Swept as swept_so
 use Rattle.tee_core.specs.Run as tee
 
@@ -231,19 +236,6 @@ pieces_are : (bytes : List ℕ) → concat (pieces_of bytes) ≡ bytes
 pieces_are [] = refl
 pieces_are (byte ∷ bytes) = rw (pieces_are bytes)
 
-abbrev unbroken : List (List ℕ) → List (Option Break)
-unbroken names = map (λ name. None) names
-
-all_sound : (names : List (List ℕ)) → are_sound (unbroken names) ≡ true
-all_sound [] = refl
-all_sound (name ∷ names) = all_sound names
-
-copies_left : (mode : Mode) (pieces names : List (List ℕ))
-    → FilesLeft true mode pieces names (unbroken names)
-    (map (λ name. closes (adds (concat pieces) (opened name mode))) names)
-copies_left mode pieces [] = tee.no_file
-copies_left mode pieces (name ∷ names) = tee.one_file name names None (unbroken names) _ _ tee.file_whole (copies_left mode pieces names)
-
 -- what settings ask for can be done, and no fault stops it
 abbrev DoesWell : Calling → Settings → World → Type 0
 DoesWell calling asked world =
@@ -260,21 +252,123 @@ met_or_sound : (breaks_off : Bool) → (met_by breaks_off ≡ Some (Read 0)) ⊎
 met_or_sound true = inl refl
 met_or_sound false = inr refl
 
+-- A run of `tee` in which no output breaks. Its files are `first` before a step, and `last` after it.
+
+module _ (Change : Slot → Slot → Type 0) (first last : List ℕ → Slot)
+    (changes : (name : List ℕ) → Change (first name) (last name)) (error : Slot) where
+  file_changes : (names : List (List ℕ)) (n : ℕ) → n < length names
+      → Change (slot_at (map first names) n) (slot_at (map last names) n)
+  file_changes [] n within = absurd (omega arith)
+  file_changes (name ∷ names) zero within = changes name
+  file_changes (name ∷ names) (suc n) within = file_changes names n (omega arith)
+
+  outputs_change : (names : List (List ℕ)) {old new : Slot} → Change old new
+      → ChangesEach Change (IsOutputOf names) (old ∷ error ∷ map first names) (new ∷ error ∷ map last names)
+  outputs_change names {old} {new} one = record {
+    count = omega (arith, length-map names first, length-map names last);
+    each = each;
+    others = others;
+  } where
+    each : (place : ℕ) → IsOutputOf names place
+        → Change (slot_at (old ∷ error ∷ map first names) place) (slot_at (new ∷ error ∷ map last names) place)
+    each zero is = one
+    each (suc zero) is = absurd (is.0 refl)
+    each (suc (suc n)) is = file_changes names n (omega (arith, is.1))
+
+    past : (file : List ℕ → Slot) (n : ℕ) → (IsOutputOf names (suc (suc n)) → ⊥) → slot_at (map file names) n ≡ no_slot
+    past file n none = get_or_past (map file names) n no_slot (elim (cases_lt n (length names)) [
+      | inl within ↦ absurd (none (λ is. omega (arith, is), omega (arith, within)))
+      | inr beyond ↦ omega (arith, beyond, length-map names file)
+    ])
+
+    others : (place : ℕ) → (IsOutputOf names place → ⊥)
+        → slot_at (new ∷ error ∷ map last names) place ≡ slot_at (old ∷ error ∷ map first names) place
+    others zero none = absurd (none (λ is. omega (arith, is), omega arith))
+    others (suc zero) none = refl
+    others (suc (suc n)) none = past last n none ∙ sym (past first n none)
+
+-- as much, if standard output isn't changed
+files_change : (Change : Slot → Slot → Type 0) (first last : List ℕ → Slot)
+    → ((name : List ℕ) → Change (first name) (last name)) → (output error : Slot) (names : List (List ℕ))
+    → ChangesEach Change (IsFileOf names) (output ∷ error ∷ map first names) (output ∷ error ∷ map last names)
+files_change Change first last changes output error names =
+    let all = outputs_change (λ old new. Change old new ⊎ (new ≡ old)) first last (λ name. inl (changes name)) error names (inr refl) in record {
+      count = all.count;
+      each = each;
+      others = others all;
+    } where
+      each : (place : ℕ) → IsFileOf names place
+          → Change (slot_at (output ∷ error ∷ map first names) place) (slot_at (output ∷ error ∷ map last names) place)
+      each zero file = absurd (omega (arith, file.0))
+      each (suc zero) file = absurd (omega (arith, file.0))
+      each (suc (suc n)) file = file_changes Change first last changes error names n (omega (arith, file.1))
+
+      others : ChangesEach (λ old new. Change old new ⊎ (new ≡ old)) (IsOutputOf names) (output ∷ error ∷ map first names)
+          (output ∷ error ∷ map last names) → (place : ℕ) → (IsFileOf names place → ⊥)
+          → slot_at (output ∷ error ∷ map last names) place ≡ slot_at (output ∷ error ∷ map first names) place
+      others all zero none = refl
+      others all (suc zero) none = refl
+      others all (suc (suc n)) none = all.others (suc (suc n)) (λ is. none (omega arith, is.1))
+
+module _ (calling : Calling) (asked : TeeAsked) where
+  -- these bytes are on standard output, and the files are these
+  abbrev laid : (List ℕ → Slot) → Slot → List ℕ → List Slot
+  laid file error x = adds x standard_output ∷ error ∷ map file asked.names
+
+  abbrev has_open : List ℕ → List ℕ → Slot
+  has_open x name = adds x (opened name asked.mode)
+
+  laid_well : (file : List ℕ → Slot) (error : Slot) (x : List ℕ) → ((name : List ℕ) → (file name).is_broken ≡ false)
+      → is_open error.state ≡ true
+      → HasStreams (laid file error x) (length asked.names) × AreSound (laid file error x)
+  laid_well file error x sound opens = (streams_of (omega (arith, length-map asked.names file)) opens, at) where
+    by : (names : List (List ℕ)) (n : ℕ) → (slot_at (map file names) n).is_broken ≡ false
+    by [] n = refl
+    by (name ∷ names) zero = sound name
+    by (name ∷ names) (suc n) = by names n
+
+    at : AreSound (laid file error x)
+    at zero differs = refl
+    at (suc zero) differs = absurd (differs refl)
+    at (suc (suc n)) differs = by asked.names n
+
+  open_well : (x : List ℕ) → HasStreams (laid (has_open x) standard_error x) (length asked.names)
+      × AreSound (laid (has_open x) standard_error x)
+  open_well x = laid_well (has_open x) standard_error x (λ name. refl) refl
+
+  copied_on : (pieces : List (List ℕ)) (x bytes : List ℕ)
+      → Copied (tee_run calling true asked) pieces (laid (has_open x) standard_error x)
+      → Copied (tee_run calling true asked) (pieces ++ pieces_of bytes)
+      (laid (has_open (x ++ bytes)) standard_error (x ++ bytes))
+  copied_on pieces x [] so_far = rw (append-nil pieces, append-nil x) so_far
+  copied_on pieces x (byte ∷ bytes) so_far =
+      let more = x ++ byte ∷ [] in
+      rw (append_assoc pieces ((byte ∷ []) ∷ []) (pieces_of bytes), append_assoc x (byte ∷ []) bytes) at
+      (copied_on (pieces ++ (byte ∷ []) ∷ []) more bytes (tee.one_more pieces (byte ∷ []) (laid (has_open x) standard_error x)
+      (laid (has_open more) standard_error more) so_far (sound_goes_on asked.on_broken (open_well x).0 (open_well x).1)
+      (omega arith) (omega arith) (sound_step (open_well more).0 (open_well more).1 (outputs_change (Gets true (byte ∷ []))
+      (has_open x) (has_open more) (λ name. gets_all refl) standard_error asked.names (gets_all refl)))))
+
+  copied_all : (bytes : List ℕ)
+      → Copied (tee_run calling true asked) (pieces_of bytes) (laid (has_open bytes) standard_error bytes)
+  copied_all bytes = copied_on [] [] bytes (tee.started (laid (has_open []) standard_error []) (sound_step (open_well []).0
+      (open_well []).1 (files_change (λ file now. OpensAs file.mode file.name now) (λ name. opened name asked.mode)
+      (has_open []) (λ name. is_opened) standard_output standard_error asked.names)))
+
 tee_well : (calling : Calling) (asked : TeeAsked) (world : World)
     → length world.standard.bytes < 2 ^ 63 → DoesWell calling (Tee asked) world
 tee_well calling asked world few = record {
   sources = source ∷ [];
-  new = left lines.0;
-  status = tee.status_of asked.on_broken (None ∷ unbroken asked.names) fault;
+  new = new lines.0;
+  status = tee.status_for asked.on_broken (standings_of (new lines.0)) fault;
   does = record {
     content = content;
     input = refl;
     ends = ends;
     came = came_from source refl;
-    whole =
-        λ told well told_of. all content.breaks_off well;
+    whole = λ told well_of told_of. whole_if well_of told_of ends;
   };
-  unstopped = (all_sound asked.names, pieces_are content.bytes);
+  unstopped = (well.1, pieces_are content.bytes);
 } where
   content : Content
   content = world.standard
@@ -301,36 +395,33 @@ tee_well calling asked world few = record {
       let (error, says, sound) = took_lines (tee_called calling) Other (said_of_input fault) standard_error refl in
       (error, said_from true (tee_called calling) Other (said_of_input fault) standard_error error says)
 
-  left : Slot → List Slot
-  left error = adds (concat pieces) standard_output ∷ error ∷ map (λ name. closes (adds (concat pieces) (opened name asked.mode))) asked.names
+  copied : List Slot
+  copied = laid calling asked (has_open calling asked content.bytes) standard_error content.bytes
 
-  goes_on : (call : ℕ) → tee.is_done asked.on_broken (tee.standings_before call (None ∷ unbroken asked.names)) ≡ false
-  goes_on call = sound_goes_on asked.on_broken call None (unbroken asked.names) (all_sound asked.names)
+  new : Slot → List Slot
+  new error = laid calling asked (λ name. closes (has_open calling asked content.bytes name)) error content.bytes
 
-  ends : tee.EndsAs true true calling asked.mode asked.on_broken asked.names content source
-      (left lines.0) (tee.status_of asked.on_broken (None ∷ unbroken asked.names) fault)
-  ends = tee.copied pieces fault None (unbroken asked.names) _ lines.0 _
-      (record {
-        read = rw (goes_on (suc (length pieces)))
-            (read_all content.bytes content.breaks_off (LeavesOf true source) (λ told. refl));
-        sizes = All-map (λ (piece : List ℕ). (0 < length piece) × (length piece ≤ largest_piece))
-            (λ byte. byte ∷ []) content.bytes (λ k byte within. (omega arith, omega arith));
-        few = rw (pieces_are content.bytes) few;
-        met = met_or_sound content.breaks_off;
-        ended = λ none some. refl;
-        last = λ told vain. absurd (false≢true (sym (goes_on (suc (length pieces))) ∙ vain));
-        reads = rw (goes_on (suc (length pieces))) refl;
-      })
-      (goes_on (length pieces)) tee.output_whole (copies_left asked.mode pieces asked.names)
-      (rw (quiet_outputs asked.on_broken asked.names (None ∷ unbroken asked.names) (length pieces) fault (all_sound asked.names)) lines.1) refl refl
+  well : HasStreams (new lines.0) (length asked.names) × AreSound (new lines.0)
+  well = laid_well calling asked (λ name. closes (has_open calling asked content.bytes name)) lines.0 content.bytes (λ name. refl)
+      (ap is_open (all_said_state true (tee_called calling) (said_of_input fault) standard_error lines.0 lines.1))
 
-  all : (breaks_off : Bool) → tee.status_of asked.on_broken (None ∷ unbroken asked.names) (met_by breaks_off) ≡ 0
-      → left (took_lines (tee_called calling) Other (said_of_input (met_by breaks_off)) standard_error refl).0
-      ≡ tee.all_copied true asked.mode asked.names content.bytes
-  all true well = absurd (let is : 1 ≡ 0 = sym
-      (sound_status asked.on_broken (None ∷ unbroken asked.names) (Some (Read 0)) (all_sound asked.names)) ∙ well in omega (arith, is))
-  all false well = ap left (took_lines (tee_called calling) Other (said_of_input (met_by false)) standard_error refl).1
-      ∙ rw (pieces_are content.bytes)
+  comes : tee.ComesIn true content source (tee.is_done asked.on_broken (standings_of copied)) pieces fault
+  comes = let first = open_well calling asked content.bytes in rw (sound_goes_on asked.on_broken first.0 first.1) (record {
+    read = read_all content.bytes content.breaks_off (LeavesOf true source) (λ told. refl);
+    few = rw (pieces_are content.bytes) few;
+    met = met_or_sound content.breaks_off;
+    ended = λ none some. refl;
+    last = λ told vain. absurd (false≢true vain);
+    reads = refl;
+  })
+
+  ends : tee.EndsAs (tee_run calling true asked) true content source (new lines.0)
+      (tee.status_for asked.on_broken (standings_of (new lines.0)) fault)
+  ends = tee.copied pieces fault copied (laid calling asked (has_open calling asked content.bytes) lines.0 content.bytes)
+      comes (copied_all calling asked content.bytes) (record { error = lines.0; said = lines.1; slots = refl })
+      (sound_step well.0 well.1 (files_change Closes (has_open calling asked content.bytes)
+      (λ name. closes (has_open calling asked content.bytes name)) (λ name. is_closed refl)
+      (adds content.bytes standard_output) lines.0 asked.names)) refl
 
 does_well : (run : Run) (asked : Settings) → HasOperands asked → (HasLong run asked → ⊥)
     → DoesWell run.calling asked run.world

@@ -19,7 +19,6 @@ use Rattle.ports_core.specs.{
   Part.{File, FilesBegin, Part, nothing, only_out, OutputsAt, file_of, told_file},
   Text.{Message, is_quiet, message_of, status_after},
   declared.calling.{Calling.{Calling, TheVariants.Cutters}, Speaker.Speaker},
-  declared.on_broken.OnBroken.OnBroken,
   declared.reason.Reason.Reason,
   declared.fault.Fault.{Fault, TheVariants.{Open as CannotOpen, Read, Write}},
   declared.verdict.Verdict.Verdict,
@@ -35,7 +34,17 @@ use Rattle.split_core.specs.{
   Split.{manner_of as manner_by, Filing, Share, dealt_files, settled_shares, share},
 }
 use Rattle.ends_core.specs.Shown.{head_in, tail_in}
-use Rattle.tools_core.{proofs.SameLemmas.{KnowsNoMore, all_made_alike, head_knows, shows_none, split_knows, tail_knows}, specs.Promises.{AllAlike, AreAlike, GivesBytes, are_same, give_same, SaysLines, Completes, FindAlike, IsCopied}, specs.Promises.{Gives, at_first, in_full}, specs.Promises.{IsMet, Tells, IsFound, IsGone, IsTask, IsUnstopped, LeaveAlike, Ran, Run, TellsMet, Unstopped, message_by}, specs.Promises.{broken_off, failing, judged, missing, removes_files}, specs.About.{TellsText, no_text, text_cut, text_whole}, specs.Outcome.{DoesAsked, RefusesOperands}, specs.Tasks.{filing_of, names_of, speaker_of}}
+use Rattle.tools_core.{
+  proofs.SameLemmas.{KnowsNoMore, all_made_alike, head_knows, shows_none, split_knows, tail_knows},
+  specs.Promises.{AllAlike, AreAlike, GivesBytes, are_same, give_same, SaysLines, Completes, FindAlike, IsCopied},
+  specs.Promises.{Gives, at_first, in_full},
+  specs.Promises.{IsMet, Tells, IsFound, IsGone, IsTask, IsUnstopped, LeaveAlike, Ran, Run, TellsMet, Unstopped},
+  specs.Promises.{message_by},
+  specs.Promises.{broken_off, failing, judged, missing, removes_files},
+  specs.About.{TellsText, no_text, text_cut, text_whole},
+  specs.Outcome.{DoesAsked, RefusesOperands, tee_run},
+  specs.Tasks.{filing_of, names_of, speaker_of},
+}
 use Rattle.operand_core.{specs.{Style.Style}, proofs.ReadingLemmas.asks_once}
 use Rattle.csplit_core.specs.{Output.{file_in, shares_in, state_in}, Section.{Section}}
 use Rattle.run_core.specs.{
@@ -46,8 +55,11 @@ use Rattle.run_core.specs.{
 }
 use Rattle.run_core.proofs.{InputLemmas.{said_of}, StopLemmas.{beside_error, swept_error}}
 use Rattle.tee_core.{
-  specs.Run.{Break, IsRead, are_sound, tee_called, messages_of, said_of_input},
-  proofs.EndLemmas.{nothing_before, nothing_in, sound_first, sound_goes_on, sound_status, whole_files, whole_output},
+  specs.Run.{IsRead, tee_called, said_of_input},
+  proofs.{
+    CopyLemmas.{stands_of, stands_streams},
+    EndLemmas.{all_sound, end_streams, old_sound, sound_goes_on, sound_says, sound_status},
+  },
 }
 use Rattle.words_core.specs.{
   TeeWords.TeeAsked,
@@ -511,28 +523,16 @@ met_status : (breaks_off : Bool) → ◌≡◌ {A = ℕ} (cond (is_none (met_by 
 met_status true = refl
 met_status false = refl
 
-pub quiet_outputs : (on_broken : OnBroken) (names : List (List ℕ)) (broke : List (Option Break)) (pieces : ℕ)
-    (fault : Option Fault) → are_sound broke ≡ true
-    → messages_of on_broken names broke pieces fault ≡ said_of_input fault
-quiet_outputs on_broken names broke pieces fault sound = search (rules, nothing_before, nothing_in)
-
-tee_left : {calling : Calling} {asked : TeeAsked} {content : Content}
-    {source : Source} {new : List Slot} {status : ℕ}
-    (ends : tee.EndsAs true true calling asked.mode asked.on_broken asked.names content source new status)
+tee_left : {calling : Calling} {asked : TeeAsked} {content : Content} {source : Source} {new : List Slot} {status : ℕ}
+    (ends : tee.EndsAs (tee_run calling true asked) true content source new status)
     → IsCopied ends → IsLeft (tee_called calling) (tee_made asked content) new status
-tee_left {asked} {content} (tee.copied pieces fault first broke output error files comes some left rest says slots is) (sound, all) =
-    let sounds = sound_first first (are_sound broke) sound in
-    let met = met_is _ (sound_goes_on asked.on_broken (suc (length pieces)) first broke sound) all comes.few comes.read in record {
-      error = error;
-      says = rw (quiet_outputs asked.on_broken asked.names (first ∷ broke) (length pieces) fault sound ∙ ap said_of_input met) at says;
-      swept = rw (
-        slots,
-        whole_output true pieces first output sounds.0 left,
-        whole_files true asked.mode pieces asked.names broke files sounds.1 rest,
-        all,
-        copies_are asked.mode content.bytes asked.names,
-      );
-      is = is ∙ sound_status asked.on_broken (first ∷ broke) fault sound ∙ rw met (met_status content.breaks_off);
+tee_left {asked} {content} (tee.copied pieces fault old mid comes so_far says closes is) (sound, all) =
+    let goes = sound_goes_on asked.on_broken (stands_streams (stands_of so_far)) (old_sound so_far says closes sound) in
+    let met = met_is _ goes all comes.few comes.read in record {
+      error = says.error;
+      says = rw met at (sound_says so_far says closes sound);
+      swept = rw (all_sound so_far says closes sound, all, copies_are asked.mode content.bytes asked.names);
+      is = is ∙ sound_status asked.on_broken fault (end_streams so_far says closes) sound ∙ rw met (met_status content.breaks_off);
     }
 tee_left (tee.no_room error says unread slots is) copied = absurd copied
 

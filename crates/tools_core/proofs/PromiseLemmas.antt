@@ -208,7 +208,7 @@ begins_made run (Csplit asked) can does =
     let law = csplit_law.lawful asked.style does.operands in
     (_, (_, (does.operands, does.asks, refl), refl), λ place differs. begins_whole (λ shown. lawful_grows law) differs does.ends)
 begins_made run (Tee asked) can does =
-    (_, (does.content, does.input, refl), λ place differs. tee_begins place differs does.ends)
+    (_, (does.content, does.input, refl), λ place differs. tee_begins run place differs does.ends)
 begins_made run (About which topic) can does = (_, refl, λ place differs. text_begins place differs does)
 
 pub begins_each : (run well : Run) (asked : Settings) → Ran run asked → Completes well asked → FindAlike asked run well

@@ -1,7 +1,7 @@
 -- Lemmas: a run that a fault stopped reported the fault; and which outputs are broken then.
 use Rattle.std.{
   proofs.lemmas.{Grind.common_steps, Bool.{cases_Bool, false≢true}, List.{Elements.{All-append, All-nil}}},
-  proofs.Common.{All, None, ◌≡◌, ℕ, ◌^◌, ◌≤◌, suc, Bool, true, false, cond, is_none, subst, List, [], not, ◌||◌, map, ◌∷◌},
+  proofs.Common.{All, None, ◌≡◌, ℕ, ◌^◌, ◌≤◌, suc, Bool, true, false, cond, is_none, subst, List, [], not, ◌||◌, ◌∷◌},
   proofs.Common.{◌++◌, length, length-append, Option, Some, codes, inl, inr, ◌⊎◌, refl, sym, ◌∙◌, ap, arith, zero},
   proofs.Common.rules,
   proofs.Math.Seq.get_or-append_seam,
@@ -13,7 +13,6 @@ use Rattle.ports_core.specs.{
   declared.fault.{Fault.{Fault, TheVariants.{Memory, Write, Open, Read, TooLong, Usage}}},
   declared.on_broken.OnBroken.{OnBroken, TheVariants.{Warn, Exit}},
   declared.reason.Reason.Reason,
-  declared.slot.Mode.Mode,
   declared.tool.Tool.Tool,
   Part.{Output, IsNext, Part, StoppedBetween},
   Slot.{Slot, breaks, slot_at},
@@ -33,11 +32,14 @@ use Rattle.run_core.specs.{
 use Rattle.run_core.proofs.InputLemmas.{said_of}
 use Rattle.tee_core.{
   specs.{
-    Run.{said_of_input, Break, FilesLeft, IsRead, OutputLeft, are_sound, messages_of, output_names, said_before},
-    Run.said_in,
+    Run.{AreSound, IsRead, said_of_input, standings_of},
     declared.standing.Standing.{TheVariants.{Broken, Gone}},
+    inner.Steps.HasStreams,
   },
-  proofs.EndLemmas.{sound_goes_on, sound_if, sound_status, well_of},
+  proofs.{
+    CopyLemmas.{stands_of, stands_streams},
+    EndLemmas.{end_streams, none_broke, old_sound, sound_goes_on, sound_status, well_of},
+  },
 }
 use Rattle.words_core.specs.{
   Words.HasBadOperands,
@@ -48,7 +50,7 @@ use Rattle.words_core.specs.{
 }
 use Rattle.tools_core.specs.{
   About.{TellsText, no_text, text_cut, text_whole},
-  Outcome.{refusal, refuser, speaker},
+  Outcome.{refusal, refuser, speaker, tee_run},
   Tasks.{by, names_of, speaker_of, tool_of},
   Promises.{BrokeAt, Completes, Does, HasGone, HasLong, IsCalled, IsCopied, IsGone, IsSilent, LostReader, IsStopped},
   Promises.{IsTask, IsUnstopped, Ran, Run, SaysLines, SaysWhy, StopsRun, Tells, TellsMet, WhyBroken, broken_off, message_by},
@@ -56,8 +58,7 @@ use Rattle.tools_core.specs.{
 }
 use Rattle.tools_core.proofs.{
   BeginLemmas.{IsMarked, marked_at},
-  TeePromises.{IsLoud, any_gone, broken_tells, failing_stops, input_line, tee_lines, tee_broke, tee_told},
-  TeePromises.unsound_broke,
+  TeePromises.{IsLoud, TellsAll, any_gone, broken_why, failing_stops, sound_or, tee_broke, tee_told, told_all},
   LeftLemmas.{tells_one, HasLine, all_tell, completes_left, left_at, left_says, one_line, ran_over, slots_at},
   LeftLemmas.{swept_gone, swept_kept, speaker_is, AreLive, IsSoundAt, inputs_fit, live_begin, outputs_live, Did},
   LeftLemmas.{DidUnstopped, says_line, step_live, task_lives},
@@ -311,48 +312,47 @@ input_tells run asked {content} Leaves only (tee.to_limit x piece rest is many w
 input_tells run asked Leaves only reads = All-nil (TellsMet run (Tee asked))
 
 -- if nothing is kept back and an output broke, the status is 1
-loud_status : (on_broken : OnBroken) (broke : List (Option Break)) (fault : Option Fault) → IsLoud on_broken broke
-    → are_sound broke ≡ false → tee.status_of on_broken broke fault ≡ 1
-loud_status on_broken broke fault loud unsound = by (tee.any_is Gone (map tee.standing_of broke))
-    (tee.any_is Broken (map tee.standing_of broke)) (is_none fault) refl refl where
+loud_status : (on_broken : OnBroken) {slots : List Slot} {count : ℕ} (fault : Option Fault) → HasStreams slots count
+    → IsLoud on_broken slots → (AreSound slots → ⊥) → tee.status_for on_broken (standings_of slots) fault ≡ 1
+loud_status on_broken {slots} fault has loud unsound = by (tee.any_is Gone (standings_of slots))
+    (tee.any_is Broken (standings_of slots)) (is_none fault) refl refl where
       gone_one : (on_broken : OnBroken) (failed : Bool) → tee.is_quiet on_broken ≡ false
           → tee.gone_status on_broken failed ≡ 1
       gone_one Warn failed loud = refl
       gone_one Exit failed loud = refl
       gone_one on_broken failed loud = absurd (cc)
 
-      by : (gone broken ended : Bool) → tee.any_is Gone (map tee.standing_of broke) ≡ gone
-          → tee.any_is Broken (map tee.standing_of broke) ≡ broken
+      by : (gone broken ended : Bool) → tee.any_is Gone (standings_of slots) ≡ gone
+          → tee.any_is Broken (standings_of slots) ≡ broken
           → cond gone (tee.gone_status on_broken (not ended || broken)) (cond (not ended || broken) 1 0) ≡ 1
       by true broken ended is_gone is_broken =
           elim loud [ inl loudly ↦ gone_one on_broken (not ended || broken) loudly | inr none ↦ absurd (cc) ]
-      by false false true is_gone is_broken = absurd (false≢true (sym unsound ∙ sound_if broke is_broken is_gone))
+      by false false true is_gone is_broken = absurd (unsound (none_broke has is_broken is_gone))
       by false true true is_gone is_broken = refl
       by false broken false is_gone is_broken = refl
 
-tee_or : {run : Run} (asked : TeeAsked) {mode : Mode} {names : List (List ℕ)} {content : Content} {source : Source}
+tee_or : {run : Run} (asked : TeeAsked) {content : Content} {source : Source}
     → inputs_at run.world (names_of (Tee asked)) ≡ standard_input content ∷ []
-    → (ends : tee.EndsAs true true run.calling mode asked.on_broken names content source run.outputs
-    run.status)
+    → (ends : tee.EndsAs (tee_run run.calling true asked) true content source run.outputs run.status)
     → Unless run (Tee asked) (IsCopied ends)
-tee_or {run} asked {names = names} {content} only (tee.copied pieces fault first broke _ _ _ came _ left rest says slots is) =
+tee_or {run} asked {content} only (tee.copied pieces fault old mid came so_far says closes is) =
     elim (cases_Bool (tee.is_quiet asked.on_broken)) [
-      | inl quiet ↦ elim (cases_Bool (tee.any_is Gone (map tee.standing_of (first ∷ broke)))) [
+      | inl quiet ↦ elim (cases_Bool (tee.any_is Gone (standings_of run.outputs))) [
         | inl gone ↦ inr (inr (record {
-          silent = (quiet, any_gone run asked fault slots left rest gone);
-          broke = λ place differs broken. elim (tee_broke run asked fault slots left rest place differs broken) [
+          silent = (quiet, any_gone told gone);
+          broke = λ place differs broken. elim (tee_broke told place differs broken) [
             | inl unread ↦ inl unread
-            | inr (called, has) ↦ inr (inl (_, called, says_line has told))
+            | inr line ↦ inr (inl line)
           ];
         }))
-        | inr none ↦ loudly (are_sound (first ∷ broke)) refl (inr none)
+        | inr none ↦ loudly (inr none)
       ]
-      | inr loud ↦ loudly (are_sound (first ∷ broke)) refl (inl loud)
+      | inr loud ↦ loudly (inl loud)
     ] where
-      told : SaysLines run (Tee asked) (messages_of asked.on_broken names (first ∷ broke) (length pieces) fault)
-      told = tee_lines run asked fault slots left rest (input_tells run asked _ only came.read) says
+      told : TellsAll run asked fault
+      told = told_all run asked so_far says closes refl (input_tells run asked _ only came.read)
 
-      stop : IsLoud asked.on_broken (first ∷ broke) → run.status ≡ 1 → (why : Fault) (name : List ℕ)
+      stop : IsLoud asked.on_broken run.outputs → run.status ≡ 1 → (why : Fault) (name : List ℕ)
           → StopsRun run (Tee asked) name why → Tells run (Tee asked) why name → IsStop false run (Tee asked)
       stop loud failed why name stops line = record {
         failed = failed;
@@ -360,24 +360,25 @@ tee_or {run} asked {names = names} {content} only (tee.copied pieces fault first
         name = name;
         stops = stops;
         line = line;
-        broke = λ place differs broken. let (called, has) = tee_told run asked fault slots left rest loud place differs broken in
-            inl (_, called, says_line has told);
+        broke = λ place differs broken. inl (tee_told told loud place differs broken);
       }
 
-      loudly : (sound : Bool) → are_sound (first ∷ broke) ≡ sound → IsLoud asked.on_broken (first ∷ broke)
-          → Unless run (Tee asked) ((are_sound (first ∷ broke) ≡ true) × (concat pieces ≡ content.bytes))
-      loudly false sound loud =
-          let (place, differs, broken) = unsound_broke run asked fault slots left rest sound in
-          let (called, has) = tee_told run asked fault slots left rest loud place differs broken in
-          let which = (slot_at run.outputs place).state in
-          inr (inl (stop loud (is ∙ loud_status asked.on_broken (first ∷ broke) fault loud sound) (failing place which) _
-          (failing_stops run (Tee asked) which (differs, called, broken, refl)) (says_line has told)))
-      loudly true sound loud = elim (read_or _ (sound_goes_on asked.on_broken (suc (length pieces)) first broke sound) came.read) [
-        | inl all ↦ inl (sound, all)
-        | inr (met, many) ↦ inr (inl
-            (stop loud (is ∙ sound_status asked.on_broken (first ∷ broke) fault sound ∙ rw met) TooLong (codes "standard input")
-            (standard_input content, content, ([], [], only), refl, many)
-            (says_line (input_line asked.on_broken names (first ∷ broke) (length pieces) TooLong) (rw met at told))))
+      loudly : IsLoud asked.on_broken run.outputs
+          → Unless run (Tee asked) (AreSound run.outputs × (concat pieces ≡ content.bytes))
+      loudly loud = elim (sound_or told) [
+        | inr (place, differs, broken) ↦
+            let (name, called, line) = tee_told told loud place differs broken in
+            let which = (slot_at run.outputs place).state in
+            let unsound = λ (sound : AreSound run.outputs). false≢true (sym (sound place differs) ∙ broken) in
+            inr (inl (stop loud (is ∙ loud_status asked.on_broken fault told.streams loud unsound) (failing place which) name
+            (failing_stops run (Tee asked) which (differs, called, broken, refl)) line))
+        | inl sound ↦ elim (read_or _ (sound_goes_on asked.on_broken (stands_streams (stands_of so_far))
+            (old_sound so_far says closes sound)) came.read) [
+              | inl all ↦ inl (sound, all)
+              | inr (met, many) ↦ inr (inl
+                  (stop loud (is ∙ sound_status asked.on_broken fault told.streams sound ∙ rw met) TooLong (codes "standard input")
+                  (standard_input content, content, ([], [], only), refl, many) (says_line (told.input TooLong met) told.says)))
+            ]
       ]
 tee_or asked only (tee.no_room error says unread slots is) = inr (inl (stop_early Memory [] tt says slots is))
 
@@ -447,21 +448,24 @@ ran_so {run} {asked} ran = elim (ran_over ran) [
 -- A `tee` with status 0 copied all, if its outputs are sound or its mode doesn't forgive.
 
 whole_copied : (run : Run) (asked : TeeAsked) {content : Content} {source : Source}
-    (ends : tee.EndsAs true true run.calling asked.mode asked.on_broken asked.names content source
-    run.outputs run.status)
-    → run.status ≡ 0 → (tee.forgives asked.on_broken ≡ true → tee.AreSound run.outputs) → IsCopied ends
-whole_copied run asked (tee.copied pieces fault first broke output error files comes some left rest says slots is) well sound =
-    let good = well_of asked.on_broken fault left rest slots sound (sym is ∙ well) in (
+    (ends : tee.EndsAs (tee_run run.calling true asked) true content source run.outputs run.status)
+    → run.status ≡ 0 → (tee.forgives asked.on_broken ≡ true → AreSound run.outputs) → IsCopied ends
+whole_copied run asked (tee.copied pieces fault old mid comes so_far says closes is) well sound =
+    let good = well_of asked.on_broken fault (end_streams so_far says closes) sound (sym is ∙ well) in (
       good.1,
-      elim (read_or _ (sound_goes_on asked.on_broken (suc (length pieces)) first broke good.1) comes.read) [
-        | inl same ↦ same
-        | inr (met, many) ↦ grind (arith, common_steps)
-      ],
+      elim (read_or _ (sound_goes_on asked.on_broken (stands_streams (stands_of so_far))
+          (old_sound so_far says closes good.1)) comes.read) [
+            | inl same ↦ same
+            | inr (met, many) ↦ grind (arith, common_steps)
+          ],
     )
 whole_copied run asked (tee.no_room error says unread slots is) well sound = absurd (omega (arith, is, well))
 
 pub silent_completes : {run : Run} (asked : Settings) → Does run asked → IsSilent run asked → Completes run asked
-silent_completes {run} (Tee asked) does silent = grind (arith, common_steps, whole_copied)
+silent_completes {run} (Tee asked) does silent = elim (ran_over does.ran) [
+  | inl did ↦ record { read = does.ran.read; does = did; unstopped = whole_copied run asked did.ends does.well does.unforgiven }
+  | inr (fault, bad, refuses) ↦ absurd bad
+]
 silent_completes asked does silent = absurd (omega (arith, does.well, silent.2))
 
 pub completes_or : (run : Run) (asked : Settings) → Ran run asked
@@ -483,27 +487,28 @@ told_one {run} {asked} {line} {lines} says (before, after, is) =
     (fault, name, met, says_line (rw same at has) says)
 
 -- if a `tee` doesn't report readers that are gone and has the status 1, it reports what else failed
-tee_why : (run : Run) (asked : TeeAsked) {mode : Mode} {names : List (List ℕ)} {content : Content} {source : Source}
+tee_why : (run : Run) (asked : TeeAsked) {content : Content} {source : Source}
     → inputs_at run.world (names_of (Tee asked)) ≡ standard_input content ∷ [] → tee.is_quiet asked.on_broken ≡ true
-    → tee.EndsAs true true run.calling mode asked.on_broken names content source run.outputs run.status
+    → tee.EndsAs (tee_run run.calling true asked) true content source run.outputs run.status
     → run.status ≡ 1 → SaysWhy run (Tee asked)
-tee_why run asked {names = names} only quiet (tee.copied pieces fault first broke _ _ _ comes some left rest says slots is) one =
-    told_one (tee_lines run asked fault slots left rest (input_tells run asked _ only comes.read) says) (by fault refl).1 where
-      silent : (on_broken : OnBroken) (gone : Bool) → tee.is_quiet on_broken ≡ true
-          → cond gone (tee.gone_status on_broken false) 0 ≡ 1 → ⊥
-      silent on_broken false quiet one = omega (arith, one)
-      silent Warn true quiet one = false≢true quiet
-      silent Exit true quiet one = false≢true quiet
-      silent on_broken true quiet one = omega (arith, one)
+tee_why run asked only quiet (tee.copied pieces fault old mid comes so_far says closes is) one = by fault refl where
+  told : TellsAll run asked fault
+  told = told_all run asked so_far says closes refl (input_tells run asked _ only comes.read)
 
-      by : (met : Option Fault) → fault ≡ met
-          → (line : Message) × HasLine line (messages_of asked.on_broken names (first ∷ broke) (length pieces) fault)
-      by (Some met) at = rw at (_, input_line asked.on_broken names (first ∷ broke) (length pieces) met)
-      by None at = elim (cases_Bool (tee.any_is Broken (map tee.standing_of (first ∷ broke)))) [
-        | inl broken ↦ broken_tells run asked fault slots left rest broken
-        | inr unbroken ↦ absurd (silent asked.on_broken (tee.any_is Gone (map tee.standing_of (first ∷ broke))) quiet
-            (rw (at, unbroken) at (sym is ∙ one)))
-      ]
+  silent : (on_broken : OnBroken) (gone : Bool) → tee.is_quiet on_broken ≡ true
+      → cond gone (tee.gone_status on_broken false) 0 ≡ 1 → ⊥
+  silent on_broken false quiet one = omega (arith, one)
+  silent Warn true quiet one = false≢true quiet
+  silent Exit true quiet one = false≢true quiet
+  silent on_broken true quiet one = omega (arith, one)
+
+  by : (met : Option Fault) → fault ≡ met → SaysWhy run (Tee asked)
+  by (Some met) at = told_one told.says (told.input met at)
+  by None at = elim (cases_Bool (tee.any_is Broken (standings_of run.outputs))) [
+    | inl broken ↦ broken_why told broken
+    | inr unbroken ↦ absurd (silent asked.on_broken (tee.any_is Gone (standings_of run.outputs)) quiet
+        (rw (at, unbroken) at (sym is ∙ one)))
+  ]
 tee_why run asked only quiet (tee.no_room error says unread slots is) one =
     (Memory, [], inl tt, tells_one run (Tee asked) Memory [] (inl tt) (rw slots says))
 

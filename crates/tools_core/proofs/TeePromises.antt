@@ -1,218 +1,115 @@
 -- Lemmas on what a run of `tee` leaves and reports of its outputs, and on what ended it.
 use Rattle.std.proofs.{
-  Common.{◌≡◌, ◌⊎◌, ℕ, ◌≤◌, ◌<◌, ◌^◌, get_or, map, zero, suc, Bool, true, false, List, [], ◌∷◌, ◌++◌, length},
-  Common.{take, Option, None, Some, cond, nat_lt, inl, inr, refl, sym, ◌∙◌, ap, arith, append-nil, append_assoc, All},
-  Common.{length-append, codes, not, rules, subst},
+  Common.{◌≡◌, ◌⊎◌, ℕ, ◌+◌, ◌≤◌, ◌<◌, ◌^◌, get_or, map, zero, suc, Bool, true, false, List, [], ◌∷◌, ◌++◌, length},
+  Common.{take, Option, Some, cond, inl, inr, refl, sym, ◌∙◌, ap, arith, append-nil, All, codes, not},
   lemmas.{
-    List.Elements.{All-append, All-cons, All-nil},
+    List.{Elements.{All-append, All-nil}, Folds.{Any-from_list_any, list_any_at}, get_or_default, get_or_past, length-map},
     Grind.common_steps,
-    Bool.{and_parts, cases_Bool, cases_lt, cond_both, eq-eqb, eqb-true, lt-ltb, not-true, or_parts, false≢true},
-    Bool.or_cases,
-    Bool.Decides.nat_tests,
-    List.Folds.concat-append,
+    Bool.{cases_Bool, cases_lt, cond_both, false≢true, not-true, or_cases, or_parts},
   },
-  Math.Bool.or-true,
 }
 use Rattle.std.specs.List.{concat, list_any}
 use Rattle.ports_core.specs.{
   declared.{
     reason.Reason.Reason,
-    fault.Fault.{Fault, TheVariants.Memory},
-    calling.Calling.Calling,
+    fault.Fault.{Fault, TheVariants.{Memory, Open, Write}},
     on_broken.OnBroken.OnBroken,
     slot.{State.{State, TheVariants.Unopened}, Mode.Mode},
   },
   Inputs.largest_piece,
-  Slot.{Slot, adds, slot_at},
+  Slot.{Slot, closes, is_open, no_slot, opened, slot_at},
   Source.{Content, Source, source_at},
-  Streams.{streams_with, standard_error, standard_output},
-  Part.{IsBeginning, file_of},
+  Streams.{streams_with, standard_error},
+  Part.{IsBeginning},
   Text.{Message, message_of},
   Message.SaysAll,
 }
-use Rattle.ports_core.proofs.PartLemmas.{begins_itself, begins_trans, take_begins_after}
-use Rattle.tee_core.specs.{
-  Run.{Break, FileLeft, FilesLeft, IsRead, LeavesOf, OutputLeft, any_is, ends_run, is_done, is_same, lost_for},
-  Run.{stands_as, standing_before, standing_of, standings_before, are_sound, fault_in, messages_of, output_names},
-  Run.{said_before, said_in, said_of_input},
-  declared.standing.Standing.{Standing, TheVariants.{Broken, Gone, Sound}},
+use Rattle.ports_core.proofs.{
+  MessageLemmas.says_after,
+  PartLemmas.{begins_itself, begins_trans, nothing_begins},
+}
+use Rattle.tee_core.{
+  specs.{
+    Outputs.{Closes, Gets, gets_all, breaks_off, gets_none, is_closed, fails_to_close, was_broken},
+    Opening.{OpensAs, is_opened, is_unopened},
+    Run.{AreSound, ClosesAll, Copied, IsRead, LeavesOf, SaysTo, Step, TeeRun, all_opened, any_is, ends_run, is_done},
+    Run.{is_same, lost_for, output_names, said_of_input, said_in, said_since, standings_of, stands_as, tee_called, tells},
+    declared.standing.Standing.{Standing, TheVariants.{Broken, Gone, Sound}},
+    inner.Steps.{HasStreams, output_at, output_slot},
+  },
+  proofs.{
+    CopyLemmas.{Has, Stands, has_all, has_begun, has_none, has_sound, joined_more, mapped_at, output_of, said_error},
+    CopyLemmas.{said_place, stands_of, stands_said, stands_streams, start_of, starts_well, streams_count, streams_kept},
+    CopyLemmas.streams_of,
+    EndLemmas.{end_streams, none_broke},
+    TellLemmas.{count_standings, standing_at},
+  },
 }
 use Rattle.words_core.specs.{TeeWords.TeeAsked, declared.settings.Settings.{Settings, TheVariants.Tee}}
 use Rattle.tools_core.{
   specs.{
+    Outcome.tee_run,
     Promises.{BeginsAs, BrokeAt, EndsWithBreak, HasGone, HasUpTo, IsCalled, LostReader, OneIs, Ran, Run, SaysLines},
-    Promises.{StopsRun, Tells, TellsMet, failing, message_by},
-    Tasks.speaker_of,
+    Promises.{SaysWhy, StopsRun, Tells, TellsMet, failing, message_by},
   },
   proofs.BeginLemmas.{bare_begins, empty_begins},
-  proofs.LeftLemmas.{copy, slot_of, slots_of, tee_made, HasLine, has_after, has_before, tells_one, ran_over},
-  proofs.LeftLemmas.same_content,
+  proofs.LeftLemmas.{HasLine, copies_are, copy, has_after, has_before, one_line, ran_over, same_content, says_line},
+  proofs.LeftLemmas.{slots_of, tee_made, tells_one},
 }
 use Rattle.ports_core.specs.declared.slot.State.TheVariants as state
 use Rattle.ports_core.specs.declared.reason.Reason.TheVariants as reason
 use Rattle.tee_core.specs.Run as tee
 
--- Standard output and the files, numbered without standard error, which is the slot after the first.
+abbrev job_of : Run → TeeAsked → TeeRun
+job_of run asked = tee_run run.calling true asked
 
-abbrev pub number_of : ℕ → ℕ
-number_of zero = zero
-number_of (suc place) = place
+-- One output, by its slot.
 
-each_number : (P : ℕ → Type 0) → ((place : ℕ) → (place ≡ 1 → ⊥) → P (number_of place)) → (number : ℕ) → P number
-each_number P each zero = each 0 (λ is. omega (arith, is))
-each_number P each (suc number) = each (suc (suc number)) (λ is. omega (arith, is))
+open_writes : (which : State) → is_open which ≡ true → failing 0 which ≡ Write 0
+open_writes state.Open opened = refl
+open_writes which opened = absurd (cc)
 
--- how the output of this number broke, if it did
-abbrev pub broke_at : List (Option Break) → ℕ → Option Break
-broke_at broke number = get_or broke number None
-
--- `Line` is true of each line, if it is true of the lines about outputs, each in its call, and about the input.
-
-module _ (Line : Message → Type 0) (on_broken : OnBroken) where
-  abbrev TellEach : List (List ℕ) → List (Option Break) → Type 0
-  TellEach names broke = (number : ℕ) (one : Break) → broke_at broke number ≡ Some one
-      → Line (message_of (fault_in one.call) (get_or names number []))
-
-  in_call_are : (call : ℕ) (names : List (List ℕ)) (broke : List (Option Break)) → TellEach names broke
-      → All Line (said_in on_broken call names broke)
-  in_call_are call (name ∷ names) (None ∷ broke) tell = in_call_are call names broke (λ number. tell (suc number))
-  in_call_are call (name ∷ names) (Some one ∷ broke) tell =
-      let are = in_call_are call names broke (λ number. tell (suc number)) in
-      cond_both (tee.tells_in on_broken call (Some one)) _ _ (All Line)
-      (λ is. All-cons Line _ _ (rw (eqb-true one.call call (and_parts _ _ is).0) at (tell 0 one refl)) are) (λ differs. are)
-  in_call_are call names broke tell = All-nil Line
-
-  before_are : (call : ℕ) (names : List (List ℕ)) (broke : List (Option Break)) → TellEach names broke
-      → All Line (said_before on_broken call names broke)
-  before_are zero names broke tell = All-nil Line
-  before_are (suc call) names broke tell =
-      grind (arith, common_steps, in_call_are, (before_are call names broke tell))
-
--- An output that broke has its line, after the call in which it broke.
-
--- a fault of an output isn't about words
+-- no message has the number of an output's slot, and a fault of an output isn't about words
 failing_message : (run : Run) (place : ℕ) (which : State) (name : List ℕ)
-    → message_of (failing place which) name ≡ message_by run (failing place which) name
+    → message_of (failing 0 which) name ≡ message_by run (failing place which) name
 failing_message run place state.Unopened name = refl
 failing_message run place state.Open name = refl
 failing_message run place state.Closed name = refl
 failing_message run place state.Removed name = refl
 
--- how an output that broke was left
-record HasBroken (last : ℕ) (name : List ℕ) (output : Slot) (one : Break) : Type 0 where
-  pub within : one.call ≤ last
-  pub called : IsCalled output name
-  pub same : (place : ℕ) → message_of (fault_in one.call) name ≡ message_of (failing place output.state) name
-  pub broken : output.is_broken ≡ true
-  pub why : output.reason ≡ one.why
+-- how an output stands says whether it is broken, and whether its reader is gone
 
-abbrev Broke : ℕ → List ℕ → Slot → Option Break → Type 0
-Broke last name output None = output.is_broken ≡ false
-Broke last name output (Some one) = HasBroken last name output one
+lost_sound : (why : Reason) → lost_for why ≡ Sound → ⊥
+lost_sound reason.Gone is = cc
+lost_sound why is = cc
 
-output_broke : {pieces : List (List ℕ)} {when : Option Break} {output : Slot} → OutputLeft true pieces when output
-    → Broke (suc (length pieces)) (codes "standard output") output when
-output_broke tee.output_whole = refl
-output_broke (tee.output_cut before piece after n is few) = grind (arith, common_steps)
+sound_slot : (slot : Slot) → stands_as slot ≡ Sound → slot.is_broken ≡ false
+sound_slot slot is = by slot.is_broken is where
+  by : (broken : Bool) → cond broken (lost_for slot.reason) Sound ≡ Sound → broken ≡ false
+  by false is = refl
+  by true is = absurd (lost_sound slot.reason is)
 
-file_broke : {mode : Mode} {pieces : List (List ℕ)} {name : List ℕ} {when : Option Break} {file : Slot}
-    → FileLeft true mode pieces name when file → Broke (suc (length pieces)) name file when
-file_broke tee.file_whole = refl
-file_broke (tee.file_unopened kept is) = grind (arith, common_steps)
-file_broke (tee.file_cut before piece after n is few) = grind (arith, common_steps)
-file_broke tee.file_unclosed = grind (arith, common_steps)
+-- a standing other than `Sound` that passes a test
+broken_slot : (test : Standing → Bool) → test Sound ≡ false → (slot : Slot) → test (stands_as slot) ≡ true
+    → slot.is_broken ≡ true
+broken_slot test lost slot is = by slot.is_broken is where
+  by : (broken : Bool) → test (cond broken (lost_for slot.reason) Sound) ≡ true → broken ≡ true
+  by false is = absurd (false≢true (sym lost ∙ is))
+  by true is = refl
 
-files_broke : {mode : Mode} {pieces names : List (List ℕ)} {broke : List (Option Break)} {files : List Slot}
-    → FilesLeft true mode pieces names broke files → (number : ℕ)
-    → Broke (suc (length pieces)) (get_or names number []) (slot_at files number) (broke_at broke number)
-files_broke tee.no_file number = refl
-files_broke (tee.one_file name names when broke file files left rest) zero = file_broke left
-files_broke (tee.one_file name names when broke file files left rest) (suc number) = files_broke rest number
+stands_lost : (slot : Slot) → slot.is_broken ≡ true → stands_as slot ≡ lost_for slot.reason
+stands_lost slot broken = rw broken refl
 
-said_by : (is : Bool) {line : Message} (other : Message) {lines : List Message} → HasLine line lines
-    → HasLine line (cond is (other ∷ lines) lines)
-said_by true other has = has_after (other ∷ []) has
-said_by false other has = has
+gone_why : (why : Reason) → is_same (lost_for why) Gone ≡ true → why ≡ reason.Gone
+gone_why reason.Gone is = refl
+gone_why why is = absurd (cc)
 
-said_at : (on_broken : OnBroken) {mode : Mode} {pieces names : List (List ℕ)} {broke : List (Option Break)}
-    {files : List Slot} (name : List ℕ) (first : Option Break) (call number : ℕ)
-    → FilesLeft true mode pieces names broke files
-    → tee.tells_in on_broken call (broke_at (first ∷ broke) number) ≡ true
-    → HasLine (message_of (fault_in call) (get_or (name ∷ names) number []))
-    (said_in on_broken call (name ∷ names) (first ∷ broke))
-said_at on_broken name first call zero rest tells = rw tells ([], _, refl)
-said_at on_broken name first call (suc number) (tee.one_file _ _ _ _ _ _ left rest) tells =
-    said_by (tee.tells_in on_broken call first) _ (said_at on_broken _ _ call number rest tells)
-said_at on_broken name first call (suc number) tee.no_file tells = absurd (cc)
+told_broken : (on_broken : OnBroken) (standing : Standing) → is_same standing Broken ≡ true
+    → tee.is_told on_broken standing ≡ true
+told_broken on_broken Broken is = refl
+told_broken on_broken standing is = absurd (cc)
 
-before_line : {line : Message} (on_broken : OnBroken) (last : ℕ) {call : ℕ} (names : List (List ℕ))
-    (broke : List (Option Break)) → call < last → HasLine line (said_in on_broken call names broke)
-    → HasLine line (said_before on_broken last names broke)
-before_line on_broken zero names broke less has = search rules
-before_line on_broken (suc last) {call} names broke less has = elim (cases_lt call last) [
-  | inl before ↦ has_before (said_in on_broken last names broke) (before_line on_broken last names broke before has)
-  | inr past ↦ let same : call ≡ last = omega (arith, less, past) in has_after (said_before on_broken last names broke) (rw same at has)
-]
-
-call_line : {line : Message} (on_broken : OnBroken) (names : List (List ℕ)) (broke : List (Option Break))
-    {pieces call : ℕ} (fault : Option Fault) → call ≤ suc pieces
-    → HasLine line (said_in on_broken call (output_names names) broke)
-    → HasLine line (messages_of on_broken names broke pieces fault)
-call_line {line} on_broken names broke {pieces} {call} fault within has = elim (cases_lt call (suc pieces)) [
-  | inl before ↦ has_before _ (has_before _ (before_line on_broken (suc pieces) (output_names names) broke before has))
-  | inr past ↦ let same : call ≡ suc pieces = omega (arith, within, past) in has_after _
-      (subst (λ those. HasLine line (said_in on_broken those (output_names names) broke)) same has)
-]
-
--- the fault that ended the reading has its line, too
-pub input_line : (on_broken : OnBroken) (names : List (List ℕ)) (broke : List (Option Break)) (pieces : ℕ)
-    (fault : Fault)
-    → HasLine (message_of fault (codes "standard input")) (messages_of on_broken names broke pieces (Some fault))
-input_line on_broken names broke pieces fault = has_before _ (has_after _ ([], [], refl))
-
--- Some output passes a test, or no output does.
-
-one_of : (test : Standing → Bool) (by : Option Break → Standing) (broke : List (Option Break))
-    → list_any test (map by broke) ≡ true → (number : ℕ) × (test (by (broke_at broke number)) ≡ true)
-one_of test by [] is = absurd (cc)
-one_of test by (when ∷ broke) is = elim (or_cases _ _ is) [
-  | inl here ↦ (0, here)
-  | inr later ↦ let (number, one) = one_of test by broke later in (suc number, one)
-]
-
-any_tests : (one : Standing) (standings : List Standing)
-    → any_is one standings ≡ list_any (λ standing. is_same standing one) standings
-any_tests one [] = refl
-any_tests one (standing ∷ standings) = rw (any_tests one standings)
-
-none_of : (one : Standing) (by : Option Break → Standing) (broke : List (Option Break)) (number : ℕ)
-    → any_is one (map by broke) ≡ false → (is_same (by None) one ≡ false) ⊎ (number < length broke)
-    → is_same (by (broke_at broke number)) one ≡ false
-none_of one by [] number none (inl differs) = differs
-none_of one by [] number none (inr within) = absurd (omega (arith, within))
-none_of one by (when ∷ broke) zero none within = (or_parts _ _ none).0
-none_of one by (when ∷ broke) (suc number) none (inl differs) =
-    none_of one by broke number (or_parts _ _ none).1 (inl differs)
-none_of one by (when ∷ broke) (suc number) none (inr within) =
-    none_of one by broke number (or_parts _ _ none).1 (inr (omega (arith, within)))
-
-unsound_at : (broke : List (Option Break)) → are_sound broke ≡ false
-    → (number : ℕ) × (one : Break) × (broke_at broke number ≡ Some one)
-unsound_at [] sound = absurd (cc)
-unsound_at (None ∷ broke) sound = let (number, one, is) = unsound_at broke sound in (suc number, one, is)
-unsound_at (Some one ∷ broke) sound = (0, one, refl)
-
--- Which outputs are reported: outputs whose readers are gone only if nothing is kept back.
-
-told_broken : (on_broken : OnBroken) (why : Reason) → is_same (lost_for why) Broken ≡ true
-    → tee.is_told on_broken (lost_for why) ≡ true
-told_broken on_broken reason.Gone is = absurd (cc)
-told_broken on_broken why is = refl
-
--- nothing is kept back: the mode doesn't allow it, or no reader is gone
-abbrev pub IsLoud : OnBroken → List (Option Break) → Type 0
-IsLoud on_broken broke = (tee.is_quiet on_broken ≡ false) ⊎ (any_is Gone (map standing_of broke) ≡ false)
-
+-- an output that broke is reported, unless its reader is gone and the mode keeps that back
 told_loud : (on_broken : OnBroken) (why : Reason)
     → (tee.is_quiet on_broken ≡ false) ⊎ (is_same (lost_for why) Gone ≡ false)
     → tee.is_told on_broken (lost_for why) ≡ true
@@ -220,198 +117,453 @@ told_loud on_broken reason.Gone (inl loud) = ap not loud
 told_loud on_broken reason.Gone (inr none) = absurd (cc)
 told_loud on_broken why loud = refl
 
-gone_why : (why : Reason) → is_same (lost_for why) Gone ≡ true → why ≡ reason.Gone
-gone_why reason.Gone is = refl
-gone_why why is = absurd (cc)
+tells_parts : (on_broken : OnBroken) (was now : Standing) → tells on_broken was now ≡ true
+    → (was ≡ Sound) × (tee.is_told on_broken now ≡ true)
+tells_parts on_broken Sound now is = (refl, is)
+tells_parts on_broken was now is = absurd (cc)
+
+-- Outputs are numbered without standard error.
+
+each_place : (P : ℕ → Type 0) → ((n : ℕ) → P (output_slot n)) → (place : ℕ) → (place ≡ 1 → ⊥) → P place
+each_place P each zero differs = each 0
+each_place P each (suc zero) differs = absurd (differs refl)
+each_place P each (suc (suc n)) differs = each (suc n)
+
+not_error : (n : ℕ) → output_slot n ≡ 1 → ⊥
+not_error zero is = omega (arith, is)
+not_error (suc n) is = omega (arith, is)
+
+broken_within : (slots : List Slot) (place : ℕ) → (slot_at slots place).is_broken ≡ true → place < length slots
+broken_within [] place broken = absurd (cc)
+broken_within (slot ∷ slots) zero broken = omega arith
+broken_within (slot ∷ slots) (suc place) broken = omega (arith, broken_within slots place broken)
+
+-- where they stand
+module _ {slots : List Slot} {count : ℕ} (has : HasStreams slots count) where
+  number_within : (n : ℕ) → output_slot n < length slots → n ≤ count
+  number_within zero within = omega arith
+  number_within (suc n) within = omega (arith, within, streams_count has)
+
+  broken_number : (n : ℕ) → (output_at slots n).is_broken ≡ true → n ≤ count
+  broken_number n broken = number_within n (broken_within slots (output_slot n) broken)
+
+  stands_at : (n : ℕ) → get_or (standings_of slots) n Sound ≡ stands_as (output_at slots n)
+  stands_at n = rw has.are (sym (standing_at has.output has.error has.files n))
+
+  -- some output passes a test
+  one_at : (test : Standing → Bool) → list_any test (standings_of slots) ≡ true
+      → (n : ℕ) × (n ≤ count) × (test (stands_as (output_at slots n)) ≡ true)
+  one_at test any = let (n, standing, within, same, is) = Any-from_list_any test (standings_of slots) any in (
+    n,
+    omega (arith, within, count_standings has),
+    rw (← (stands_at n), get_or_default (standings_of slots) n Sound standing within, same) is,
+  )
+
+  any_at : (test : Standing → Bool) {n : ℕ} → n ≤ count
+      → test (stands_as (output_at slots n)) ≡ true → list_any test (standings_of slots) ≡ true
+  any_at test {n} within tested =
+      list_any_at test (standings_of slots) n Sound (omega (arith, within, count_standings has)) (rw (stands_at n) tested)
+
+any_tests : (one : Standing) (standings : List Standing)
+    → any_is one standings ≡ list_any (λ standing. is_same standing one) standings
+any_tests one [] = refl
+any_tests one (standing ∷ standings) = rw (any_tests one standings)
+
+-- The lines about outputs that broke in a step.
+
+module _ (job : TeeRun) (fault : Fault) (was now : List Standing) where
+  -- the output of this number broke in the step, and is reported
+  abbrev IsDue : ℕ → Type 0
+  IsDue n = tells job.on_broken (get_or was n Sound) (get_or now n Sound) ≡ true
+
+  abbrev line_of : ℕ → Message
+  line_of n = message_of fault (get_or (output_names job.names) n [])
+
+  since_are : (Line : Message → Type 0) → ((n : ℕ) → IsDue n → Line (line_of n)) → (count : ℕ)
+      → All Line (said_since job fault was now count)
+  since_are Line tell zero = All-nil Line
+  since_are Line tell (suc count) = All-append Line _ _ (since_are Line tell count)
+      (cond_both (tells job.on_broken (get_or was count Sound) (get_or now count Sound)) (line_of count ∷ []) [] (All Line)
+      (λ is. one_line Line (line_of count) (tell count is)) (λ differs. All-nil Line))
+
+  since_has : (n count : ℕ) → n < count → IsDue n → HasLine (line_of n) (said_since job fault was now count)
+  since_has n zero within is = absurd (omega arith)
+  since_has n (suc count) within is = elim (cases_lt n count) [
+    | inl before ↦ has_before _ (since_has n count before is)
+    | inr past ↦ let same : count ≡ n = omega (arith, within, past) in
+        has_after (said_since job fault was now count) (rw (same, is) ([], [], refl))
+  ]
+
+-- the line about an output of this number that is broken
+abbrev line_at : TeeRun → ℕ → Slot → Message
+line_at job n slot = message_of (failing 0 slot.state) (get_or (output_names job.names) n [])
+
+-- an output in a step: if it was broken it stays as it is, and if it breaks it has the fault of the step
+abbrev Breaks : Fault → Slot → Slot → Type 0
+Breaks fault old new = (old.is_broken ≡ true → new ≡ old)
+    × (old.is_broken ≡ false → new.is_broken ≡ true → failing 0 new.state ≡ fault)
+
+same_breaks : {fault : Fault} {old new : Slot} → new ≡ old → Breaks fault old new
+same_breaks is = (λ broken. is, λ sound broken. absurd (false≢true (sym sound ∙ ap (λ (slot : Slot). slot.is_broken) (sym is) ∙ broken)))
+
+sound_breaks : {fault : Fault} {old new : Slot} → old.is_broken ≡ false
+    → (new.is_broken ≡ true → failing 0 new.state ≡ fault) → Breaks fault old new
+sound_breaks sound fails = (λ broken. absurd (false≢true (sym sound ∙ broken)), λ was. fails)
+
+opened_breaks : {mode : Mode} {name : List ℕ} {old new : Slot} → old.is_broken ≡ false → OpensAs mode name new
+    → Breaks (Open 0) old new
+opened_breaks sound is_opened = sound_breaks sound (λ broken. absurd (cc))
+opened_breaks sound (is_unopened kept why named) = sound_breaks sound (λ broken. refl)
+
+gets_breaks : {piece : List ℕ} {told : Bool} {old new : Slot} → (old.is_broken ≡ false → is_open old.state ≡ true)
+    → Gets told piece old new → Breaks (Write 0) old new
+gets_breaks usable (gets_all sound) = sound_breaks sound (λ broken. absurd (false≢true (sym sound ∙ broken)))
+gets_breaks {old = old} usable (breaks_off sound n why within) = sound_breaks sound (λ broken. open_writes old.state (usable sound))
+gets_breaks usable (gets_none broken) = same_breaks refl
+
+-- an output that is told of is broken
+told_slot : (on_broken : OnBroken) (slot : Slot) → tee.is_told on_broken (stands_as slot) ≡ true → slot.is_broken ≡ true
+told_slot on_broken = broken_slot (tee.is_told on_broken) refl
+
+-- The lines of a run, if outputs that broke stand at the end as these, and each line about one of them is such a line.
+module _ (job : TeeRun) (final : List Slot) (Line : Message → Type 0)
+    (tell : (n : ℕ) → n ≤ length job.names → (output_at final n).is_broken ≡ true
+    → Line (line_at job n (output_at final n))) where
+  abbrev Stay : List Slot → Type 0
+  Stay slots = (n : ℕ) → (output_at slots n).is_broken ≡ true → output_at final n ≡ output_at slots n
+
+  -- the lines so far: each output that is broken, and is to be reported, has one
+  record Reports (lines : List Message) (slots : List Slot) : Type 0 where
+    pub said : SaysAll job.told (tee_called job.calling) lines standard_error (slot_at slots 1)
+    pub are : All Line lines
+    pub each : (n : ℕ) → n ≤ length job.names → (output_at slots n).is_broken ≡ true
+        → tee.is_told job.on_broken (stands_as (output_at final n)) ≡ true → HasLine (line_at job n (output_at final n)) lines
+
+  reports_said : {lines messages : List Message} {old new : List Slot} → HasStreams old (length job.names)
+      → Reports lines old → SaysTo job messages old new → All Line messages → Reports (lines ++ messages) new
+  reports_said {lines} {messages} {old} has so_far says are = record {
+    said = rw (said_error says (omega (arith, streams_count has)))
+        (says_after job.told (tee_called job.calling) lines messages standard_error (slot_at old 1) says.error so_far.said says.said);
+    are = All-append Line lines messages so_far.are are;
+    each = λ n within broken told.
+        has_before messages (so_far.each n within (rw (said_place says (output_slot n) (not_error n)) at broken) told);
+  }
+
+  module _ {fault : Fault} {Change : Slot → Slot → Type 0} {IsOne : ℕ → Type 0} {old new : List Slot}
+      (has : HasStreams old (length job.names)) (step : Step job fault Change IsOne old new)
+      (breaks : (n : ℕ) → n ≤ length job.names → Breaks fault (output_at old n) (output_at step.mid n))
+      (stay : Stay new) where
+    now_at : (n : ℕ) → output_at new n ≡ output_at step.mid n
+    now_at n = said_place step.said (output_slot n) (not_error n)
+
+    stay_before : Stay old
+    stay_before n broken = let same = now_at n ∙ (breaks n (broken_number has n broken)).0 broken in stay n (rw same broken) ∙ same
+
+    reports_next : {lines : List Message} → (IsOne 1 → ⊥) → Reports lines old
+        → Reports (lines ++ said_in job fault old step.mid) new
+    reports_next {lines} apart so_far = record {
+      said = rw (said_error step.said (omega (arith, streams_count mid)))
+          (says_after job.told (tee_called job.calling) lines _ standard_error (slot_at old 1) step.said.error so_far.said
+          (rw (step.changes.others 1 apart) at step.said.said));
+      are = All-append Line lines _ so_far.are (since_are job fault (standings_of old) (standings_of step.mid) Line about (length job.names + 1));
+      each = λ n within broken told. by n within broken told (output_at old n).is_broken refl;
+    } where
+      mid : HasStreams step.mid (length job.names)
+      mid = streams_kept has step.changes.count (step.changes.others 1 apart)
+
+      -- the line about an output that broke in the step
+      line : (n : ℕ) → n ≤ length job.names → (output_at old n).is_broken ≡ false → (output_at step.mid n).is_broken ≡ true
+          → line_of job fault (standings_of old) (standings_of step.mid) n ≡ line_at job n (output_at final n)
+      line n within sound broken =
+          rw (stay n (rw (now_at n) broken), now_at n, (breaks n within).1 sound broken) refl
+
+      about : (n : ℕ) → IsDue job fault (standings_of old) (standings_of step.mid) n
+          → Line (line_of job fault (standings_of old) (standings_of step.mid) n)
+      about n told =
+          let (was, now) = tells_parts job.on_broken _ _ (rw (stands_at has n, stands_at mid n) at told) in
+          let broken = told_slot job.on_broken (output_at step.mid n) now in
+          let within = broken_number mid n broken in
+          rw (line n within (sound_slot (output_at old n) was) broken)
+          (tell n within (rw (stay n (rw (now_at n) broken), now_at n) broken))
+
+      by : (n : ℕ) → n ≤ length job.names → (output_at new n).is_broken ≡ true
+          → tee.is_told job.on_broken (stands_as (output_at final n)) ≡ true → (broken : Bool)
+          → (output_at old n).is_broken ≡ broken
+          → HasLine (line_at job n (output_at final n)) (lines ++ said_in job fault old step.mid)
+      by n within broken told true was = has_before _ (so_far.each n within was told)
+      by n within broken told false sound =
+          let now = rw (stay n broken, now_at n) at told in
+          has_after lines (rw (← (line n within sound (rw (now_at n) at broken)))
+          (since_has job fault (standings_of old) (standings_of step.mid) n (length job.names + 1) (omega (arith, within))
+          (rw (stands_at has n, stands_at mid n, sound) now)))
+
+  reports_of : {pieces : List (List ℕ)} {slots : List Slot} → Copied job pieces slots → Stay slots
+      → (lines : List Message) × Reports lines slots
+  reports_of (tee.started new step) stay = (_, reports_next first step breaks stay (λ file. omega (arith, file.0)) none) where
+    first : HasStreams (all_opened job) (length job.names)
+    first = streams_of (omega (arith, length-map job.names (λ name. opened name job.mode))) refl
+
+    start : (n : ℕ) → (output_at (all_opened job) n).is_broken ≡ false
+    start zero = refl
+    start (suc n) = by job.names n where
+      by : (names : List (List ℕ)) (n : ℕ) → (slot_at (map (λ name. opened name job.mode) names) n).is_broken ≡ false
+      by [] n = refl
+      by (name ∷ names) zero = refl
+      by (name ∷ names) (suc n) = by names n
+
+    none : Reports [] (all_opened job)
+    none = record {
+      said = refl;
+      are = All-nil Line;
+      each = λ n within broken told. absurd (false≢true (sym (start n) ∙ broken));
+    }
+
+    breaks : (n : ℕ) → n ≤ length job.names → Breaks (Open 0) (output_at (all_opened job) n) (output_at step.mid n)
+    breaks zero within = same_breaks (step.changes.others 0 (λ file. omega (arith, file.0)))
+    breaks (suc n) within = opened_breaks (start (suc n)) (step.changes.each (suc (suc n)) (omega arith, omega (arith, within)))
+  reports_of (tee.one_more pieces piece old new so_far goes some few step) stay =
+      let (lines, reports) = reports_of so_far (stay_before (stands_streams stands) step breaks stay) in
+      (_, reports_next (stands_streams stands) step breaks stay (λ is. is.0 refl) reports) where
+        stands : Stands job (concat pieces) old
+        stands = stands_of so_far
+
+        breaks : (n : ℕ) → n ≤ length job.names → Breaks (Write 0) (output_at old n) (output_at step.mid n)
+        breaks n within = gets_breaks (λ sound. rw (has_sound (stands.each n within) sound) (starts_well job n).1)
+            (step.changes.each (output_slot n) (output_of job.names n within))
+
+-- All pieces but the last, and the last.
+
+record Last (job : TeeRun) (pieces : List (List ℕ)) (slots : List Slot) : Type 0 where
+  pub before : List ℕ
+  pub last : List ℕ
+  pub all : concat pieces ≡ before ++ last
+  pub small : length last ≤ largest_piece
+  -- an output that ends the run didn't end it before the last piece
+  pub some : (n : ℕ) → n ≤ length job.names → ends_run (stands_as (output_at slots n)) job.on_broken ≡ true
+      → IsBeginning before (output_at slots n).written
+      × ((output_at slots n).state ≡ Unopened → pieces ≡ [])
+
+-- an output that ends the run once a piece was written to the outputs
+gets_last : (on_broken : OnBroken) {x piece : List ℕ} {start old new : Slot} → start.written ≡ []
+    → is_open start.state ≡ true → Has true x start old → (ends_run (stands_as old) on_broken ≡ true → ⊥)
+    → Gets true piece old new → ends_run (stands_as new) on_broken ≡ true
+    → IsBeginning x new.written × (new.state ≡ Unopened → ⊥)
+gets_last on_broken {x} {piece} none opened has goes (gets_all sound) ends =
+    rw (has_sound has sound, none) ((piece, refl), λ is. absurd (cc))
+gets_last on_broken {x} {piece} none opened has goes (breaks_off sound n why within) ends =
+    rw (has_sound has sound, none) ((take n piece, refl), λ is. absurd (cc))
+gets_last on_broken none opened has goes (gets_none broken) ends = absurd (goes ends)
+
+last_of : (run : Run) (asked : TeeAsked) {pieces : List (List ℕ)} {slots : List Slot}
+    → Copied (job_of run asked) pieces slots → Last (job_of run asked) pieces slots
+last_of run asked (tee.started new step) = record {
+  before = [];
+  last = [];
+  all = refl;
+  small = omega arith;
+  some = λ n within ends. (nothing_begins _, λ unopened. refl);
+}
+last_of run asked (tee.one_more pieces piece old new so_far goes more few step) = record {
+  before = concat pieces;
+  last = piece;
+  all = sym (joined_more pieces piece);
+  small = few;
+  some = λ n within ends. let (begins, opened) = at n within ends in (begins, λ unopened. absurd (opened unopened));
+} where
+  stands : Stands (job_of run asked) (concat pieces) old
+  stands = stands_of so_far
+
+  at : (n : ℕ) → n ≤ length asked.names → ends_run (stands_as (output_at new n)) asked.on_broken ≡ true
+      → IsBeginning (concat pieces) (output_at new n).written
+      × ((output_at new n).state ≡ Unopened → ⊥)
+  at n within ends =
+      let same = said_place step.said (output_slot n) (not_error n) in
+      let start = starts_well (job_of run asked) n in
+      rw same (gets_last asked.on_broken start.2 start.1 ((stands.each n within))
+      (λ ended. false≢true (sym (or_parts _ _ goes).0
+      ∙ any_at (stands_streams stands) (λ standing. ends_run standing asked.on_broken) within ended))
+      ((step.changes.each (output_slot n) (output_of asked.names n within))) (rw same at ends))
+
+-- an output at the end: as it was once all was copied; or it was sound then, has all, and was closed
+pub data Final (x name : List ℕ) (old : Slot) : Slot → Type 0 where
+  as_before : Final x name old old
+  is_whole : (new : Slot) → old.is_broken ≡ false → new.written ≡ x → new.name ≡ name → new.state ≡ state.Closed
+      → Final x name old new
+
+closed_final : {x : List ℕ} {start old new : Slot} → start.written ≡ [] → Has true x start old → Closes old new
+    → Final x start.name old new
+closed_final empty has (is_closed sound) = let all = has_sound has sound in
+    is_whole _ sound (rw (all, empty) refl) (rw all refl) refl
+closed_final empty has (fails_to_close sound why) = let all = has_sound has sound in
+    is_whole _ sound (rw (all, empty) refl) (rw all refl) refl
+closed_final empty has (was_broken broken) = as_before
+
+final_breaks : {x name : List ℕ} {old new : Slot} → Final x name old new → Breaks (Write 0) old new
+final_breaks as_before = same_breaks refl
+final_breaks (is_whole new sound all named closed) = sound_breaks sound (λ broken. rw closed refl)
+
+-- its name, and what it has
+has_named : {x : List ℕ} {start output : Slot} → start.written ≡ [] → Has true x start output
+    → IsCalled output start.name × ((output.name ≡ start.name) ⊎ (output.written ≡ [])) × IsBeginning output.written x
+has_named {x} empty has_all = (inl refl, inl refl, rw empty (begins_itself x))
+has_named {x} empty (has_none kept why (inl named)) = (inl named, inr refl, nothing_begins x)
+has_named {x} empty (has_none kept why (inr none)) = (inr (none, refl), inr refl, nothing_begins x)
+has_named empty (has_begun y why begins) = (inl refl, inl refl, rw empty begins)
+
+final_named : {x : List ℕ} {start old new : Slot} → start.written ≡ [] → Has true x start old → Final x start.name old new
+    → IsCalled new start.name × ((new.name ≡ start.name) ⊎ (new.written ≡ [])) × IsBeginning new.written x
+final_named empty has as_before = has_named empty has
+final_named {x} empty has (is_whole new sound all named closed) = (inl named, inl named, rw all (begins_itself x))
 
 pub failing_stops : (run : Run) (asked : Settings) {name : List ℕ} {place : ℕ} (which : State)
     → BrokeAt run place name (failing place which) → StopsRun run asked name (failing place which)
 failing_stops run asked state.Open broke = broke
 failing_stops run asked which broke = broke
 
+-- an output was reported by its name
+abbrev pub IsToldAt : Run → TeeAsked → ℕ → Type 0
+IsToldAt run asked place = (name : List ℕ) × IsCalled (slot_at run.outputs place) name
+    × Tells run (Tee asked) (failing place (slot_at run.outputs place).state) name
+
+-- The lines tell what the run met. One is about the input, if a fault ended the reading, and one about each output that
+-- is to be reported.
+pub record TellsAll (run : Run) (asked : TeeAsked) (fault : Option Fault) : Type 0 where
+  pub streams : HasStreams run.outputs (length asked.names)
+  pub lines : List Message
+  pub says : SaysLines run (Tee asked) lines
+  pub input : (met : Fault) → fault ≡ Some met → HasLine (message_of met (codes "standard input")) lines
+  pub each : (n : ℕ) → n ≤ length asked.names
+      → tee.is_told asked.on_broken (stands_as (output_at run.outputs n)) ≡ true
+      → IsToldAt run asked (output_slot n)
+
 -- a run whose outputs were left in this way
-module _ (run : Run) (asked : TeeAsked) {mode : Mode} {pieces names : List (List ℕ)} {first : Option Break}
-    {broke : List (Option Break)} {output error : Slot} {files : List Slot} (fault : Option Fault)
-    (slots : run.outputs ≡ output ∷ error ∷ files) (left : OutputLeft true pieces first output)
-    (rest : FilesLeft true mode pieces names broke files) where
-  abbrev lines : List Message
-  lines = messages_of asked.on_broken names (first ∷ broke) (length pieces) fault
+module _ (run : Run) (asked : TeeAsked) {pieces : List (List ℕ)} {messages : List Message} {old mid : List Slot}
+    (so_far : Copied (job_of run asked) pieces old) (says : SaysTo (job_of run asked) messages old mid)
+    (ends : ClosesAll (job_of run asked) mid run.outputs) where
+  pub has : HasStreams run.outputs (length asked.names)
+  has = end_streams so_far says ends
 
-  -- the output at this place, its name in messages, and how it broke, if it did
-  abbrev At : ℕ → (List ℕ → Slot → Option Break → Type 0) → Type 0
-  At place P = P (get_or (output_names names) (number_of place) []) (slot_at run.outputs place)
-      (broke_at (first ∷ broke) (number_of place))
+  pub final_at : (n : ℕ) → n ≤ length asked.names
+      → Final (concat pieces) (start_of (job_of run asked) n).name (output_at old n) (output_at run.outputs n)
+  final_at n within = rw (said_place ends.said (output_slot n) (not_error n), ← (said_place says (output_slot n) (not_error n)))
+      (by n within) where
+        by : (n : ℕ) → n ≤ length asked.names
+            → Final (concat pieces) (start_of (job_of run asked) n).name (output_at mid n) (output_at ends.mid n)
+        by zero within = rw (ends.changes.others 0 (λ file. omega (arith, file.0))) as_before
+        by (suc n) within = closed_final refl ((stands_said (stands_of so_far) says).each (suc n) within)
+            (ends.changes.each (suc (suc n)) (omega arith, omega (arith, within)))
 
-  left_at_place : (place : ℕ) → (place ≡ 1 → ⊥) → At place (Broke (suc (length pieces)))
-  left_at_place zero differs = rw slots (output_broke left)
-  left_at_place (suc zero) differs = absurd (differs refl)
-  left_at_place (suc (suc place)) differs = rw slots (files_broke rest place)
+  -- an output that was broken once all was copied stays so
+  pub stays : (n : ℕ) → (output_at old n).is_broken ≡ true → output_at run.outputs n ≡ output_at old n
+  stays n broken = (final_breaks (final_at n (broken_number (stands_streams (stands_of so_far)) n broken))).0 broken
 
-  has_broken : (place : ℕ) → (place ≡ 1 → ⊥) → {one : Break} → broke_at (first ∷ broke) (number_of place) ≡ Some one
-      → At place (λ name output when. HasBroken (suc (length pieces)) name output one)
-  has_broken place differs is = rw is at (left_at_place place differs)
+  -- what was reported, if the line about the input tells what was met
+  pub told_all : {fault : Option Fault} → messages ≡ said_of_input fault → All (TellsMet run (Tee asked)) messages
+      → TellsAll run asked fault
+  told_all for of_input = record {
+    streams = has;
+    lines = lines;
+    says = record { are = reports.are; said = reports.said };
+    input = λ met is. has_before _ (has_after before.0 (rw (for, is) ([], [], refl)));
+    each = λ n within told. (
+      _,
+      called n within,
+      says_line (rw (failing_message run (output_slot n) (output_at run.outputs n).state _) at
+          (reports.each n within (told_slot asked.on_broken (output_at run.outputs n) told) told)) (record { are = reports.are; said = reports.said }),
+    );
+  } where
+    called : (n : ℕ) → n ≤ length asked.names
+        → IsCalled (output_at run.outputs n) (get_or (output_names asked.names) n [])
+    called zero within = (final_named refl ((stands_of so_far).each 0 within) (final_at 0 within)).0
+    called (suc n) within = (final_named refl ((stands_of so_far).each (suc n) within) (final_at (suc n) within)).0
 
-  has_line : (place : ℕ) → (place ≡ 1 → ⊥) → {one : Break} → broke_at (first ∷ broke) (number_of place) ≡ Some one
-      → tee.is_told asked.on_broken (lost_for one.why) ≡ true
-      → At place (λ name output when. HasLine (message_by run (failing place output.state) name) lines)
-  has_line place differs {one} is told =
-      let here = has_broken place differs is in
-      rw (here.same place ∙ failing_message run place _ _) at (call_line asked.on_broken names (first ∷ broke) fault here.within
-      (said_at asked.on_broken _ _ one.call (number_of place) rest (rw (is, eq-eqb one.call one.call refl) told)))
+    tell : (n : ℕ) → n ≤ length asked.names → (output_at run.outputs n).is_broken ≡ true
+        → TellsMet run (Tee asked) (line_at (job_of run asked) n (output_at run.outputs n))
+    tell n within broken =
+        let which = (output_at run.outputs n).state in (
+          failing (output_slot n) which,
+          _,
+          inl (failing_stops run (Tee asked) which (not_error n, called n within, broken, refl)),
+          failing_message run (output_slot n) which _,
+        )
 
-  -- each line of such a run reports what it met, if the line about the input does
-  pub tee_lines : All (TellsMet run (Tee asked)) (said_of_input fault)
-      → SaysAll true (speaker_of run.calling (Tee asked)) lines standard_error error → SaysLines run (Tee asked) lines
-  tee_lines of_input says =
-      let Line = TellsMet run (Tee asked) in
-      let tell : TellEach Line asked.on_broken (output_names names) (first ∷ broke) = each_number _ (λ place differs one is.
-      let here = has_broken place differs is in
-      let which = (slot_at run.outputs place).state in (
-        failing place which,
-        _,
-        inl (failing_stops run (Tee asked) which (differs, here.called, here.broken, refl)),
-        here.same place ∙ failing_message run place which _,
-      )) in
-      record {
-        are = All-append Line _ _ (All-append Line _ _
-            (before_are Line asked.on_broken (suc (length pieces)) (output_names names) (first ∷ broke) tell) of_input)
-            (in_call_are Line asked.on_broken (suc (length pieces)) (output_names names) (first ∷ broke) tell);
-        said = rw slots says;
-      }
+    before : (lines : List Message) × Reports (job_of run asked) run.outputs (TellsMet run (Tee asked)) tell lines old
+    before = reports_of (job_of run asked) run.outputs (TellsMet run (Tee asked)) tell so_far stays
 
-  abbrev IsToldAt : ℕ → Type 0
-  IsToldAt place = At place (λ name output when. IsCalled output name
-      × HasLine (message_by run (failing place output.state) name) lines)
+    lines : List Message
+    lines = (before.0 ++ messages) ++ said_in (job_of run asked) (Write 0) mid ends.mid
+
+    reports : Reports (job_of run asked) run.outputs (TellsMet run (Tee asked)) tell lines run.outputs
+    reports = reports_next (job_of run asked) run.outputs (TellsMet run (Tee asked)) tell
+        (stands_streams (stands_said (stands_of so_far) says)) ends
+        (λ n within. rw (said_place ends.said (output_slot n) (not_error n), ← (said_place says (output_slot n) (not_error n))) at
+        (final_breaks (final_at n within))) (λ n broken. refl) (λ file. omega (arith, file.0))
+        (reports_said (job_of run asked) run.outputs (TellsMet run (Tee asked)) tell (stands_streams (stands_of so_far)) before.1 says of_input)
+
+-- nothing is kept back: the mode doesn't allow it, or no reader is gone
+abbrev pub IsLoud : OnBroken → List Slot → Type 0
+IsLoud on_broken slots = (tee.is_quiet on_broken ≡ false) ⊎ (any_is Gone (standings_of slots) ≡ false)
+
+module _ {run : Run} {asked : TeeAsked} {fault : Option Fault} (told : TellsAll run asked fault) where
+  -- an output that is broken, and to be reported, was reported
+  told_at : (place : ℕ) → (place ≡ 1 → ⊥) → (slot_at run.outputs place).is_broken ≡ true
+      → tee.is_told asked.on_broken (lost_for (slot_at run.outputs place).reason) ≡ true → IsToldAt run asked place
+  told_at = each_place _ (λ n broken is. told.each n (broken_number told.streams n broken)
+      (rw (stands_lost (output_at run.outputs n) broken) is))
 
   -- an output that is broken lost its reader, or was reported
   pub tee_broke : (place : ℕ) → (place ≡ 1 → ⊥) → (slot_at run.outputs place).is_broken ≡ true
-      → LostReader run place ⊎ IsToldAt place
-  tee_broke place differs broken = by (broke_at (first ∷ broke) (number_of place)) refl where
-    by : (when : Option Break) → broke_at (first ∷ broke) (number_of place) ≡ when
-        → LostReader run place ⊎ IsToldAt place
-    by None is = absurd (false≢true (sym (rw is at (left_at_place place differs)) ∙ broken))
-    by (Some one) is =
-        let here = has_broken place differs is in
-        elim (cases_Bool (is_same (lost_for one.why) Gone)) [
-          | inl gone ↦ inl (here.why ∙ gone_why one.why gone)
-          | inr other ↦ inr (here.called, has_line place differs is (told_loud asked.on_broken one.why (inr other)))
-        ]
+      → LostReader run place ⊎ IsToldAt run asked place
+  tee_broke place differs broken =
+      let why = (slot_at run.outputs place).reason in elim (cases_Bool (is_same (lost_for why) Gone)) [
+        | inl gone ↦ inl (gone_why why gone)
+        | inr other ↦ inr (told_at place differs broken (told_loud asked.on_broken why (inr other)))
+      ]
 
   -- an output that is broken was reported, if nothing is kept back
-  pub tee_told : IsLoud asked.on_broken (first ∷ broke) → (place : ℕ) → (place ≡ 1 → ⊥)
-      → (slot_at run.outputs place).is_broken ≡ true → IsToldAt place
-  tee_told loud place differs broken = by (broke_at (first ∷ broke) (number_of place)) refl where
-    by : (when : Option Break) → broke_at (first ∷ broke) (number_of place) ≡ when → IsToldAt place
-    by None is = absurd (false≢true (sym (rw is at (left_at_place place differs)) ∙ broken))
-    by (Some one) is = (
-      (has_broken place differs is).called,
-      has_line place differs is (told_loud asked.on_broken one.why (elim loud [
-        | inl loudly ↦ inl loudly
-        | inr none ↦ inr (rw is at (none_of Gone standing_of (first ∷ broke) (number_of place) none (inl refl)))
-      ])),
-    )
+  pub tee_told : IsLoud asked.on_broken run.outputs → (place : ℕ) → (place ≡ 1 → ⊥)
+      → (slot_at run.outputs place).is_broken ≡ true → IsToldAt run asked place
+  tee_told (inl loudly) place differs broken = told_at place differs broken (told_loud asked.on_broken _ (inl loudly))
+  tee_told (inr none) place differs broken = told_at place differs broken (told_loud asked.on_broken _ (inr (not_gone place differs broken))) where
+    not_gone : (place : ℕ) → (place ≡ 1 → ⊥) → (slot_at run.outputs place).is_broken ≡ true
+        → is_same (lost_for (slot_at run.outputs place).reason) Gone ≡ false
+    not_gone = each_place _ (λ n broken. elim (cases_Bool (is_same (lost_for (output_at run.outputs n).reason) Gone)) [
+      | inl gone ↦ absurd (false≢true (sym none ∙ any_tests Gone (standings_of run.outputs)
+          ∙ any_at told.streams (λ standing. is_same standing Gone) (broken_number told.streams n broken)
+          (rw (stands_lost (output_at run.outputs n) broken) gone)))
+      | inr other ↦ other
+    ])
 
-  pub unsound_broke : are_sound (first ∷ broke) ≡ false
-      → (place : ℕ) × (place ≡ 1 → ⊥) × ((slot_at run.outputs place).is_broken ≡ true)
-  unsound_broke sound =
-      let (number, one, is) = unsound_at (first ∷ broke) sound in
-      each_number (λ number. broke_at (first ∷ broke) number ≡ Some one → (place : ℕ) × (place ≡ 1 → ⊥) ×
-      ((slot_at run.outputs place).is_broken ≡ true))
-      (λ place differs is. (place, differs, (has_broken place differs is).broken)) number is
+  -- some output stands so
+  one_is : (one : Standing) → any_is one (standings_of run.outputs) ≡ true → is_same Sound one ≡ false
+      → (n : ℕ) × (n ≤ length asked.names) × ((output_at run.outputs n).is_broken ≡ true)
+      × (is_same (stands_as (output_at run.outputs n)) one ≡ true)
+  one_is one any lost =
+      let (n, within, same) = one_at told.streams (λ standing. is_same standing one) (sym (any_tests one (standings_of run.outputs)) ∙ any) in
+      (n, within, broken_slot (λ standing. is_same standing one) lost (output_at run.outputs n) same, same)
 
-  -- an output whose standing passes the test
-  abbrev Stands : (Standing → Bool) → Type 0
-  Stands test = (place : ℕ) × (place ≡ 1 → ⊥) × (one : Break) × (broke_at (first ∷ broke) (number_of place) ≡ Some one)
-      × (test (lost_for one.why) ≡ true)
-
-  stands : (test : Standing → Bool) → test Sound ≡ false → (number : ℕ)
-      → test (standing_of (broke_at (first ∷ broke) number)) ≡ true → Stands test
-  stands test lost number is =
-      each_number (λ number. test (standing_of (broke_at (first ∷ broke) number)) ≡ true → Stands test)
-      (λ place differs. by place differs (broke_at (first ∷ broke) (number_of place)) refl) number is where
-        by : (place : ℕ) → (place ≡ 1 → ⊥) → (when : Option Break) → broke_at (first ∷ broke) (number_of place) ≡ when
-            → test (standing_of when) ≡ true → Stands test
-        by place differs None at is = absurd (false≢true (sym lost ∙ is))
-        by place differs (Some one) at is = (place, differs, one, at, is)
-
-  any_stands : (one : Standing) → is_same Sound one ≡ false → any_is one (map standing_of (first ∷ broke)) ≡ true
-      → Stands (λ standing. is_same standing one)
-  any_stands one lost any =
-      let (number, is) = one_of (λ standing. is_same standing one) standing_of (first ∷ broke)
-      (sym (any_tests one (map standing_of (first ∷ broke))) ∙ any) in
-      stands (λ standing. is_same standing one) lost number is
-
-  -- an output whose reader is gone broke for that reason
-  pub any_gone : any_is Gone (map standing_of (first ∷ broke)) ≡ true → HasGone run
+  pub any_gone : any_is Gone (standings_of run.outputs) ≡ true → HasGone run
   any_gone any =
-      let (place, differs, one, at, is) = any_stands Gone refl any in
-      let here = has_broken place differs at in (place, differs, here.broken, here.why ∙ gone_why one.why is)
+      let (n, within, broken, gone) = one_is Gone any refl in
+      (output_slot n, not_error n, broken, gone_why _ (rw (stands_lost (output_at run.outputs n) broken) at gone))
 
-  -- an output that broke although it still has a reader has its line in any mode
-  pub broken_tells : any_is Broken (map standing_of (first ∷ broke)) ≡ true → (line : Message) × HasLine line lines
-  broken_tells any =
-      let (place, differs, one, at, is) = any_stands Broken refl any in
-      (_, has_line place differs at (told_broken asked.on_broken one.why is))
+  -- an output that broke although it still has a reader was reported in any mode
+  pub broken_why : any_is Broken (standings_of run.outputs) ≡ true → SaysWhy run (Tee asked)
+  broken_why any =
+      let (n, within, broken, is) = one_is Broken any refl in
+      let which = (output_at run.outputs n).state in
+      let (name, called, line) = told.each n within (told_broken asked.on_broken _ is) in
+      (failing (output_slot n) which, name, inl (failing_stops run (Tee asked) which (not_error n, called, broken, refl)), line)
 
--- Which outputs that broke before a call end the run.
-
-abbrev Ends : OnBroken → ℕ → Option Break → Bool
-Ends on_broken call when = ends_run (standing_before call when) on_broken
-
-abbrev some_end : OnBroken → ℕ → List (Option Break) → Bool
-some_end on_broken call broke = list_any (λ standing. ends_run standing on_broken) (standings_before call broke)
-
--- an output that ends the run, and didn't before this call, broke in this call or later
-ends_now : (on_broken : OnBroken) (call at : ℕ) (why : Reason)
-    → Ends on_broken call (Some (record { call = at; why = why })) ≡ false
-    → ends_run (lost_for why) on_broken ≡ true → nat_lt at call ≡ false
-ends_now on_broken call at why late ends = grind (arith, common_steps)
-
--- an output that ended the run before a call ends it by how it stands at the end, too
-ends_still : (on_broken : OnBroken) (call : ℕ) (when : Option Break) → Ends on_broken call when ≡ true
-    → ends_run (standing_of when) on_broken ≡ true
-ends_still on_broken call None ends = absurd (cc)
-ends_still on_broken call (Some one) ends = grind (arith, common_steps)
-
-never_sound : (why : Reason) → lost_for why ≡ Sound → ⊥
-never_sound reason.Gone is = cc
-never_sound why is = cc
-
--- an output that is sound at the end was sound before
-sound_before : (call : ℕ) (when : Option Break) → standing_of when ≡ Sound
-    → is_same (standing_before call when) Sound ≡ true
-sound_before call None is = refl
-sound_before call (Some one) is = absurd (never_sound one.why is)
-
--- All pieces but the last, and the last.
-
-abbrev front_of : List (List ℕ) → List ℕ
-front_of [] = []
-front_of (piece ∷ []) = []
-front_of (piece ∷ next ∷ pieces) = piece ++ front_of (next ∷ pieces)
-
-abbrev last_of : List (List ℕ) → List ℕ
-last_of [] = []
-last_of (piece ∷ []) = piece
-last_of (piece ∷ next ∷ pieces) = last_of (next ∷ pieces)
-
-all_are : (pieces : List (List ℕ)) → concat pieces ≡ front_of pieces ++ last_of pieces
-all_are [] = refl
-all_are (piece ∷ []) = append-nil piece
-all_are (piece ∷ next ∷ pieces) = rw (all_are (next ∷ pieces), append_assoc)
-
-front_is : (before : List (List ℕ)) (piece : List ℕ)
-    → (front_of (before ++ piece ∷ []) ≡ concat before) × (last_of (before ++ piece ∷ []) ≡ piece)
-front_is [] piece = (refl, refl)
-front_is (first ∷ []) piece = (refl, refl)
-front_is (first ∷ next ∷ before) piece = grind (arith, common_steps, (front_is (next ∷ before) piece))
-
-last_small : (pieces : List (List ℕ))
-    → All (λ (piece : List ℕ). (0 < length piece) × (length piece ≤ largest_piece)) pieces
-    → length (last_of pieces) ≤ largest_piece
-last_small [] sizes = omega arith
-last_small (piece ∷ []) sizes = (sizes 0 piece (omega arith)).1
-last_small (piece ∷ next ∷ pieces) sizes = last_small (next ∷ pieces) (λ k byte within. sizes (suc k) byte (omega arith))
+  -- no output broke, or one did
+  pub sound_or : AreSound run.outputs ⊎ ((place : ℕ) × (place ≡ 1 → ⊥) × ((slot_at run.outputs place).is_broken ≡ true))
+  sound_or = elim (cases_Bool (any_is Broken (standings_of run.outputs))) [
+    | inl any ↦ let (n, within, broken, is) = one_is Broken any refl in inr (output_slot n, not_error n, broken)
+    | inr whole ↦ elim (cases_Bool (any_is Gone (standings_of run.outputs))) [
+      | inl any ↦ let (n, within, broken, is) = one_is Gone any refl in inr (output_slot n, not_error n, broken)
+      | inr left ↦ inl (none_broke told.streams whole left)
+    ]
+  ]
 
 -- Each output has a beginning of the input.
 
@@ -423,114 +575,33 @@ read_begins Leaves (tee.to_break x is breaks leaves) = rw is (begins_itself x)
 read_begins Leaves (tee.to_limit x piece rest is long short leaves) = grind (arith, common_steps)
 read_begins Leaves (tee.to_broken_output x rest is leaves) = (rest, is)
 
--- what came before an output broke within a piece is a beginning of all pieces
-cut_begins : {pieces : List (List ℕ)} (before : List (List ℕ)) (piece : List ℕ) (after : List (List ℕ)) (n : ℕ)
-    → pieces ≡ before ++ piece ∷ after → IsBeginning (concat before ++ take n piece) (concat pieces)
-cut_begins before piece after n is =
-    begins_trans _ (concat before ++ piece) _ (take_begins_after n (concat before) piece)
-    (concat after, rw (is, concat-append before (piece ∷ after), append_assoc))
+pub tee_begins : (run : Run) {asked : TeeAsked} {content : Content} {source : Source} {status : ℕ} (place : ℕ)
+    → (place ≡ 1 → ⊥) → tee.EndsAs (job_of run asked) true content source run.outputs status
+    → BeginsAs (slot_at run.outputs place) (slot_at (slots_of (tee_made asked content).part) place)
+tee_begins run place differs (tee.no_room error says unread slots failed) = rw slots (bare_begins error place differs)
+tee_begins run {asked} {content} place differs (tee.copied pieces fault old mid comes so_far says ends is) =
+    each_place (λ place. BeginsAs (slot_at run.outputs place) (slot_at (slots_of (tee_made asked content).part) place)) by
+    place differs where
+      begins : (n : ℕ) → n ≤ length asked.names → {other : Slot} → other.written ≡ content.bytes
+          → other.name ≡ (start_of (job_of run asked) n).name
+          → BeginsAs (output_at run.outputs n) other
+      begins n within bytes name =
+          let (called, named, part) = final_named (starts_well (job_of run asked) n).2 ((stands_of so_far).each n within)
+          (final_at run asked so_far says ends n within) in record {
+            bytes = rw bytes (begins_trans _ (concat pieces) _ part (read_begins _ comes.read));
+            named = rw name named;
+          }
 
-output_begins : {pieces : List (List ℕ)} {bytes : List ℕ} {first : Option Break} {output : Slot}
-    → IsBeginning (concat pieces) bytes → OutputLeft true pieces first output
-    → BeginsAs output (adds bytes standard_output)
-output_begins all tee.output_whole = grind (arith, common_steps)
-output_begins {pieces} all (tee.output_cut before piece after n is few) = record
-    { bytes = begins_trans _ (concat pieces) _ (cut_begins before piece after n is) all; named = inl refl }
-
-files_begin : {mode : Mode} {pieces : List (List ℕ)} {bytes : List ℕ} {names : List (List ℕ)}
-    {broke : List (Option Break)} {files : List Slot} → IsBeginning (concat pieces) bytes
-    → FilesLeft true mode pieces names broke files
-    → (place : ℕ)
-    → BeginsAs (slot_at files place) (slot_at (map slot_of (map (λ name. file_of (copy mode bytes name)) names)) place)
-files_begin all tee.no_file place = empty_begins refl
-files_begin all (tee.one_file name names first broke file files left rest) (suc place) = files_begin all rest place
-files_begin {pieces} all (tee.one_file name names _ broke _ files
-    (tee.file_cut before piece after n is few) rest) zero = record
-    { bytes = begins_trans _ (concat pieces) _ (cut_begins before piece after n is) all; named = inl refl }
-files_begin all (tee.one_file name names _ broke _ files (tee.file_unopened kept is) rest) zero = empty_begins refl
-files_begin all (tee.one_file name names first broke file files left rest) zero = grind (arith, common_steps)
-
-pub tee_begins : {calling : Calling} {asked : TeeAsked} {content : Content}
-    {source : Source} {new : List Slot} {status : ℕ} (place : ℕ) → (place ≡ 1 → ⊥)
-    → tee.EndsAs true true calling asked.mode asked.on_broken asked.names content source new status
-    → BeginsAs (slot_at new place) (slot_at (slots_of (tee_made asked content).part) place)
-tee_begins place differs (tee.no_room error says unread slots failed) = rw slots (bare_begins error place differs)
-tee_begins {asked} {content} place differs (tee.copied _ _ _ _ output error files came _ left rest _ slots _) =
-    rw slots (at place differs) where
-      at : (place : ℕ) → (place ≡ 1 → ⊥)
-          → BeginsAs (slot_at (output ∷ error ∷ files) place)
-          (slot_at (slots_of (tee_made asked content).part) place)
-      at zero differs = output_begins (read_begins _ came.read) left
-      at (suc zero) differs = absurd (differs refl)
-      at (suc (suc place)) differs = files_begin (read_begins _ came.read) rest place
-
--- How outputs are left.
-
--- how outputs are left after the last call of a run over these pieces
-module _ (run : Run) (on_broken : OnBroken) (pieces : List (List ℕ)) where
-  abbrev IsUpTo : Standing → Slot → Type 0
-  IsUpTo = HasUpTo run on_broken (front_of pieces) (last_of pieces)
-
-  -- if an output ended the run before a piece came, nothing was read
-  abbrev NoneRead : Bool → Type 0
-  NoneRead ends = ends ≡ true → pieces ≡ [] → (source_at run.inputs 0).reads ≡ 0
-
-  has_whole : (standing : Standing) (output : Slot) → standing ≡ stands_as output → (output.state ≡ Unopened → ⊥)
-      → output.written ≡ concat pieces → IsUpTo standing output
-  has_whole standing output stands opened is = grind (arith, common_steps, all_are, stands, begins_itself)
-
-  has_cut : (before : List (List ℕ)) (piece : List ℕ) (after : List (List ℕ)) (n : ℕ) (why : Reason) (output : Slot)
-      → pieces ≡ before ++ piece ∷ after
-      → Ends on_broken (length pieces) (Some (record { call = suc (length before); why = why })) ≡ false
-      → output.written ≡ concat before ++ take n piece → lost_for why ≡ stands_as output
-      → (output.state ≡ Unopened → ⊥)
-      → IsUpTo (lost_for why) output
-  has_cut before piece after n why output is late has stands opened = record {
-    stands = stands;
-    no_more = rw (has, ← all_are pieces) (cut_begins before piece after n is);
-    sound = λ sound. absurd (never_sound why sound);
-    some = λ ends. last_one after is (ends_now on_broken (length pieces) (suc (length before)) why late ends);
-    unopened = λ ends unopened. absurd (opened unopened);
-  } where
-    last_one : (after : List (List ℕ)) → pieces ≡ before ++ piece ∷ after
-        → nat_lt (suc (length before)) (length pieces) ≡ false → IsBeginning (front_of pieces) output.written
-    last_one [] is late = (take n piece, rw (has, is, (front_is before piece).0))
-    last_one (next ∷ after) is late = let size = ap length is ∙ length-append before (piece ∷ next ∷ after) in absurd
-        (grind (arith, nat_tests, size, late))
-
-  output_up_to : {when : Option Break} {output : Slot} → Ends on_broken (length pieces) when ≡ false
-      → OutputLeft true pieces when output → IsUpTo (standing_of when) output
-  output_up_to late tee.output_whole = has_whole Sound _ refl (λ is. cc) refl
-  output_up_to late (tee.output_cut {why} before piece after n is few) = has_cut before piece after n why _ is late refl refl (λ is. cc)
-
-  file_up_to : {mode : Mode} {name : List ℕ} {when : Option Break} {file : Slot}
-      → Ends on_broken (length pieces) when ≡ false → NoneRead (Ends on_broken (suc (length pieces)) when)
-      → FileLeft true mode pieces name when file → IsUpTo (standing_of when) file
-  file_up_to late none tee.file_whole = has_whole Sound _ refl (λ is. cc) refl
-  file_up_to late none (tee.file_unopened {why} kept named) = record {
-    stands = refl;
-    no_more = (front_of pieces ++ last_of pieces, refl);
-    sound = λ sound. absurd (never_sound why sound);
-    some = λ ends. rw (at_first ends) (begins_itself []);
-    unopened = λ ends unopened. none (rw (lt-ltb 0 (suc (length pieces)) (omega arith)) ends) (at_first ends);
-  } where
-    at_first : ends_run (lost_for why) on_broken ≡ true → pieces ≡ []
-    at_first ends = by pieces (ends_now on_broken (length pieces) 0 why late ends) where
-      by : (pieces : List (List ℕ)) → nat_lt 0 (length pieces) ≡ false → pieces ≡ []
-      by [] none = refl
-      by (piece ∷ pieces) none = absurd (grind (arith, nat_tests, none))
-  file_up_to late none (tee.file_cut {why} before piece after n is few) = has_cut before piece after n why _ is late refl refl (λ is. cc)
-  file_up_to late none (tee.file_unclosed {why}) = has_whole (lost_for why) _ refl (λ is. cc) refl
-
-  files_up_to : {mode : Mode} {names : List (List ℕ)} {broke : List (Option Break)} {files : List Slot} (place : ℕ)
-      → some_end on_broken (length pieces) broke ≡ false → NoneRead (some_end on_broken (suc (length pieces)) broke)
-      → FilesLeft true mode pieces names broke files → place < length files
-      → IsUpTo (standing_of (broke_at broke place)) (slot_at files place)
-  files_up_to place late none tee.no_file within = absurd (omega arith)
-  files_up_to zero late none (tee.one_file name names when broke file files left rest) within =
-      file_up_to (or_parts _ _ late).0 (λ ends. none (rw ends refl)) left
-  files_up_to (suc place) late none (tee.one_file name names when broke file files left rest) within =
-      files_up_to place (or_parts _ _ late).1 (λ ends. none (rw ends (or-true _))) rest (omega arith)
+      by : (n : ℕ) → BeginsAs (output_at run.outputs n) (slot_at (slots_of (tee_made asked content).part) (output_slot n))
+      by zero = begins 0 (omega arith) refl refl
+      by (suc n) = elim (cases_lt n (length asked.names)) [
+        | inl within ↦
+            let made = ap (λ those. slot_at those n) (copies_are asked.mode content.bytes asked.names)
+            ∙ mapped_at (copy asked.mode content.bytes) asked.names n within in
+            rw made (begins (suc n) within refl refl)
+        | inr past ↦ rw (get_or_past run.outputs (suc (suc n)) no_slot (omega (arith, past, streams_count (has run asked so_far says ends))))
+            (empty_begins refl)
+      ]
 
 -- What was read, and what is left.
 
@@ -542,72 +613,93 @@ read_up_to source few (tee.to_break x is breaks leaves) = ([], is ∙ sym (appen
 read_up_to source few (tee.to_limit x piece rest is many within leaves) = grind (arith, common_steps)
 read_up_to source few (tee.to_broken_output x rest is leaves) = (rest, is, leaves refl, inr refl)
 
--- Each output has a record of whether and how it broke.
+-- an output that has all, and one as it was once all was copied
 
-broken_within : (slots : List Slot) (place : ℕ) → (slot_at slots place).is_broken ≡ true → place < length slots
-broken_within [] place broken = absurd (cc)
-broken_within (slot ∷ slots) zero broken = omega arith
-broken_within (slot ∷ slots) (suc place) broken = omega (arith, broken_within slots place broken)
+up_to_all : (run : Run) (on_broken : OnBroken) {before last : List ℕ} {output : Slot} → output.written ≡ before ++ last
+    → (output.state ≡ Unopened → ⊥) → HasUpTo run on_broken before last output
+up_to_all run on_broken {before} {last} all opens = record {
+  no_more = rw all (begins_itself (before ++ last));
+  sound = λ sound. all;
+  some = λ ends. rw all (last, refl);
+  unopened = λ ends unopened. absurd (opens unopened);
+}
 
-files_count : {mode : Mode} {pieces names : List (List ℕ)} {broke : List (Option Break)} {files : List Slot}
-    → FilesLeft true mode pieces names broke files → length broke ≡ length files
-files_count tee.no_file = refl
-files_count (tee.one_file _ _ _ _ _ _ left rest) = ap suc (files_count rest)
+up_to : (run : Run) (on_broken : OnBroken) {before last x : List ℕ} {start old new : Slot} → start.written ≡ []
+    → x ≡ before ++ last → Has true x start old
+    → (ends_run (stands_as old) on_broken ≡ true → IsBeginning before old.written
+    × (old.state ≡ Unopened → (source_at run.inputs 0).reads ≡ 0))
+    → Final x start.name old new → HasUpTo run on_broken before last new
+up_to run on_broken {old = old} empty all part some as_before = record {
+  no_more = rw all at (has_named empty part).2;
+  sound = λ sound. ap (λ (slot : Slot). slot.written) (has_sound part (sound_slot old sound)) ∙ rw empty all;
+  some = λ ends. (some ends).0;
+  unopened = λ ends. (some ends).1;
+}
+up_to run on_broken empty all part some (is_whole new sound has_it named closed) =
+    up_to_all run on_broken (has_it ∙ all) (λ is. absurd (cc (closed, is)))
 
-number_within : (place : ℕ) {n : ℕ} → place < suc (suc n) → number_of place < suc n
-number_within zero within = omega arith
-number_within (suc place) within = omega (arith, within)
-
-ends_with_break : (run : Run) (asked : TeeAsked) {mode : Mode} {names : List (List ℕ)}
-    → length run.world.standard.bytes < 2 ^ 63
-    → tee.EndsAs true true run.calling mode asked.on_broken names run.world.standard
-    (source_at run.inputs 0) run.outputs run.status → EndsWithBreak run asked
-ends_with_break run asked few (tee.copied pieces fault first broke output error files comes goes left rest says slots is) =
-    let (more, bytes, unread, over) = read_up_to (source_at run.inputs 0) few comes.read in
-    let (early, later) = or_parts _ _ (or_parts _ _ goes).0 in record {
-      before = front_of pieces;
-      last = last_of pieces;
+ends_with_break : (run : Run) (asked : TeeAsked) → length run.world.standard.bytes < 2 ^ 63
+    → tee.EndsAs (job_of run asked) true run.world.standard (source_at run.inputs 0) run.outputs run.status
+    → EndsWithBreak run asked
+ends_with_break run asked few (tee.copied pieces fault old mid comes so_far says ends is) =
+    let (more, bytes, unread, over) = read_up_to (source_at run.inputs 0) few comes.read in record {
+      before = last.before;
+      last = last.last;
       rest = more;
-      read = bytes ∙ ap (λ those. those ++ more) (all_are pieces);
+      read = bytes ∙ ap (λ those. those ++ more) last.all;
       left = unread;
-      small = last_small pieces comes.sizes;
-      stands = standing;
-      outputs = λ place differs within. rw (ap (λ those. slot_at those place) slots)
-          (at early later place differs (rw slots at within));
+      small = last.small;
+      outputs = each_place _ outputs;
       ended = elim over [
         | inl all ↦ inl all
         | inr vain ↦ inr (ended vain)
       ];
     } where
-      standing : ℕ → Standing
-      standing place = standing_of (broke_at (first ∷ broke) (number_of place))
+      last : Last (job_of run asked) pieces old
+      last = last_of run asked so_far
 
-      at : Ends asked.on_broken (length pieces) first ≡ false → some_end asked.on_broken (length pieces) broke ≡ false
-          → (place : ℕ) → (place ≡ 1 → ⊥) → place < length (output ∷ error ∷ files)
-          → HasUpTo run asked.on_broken (front_of pieces) (last_of pieces) (standing place)
-          (slot_at (output ∷ error ∷ files) place)
-      at early later zero differs within = output_up_to run asked.on_broken pieces early left
-      at early later (suc zero) differs within = absurd (differs refl)
-      at early later (suc (suc place)) differs within =
-          files_up_to run asked.on_broken pieces place later (λ ends none. comes.reads ∙ rw (ends, or-true _, none)) rest (omega arith)
+      stands : Stands (job_of run asked) (concat pieces) old
+      stands = stands_of so_far
 
-      ended : is_done asked.on_broken (standings_before (suc (length pieces)) (first ∷ broke)) ≡ true
-          → OneIs run standing (λ standing. ends_run standing asked.on_broken ≡ true)
-          ⊎ (OneIs run standing (λ standing. standing ≡ Sound) → ⊥)
+      streams : HasStreams run.outputs (length asked.names)
+      streams = has run asked so_far says ends
+
+      outputs : (n : ℕ) → output_slot n < length run.outputs
+          → HasUpTo run asked.on_broken last.before last.last (output_at run.outputs n)
+      outputs n there =
+          let within = number_within streams n there in
+          up_to run asked.on_broken (starts_well (job_of run asked) n).2 last.all (stands.each n within)
+          (λ ended. let (begins, none) = last.some n within ended in (
+            begins,
+            λ unopened. comes.reads
+                ∙ rw (any_at (stands_streams stands) (λ standing. ends_run standing asked.on_broken) within ended, none unopened) refl,
+          ))
+          (final_at run asked so_far says ends n within)
+
+      was_sound : not (any_is Sound (standings_of old)) ≡ true → (n : ℕ) → output_slot n < length run.outputs
+          → stands_as (output_at run.outputs n) ≡ Sound → ⊥
+      was_sound none n there sound = by (output_at old n).is_broken refl where
+        within : n ≤ length asked.names
+        within = number_within streams n there
+
+        by : (broken : Bool) → (output_at old n).is_broken ≡ broken → ⊥
+        by false is = false≢true (sym (not-true _ none) ∙ any_tests Sound (standings_of old)
+            ∙ any_at (stands_streams stands) (λ standing. is_same standing Sound) within (rw is refl))
+        by true is = false≢true (sym (sound_slot (output_at run.outputs n) sound)
+            ∙ ap (λ (slot : Slot). slot.is_broken) (stays run asked so_far says ends n is) ∙ is)
+
+      ended : is_done asked.on_broken (standings_of old) ≡ true
+          → OneIs run (λ standing. ends_run standing asked.on_broken ≡ true)
+          ⊎ (OneIs run (λ standing. standing ≡ Sound) → ⊥)
           ⊎ (((source_at run.inputs 0).reads ≡ 0) × Tells run (Tee asked) Memory [])
       ended vain = elim (or_cases _ _ vain) [
         | inl one ↦
-            let call = suc (length pieces) in
-            let ends = λ (standing : Standing). ends_run standing asked.on_broken in
-            let (number, early) = one_of ends (standing_before call) (first ∷ broke) one in
-            let (place, differs, broke', at, is) = stands run asked fault slots left rest ends refl number
-            (ends_still asked.on_broken call _ early) in
-            let broken = (has_broken run asked fault slots left rest place differs at).broken in
-            inl (place, differs, broken_within run.outputs place broken, rw at is)
-        | inr none ↦ inr (inl (λ (place, differs, within, sound).
-            let number : number_of place < length (first ∷ broke) = rw (files_count rest) (number_within place (rw slots at within)) in
-            false≢true (sym (none_of Sound (standing_before (suc (length pieces))) (first ∷ broke) (number_of place) (not-true _ none) (inr number))
-            ∙ sound_before (suc (length pieces)) _ sound)))
+            let (n, within, ends_it) = one_at (stands_streams stands) (λ standing. ends_run standing asked.on_broken) one in
+            let broken = broken_slot (λ standing. ends_run standing asked.on_broken) refl (output_at old n) ends_it in
+            let same = stays run asked so_far says ends n broken in
+            inl (output_slot n, not_error n, broken_within run.outputs (output_slot n) (rw same broken), rw same ends_it)
+        | inr none ↦ inr (inl (λ (place, differs, within, sound). each_place
+            (λ place. place < length run.outputs → stands_as (slot_at run.outputs place) ≡ Sound → ⊥) (was_sound none) place differs within sound))
       ]
 ends_with_break run asked few (tee.no_room error says (there, unread, same) slots is) = record {
   before = [];
@@ -616,14 +708,12 @@ ends_with_break run asked few (tee.no_room error says (there, unread, same) slot
   read = refl;
   left = ap (λ (source : Source). source.left.bytes) unread ∙ ap (λ (content : Content). content.bytes) (same refl);
   small = omega arith;
-  stands = λ place. Sound;
-  outputs = λ place differs within. rw (ap (λ those. slot_at those place) slots)
-      (at place differs (rw slots at within));
+  outputs = λ place differs within. rw (ap (λ those. slot_at those place) slots) (at place differs (rw slots at within));
   ended = inr (inr (inr (ap (λ (source : Source). source.reads) unread, tells_one run (Tee asked) Memory [] (inl tt) (rw slots says))));
 } where
   at : (place : ℕ) → (place ≡ 1 → ⊥) → place < 2
-      → HasUpTo run asked.on_broken [] [] Sound (slot_at (streams_with error) place)
-  at zero differs within = has_whole run asked.on_broken [] Sound _ refl (λ is. cc) refl
+      → HasUpTo run asked.on_broken [] [] (slot_at (streams_with error) place)
+  at zero differs within = up_to_all run asked.on_broken refl (λ is. absurd (cc))
   at (suc zero) differs within = absurd (differs refl)
   at (suc (suc place)) differs within = absurd (omega arith)
 

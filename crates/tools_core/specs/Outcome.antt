@@ -18,7 +18,7 @@ use Rattle.ports_core.specs.{
 }
 use Rattle.operand_core.specs.{declared.operand.Operand.Operand, Reading.Asks}
 use Rattle.run_core.specs.{Input.{Input, standard_input}, RunEnds.EndsAs}
-use Rattle.tee_core.specs.Run.{AreSound, all_copied, forgives, EndsAs as TeeCopies}
+use Rattle.tee_core.specs.Run.{AreSound, TeeRun, all_copied, forgives, EndsAs as TeeCopies}
 use Rattle.words_core.specs.{
   declared.settings.Settings.{Settings, TheVariants.{Head, Tail, Split, Csplit, Tee, About}},
   CsplitWords.CsplitAsked,
@@ -51,13 +51,22 @@ pub record CsplitEndsAs (calling : Calling) (told_in told : Bool)
   pub asks : Asks asked.calling asked.operands operands
   pub ends : EndsAs told_in told (csplit_task calling asked operands) inputs sources new status
 
+-- what is asked of a run of `tee`
+abbrev pub tee_run : Calling → Bool → TeeAsked → TeeRun
+tee_run calling told asked = record {
+  told = told;
+  calling = calling;
+  mode = asked.mode;
+  on_broken = asked.on_broken;
+  names = asked.names;
+}
+
 -- a run of `tee` over its only input, standard input
 pub record TeeEndsAs (calling : Calling) (told_in told : Bool) (asked : TeeAsked)
     (inputs : List Input) (sources : List Source) (new : List Slot) (status : ℕ) : Type 0 where
   pub content : Content
   pub input : inputs ≡ standard_input content ∷ []
-  pub ends : TeeCopies told_in told calling asked.mode asked.on_broken asked.names content
-      (source_at sources 0) new status
+  pub ends : TeeCopies (tee_run calling told asked) told_in content (source_at sources 0) new status
   pub came : CameFrom told_in content (source_at sources 0)
   -- if nothing broke and bytes are visible, standard output and every file have the input's bytes
   pub whole : told_in ≡ true → status ≡ 0 → (forgives asked.on_broken ≡ true → AreSound new)

@@ -45,8 +45,7 @@ use Rattle.run_core.specs.{
   Task.Task,
 }
 use Rattle.tee_core.specs.{
-  Run.{AreSound, EndsAs as TeeCopies, are_sound, copied, ends_run, forgives, is_quiet, no_room as no_memory},
-  Run.stands_as,
+  Run.{AreSound, EndsAs as TeeCopies, TeeRun, copied, ends_run, forgives, is_quiet, no_room as no_memory, stands_as},
   declared.standing.Standing.{Standing, TheVariants.Sound},
 }
 use Rattle.words_core.specs.{
@@ -553,11 +552,10 @@ IsUnstopped (no_room error says slots untouched count is) = ⊥
 
 -- `tee` copied all that its input has, and none of its outputs broke. A run in which one broke counts as one that a
 -- fault stopped, also where it went on with the others.
-abbrev pub IsCopied : {told_in told : Bool} {calling : Calling} {mode : Mode}
-    {on_broken : OnBroken} {names : List (List ℕ)} {content : Content} {source : Source} {new : List Slot} {status : ℕ}
-    → TeeCopies told_in told calling mode on_broken names content source new status → Type 0
-IsCopied {content = content} (copied pieces fault first broke output error files comes left out_left files_left
-    says slots is) = (are_sound (first ∷ broke) ≡ true) × (concat pieces ≡ content.bytes)
+abbrev pub IsCopied : {run : TeeRun} {told_in : Bool} {content : Content} {source : Source} {new : List Slot}
+    {status : ℕ} → TeeCopies run told_in content source new status → Type 0
+IsCopied {content = content} {new = new} (copied pieces fault old mid comes so_far says closes is) =
+    AreSound new × (concat pieces ≡ content.bytes)
 IsCopied (no_memory error says unread slots is) = ⊥
 
 -- no fault stopped what was asked for
@@ -607,24 +605,23 @@ pub record LeaveAlike (asked : Settings) (one other : Run) : Type 0 where
   pub outputs : (place : ℕ) → (place ≡ 1 → ⊥) → IsAlike (slot_at one.outputs place) (slot_at other.outputs place)
   pub said : SayAlike asked one other
 
--- An output of `tee` stands so. One that is sound has all of these pieces, and any other a beginning; one that ended the
+-- What an output of `tee` has: one that is sound has all of these pieces, and any other a beginning; one that ended the
 -- run has all before the last, and where it couldn't be opened, nothing was read.
-pub record HasUpTo (run : Run) (on_broken : OnBroken) (before last : List ℕ) (standing : Standing) (output : Slot)
-    : Type 0 where
-  pub stands : standing ≡ stands_as output
+pub record HasUpTo (run : Run) (on_broken : OnBroken) (before last : List ℕ) (output : Slot) : Type 0 where
   pub no_more : IsBeginning output.written (before ++ last)
-  pub sound : standing ≡ Sound → output.written ≡ before ++ last
-  pub some : ends_run standing on_broken ≡ true → IsBeginning before output.written
-  pub unopened : ends_run standing on_broken ≡ true → output.state ≡ state.Unopened
+  pub sound : stands_as output ≡ Sound → output.written ≡ before ++ last
+  pub some : ends_run (stands_as output) on_broken ≡ true → IsBeginning before output.written
+  pub unopened : ends_run (stands_as output) on_broken ≡ true → output.state ≡ state.Unopened
       → (source_at run.inputs 0).reads ≡ 0
 
 -- one of the outputs but standard error stands so
-abbrev pub OneIs : Run → (ℕ → Standing) → (Standing → Type 0) → Type 0
-OneIs run stands Is = (place : ℕ) × (place ≡ 1 → ⊥) × (place < length run.outputs) × Is (stands place)
+abbrev pub OneIs : Run → (Standing → Type 0) → Type 0
+OneIs run Is =
+    (place : ℕ) × (place ≡ 1 → ⊥) × (place < length run.outputs) × Is (stands_as (slot_at run.outputs place))
 
 -- A run of `tee` ended with its input, with an output whose breaking ends such a run, once none was left, or told that
 -- it found no memory to begin, and read nothing. The input was read up to `last`, which is no longer than a piece, and
--- the rest is left. Each output stands as it broke.
+-- the rest is left.
 pub record EndsWithBreak (run : Run) (asked : TeeAsked) : Type 0 where
   pub before : List ℕ
   pub last : List ℕ
@@ -632,11 +629,10 @@ pub record EndsWithBreak (run : Run) (asked : TeeAsked) : Type 0 where
   pub read : run.world.standard.bytes ≡ (before ++ last) ++ rest
   pub left : (source_at run.inputs 0).left.bytes ≡ rest
   pub small : length last ≤ largest_piece
-  pub stands : ℕ → Standing
   pub outputs : (place : ℕ) → (place ≡ 1 → ⊥) → place < length run.outputs
-      → HasUpTo run asked.on_broken before last (stands place) (slot_at run.outputs place)
-  pub ended : (rest ≡ []) ⊎ OneIs run stands (λ standing. ends_run standing asked.on_broken ≡ true)
-      ⊎ (OneIs run stands (λ standing. standing ≡ Sound) → ⊥)
+      → HasUpTo run asked.on_broken before last (slot_at run.outputs place)
+  pub ended : (rest ≡ []) ⊎ OneIs run (λ standing. ends_run standing asked.on_broken ≡ true)
+      ⊎ (OneIs run (λ standing. standing ≡ Sound) → ⊥)
       ⊎ (((source_at run.inputs 0).reads ≡ 0) × Tells run (Tee asked) fault.Memory [])
 
 -- what `tail` is asked for that is to follow files so, in this many looks and with these pauses, and names no process

@@ -1,8 +1,8 @@
-use Rattle.std.proofs.{Common.arith, lemmas.{Grind.common_steps, List.length-map}}
+use Rattle.std.proofs.{Common.{◌∙◌, arith, sym}, lemmas.{Grind.common_steps, List.length-map}}
 use Rattle.tee_core.{
-  specs.Run.said_of_input,
+  specs.inner.Steps.run_for,
   proofs.{
-    CopyLemmas.{copies_said, copies_streams},
+    CopyLemmas.{stands_of, stands_ready, stands_said, stands_streams, standings_said},
     EndLemmas.ends_copied,
     StartLemmas.{length-names, opened_streams, starts},
   },
@@ -10,32 +10,45 @@ use Rattle.tee_core.{
 use Rattle.tee_core.proofs.run.copy_all.Goals as goal
 
 pub tell_broken-requires-clause-streams : goal.tell_broken-requires-clause-streams
-tell_broken-requires-clause-streams g c = rw (length-map c.args.job.now.names.now _) at (opened_streams c.requires.opened.1)
-
-pub copy_pieces-fault-requires-clause-copies : goal.copy_pieces-fault-requires-clause-copies
-copy_pieces-fault-requires-clause-copies g c = grind (arith, common_steps, starts, length-names)
-
-pub tell_input-requires : goal.tell_input-requires
-tell_input-requires g c =
-    let (mode, opens) = c.requires.opened in
-    let copied = c.copy_pieces-fault.ensures.copies mode
-    (starts _ _ opens (length-names _ c.requires.unknown) c.tell_broken.ensures.said c.tell_broken.ensures.seen) in
-    (_, copies_streams copied.2.0.copies)
-
-pub close_all-requires-clause-copies : goal.close_all-requires-clause-copies
-close_all-requires-clause-copies g c =
-    let (mode, opens) = c.requires.opened in
-    let copied = c.copy_pieces-fault.ensures.copies mode
-    (starts _ _ opens (length-names _ c.requires.unknown) c.tell_broken.ensures.said c.tell_broken.ensures.seen) in
-    (mode, copied.2.0.pieces, said_of_input c.copy_pieces-fault.result, copies_said copied.2.0.copies c.tell_input.ensures.told)
-
-pub returns-clause-copied : goal.returns-clause-copied
-returns-clause-copied g c mode opens =
-    let (content, is, (read, breaks)) = c.copy_pieces-fault.ensures.copies mode
-    (starts _ _ opens (length-names _ c.requires.unknown) c.tell_broken.ensures.said c.tell_broken.ensures.seen) in
-    let said = copies_said read.copies c.tell_input.ensures.told in
-    let closed = c.close_all.ensures.closed mode read.pieces c.copy_pieces-fault.result said in
-    (content, is, (ends_copied c.status_for.ensures read.read closed, breaks))
+tell_broken-requires-clause-streams g c = rw (length-map c.args.job.now.names.now _) at (opened_streams c.requires.opened)
 
 pub tell_broken-requires-clause-known : goal.tell_broken-requires-clause-known
 tell_broken-requires-clause-known g c = grind (arith, common_steps)
+
+pub copy_pieces-fault-requires-clause-started : goal.copy_pieces-fault-requires-clause-started
+copy_pieces-fault-requires-clause-started g c =
+    starts (run_for g.O.Outs.told c.args.job.now) c.requires.opened (length-names _ c.requires.unknown)
+    c.tell_broken.ensures.said c.tell_broken.ensures.seen
+
+pub copy_pieces-fault-requires-clause-known : goal.copy_pieces-fault-requires-clause-known
+copy_pieces-fault-requires-clause-known g c =
+    c.tell_broken.ensures.seen ∙ sym (standings_said c.tell_broken.ensures.said (opened_streams c.requires.opened))
+
+pub tell_input-requires : goal.tell_input-requires
+tell_input-requires g c = (_, stands_streams (stands_of c.copy_pieces-fault.ensures.copies.2.0.copied))
+
+pub close_all-requires-clause-ready : goal.close_all-requires-clause-ready
+close_all-requires-clause-ready g c =
+    rw c.copy_pieces-fault.ensures.same (stands_ready (stands_said (stands_of c.copy_pieces-fault.ensures.copies.2.0.copied)
+    c.tell_input.ensures.told) c.requires.tee)
+
+pub close_all-requires-clause-streams : goal.close_all-requires-clause-streams
+close_all-requires-clause-streams g c =
+    stands_streams (stands_said (stands_of c.copy_pieces-fault.ensures.copies.2.0.copied) c.tell_input.ensures.told)
+
+pub close_all-requires-clause-known : goal.close_all-requires-clause-known
+close_all-requires-clause-known g c =
+    c.copy_pieces-fault.ensures.known ∙ sym (standings_said c.tell_input.ensures.told
+    (stands_streams (stands_of c.copy_pieces-fault.ensures.copies.2.0.copied)))
+
+pub returns-clause-copied : goal.returns-clause-copied
+returns-clause-copied g c =
+    let (content, is, (read, breaks)) = c.copy_pieces-fault.ensures.copies in (
+      content,
+      is,
+      (
+        ends_copied c.status_for.ensures c.close_all.ensures.known read c.tell_input.ensures.told
+            c.close_all.ensures.closes,
+        breaks,
+      ),
+    )
