@@ -26,7 +26,7 @@ use Rattle.scan_core.{
     Closures.{Closes, IsInside, chosen_at},
   },
   specs.declared.{node.Node.Node, branch.Branch.Branch},
-  proofs.Enterings.{at_least, parts_anywhere},
+  proofs.Enterings.at_least,
 }
 use Rattle.bre_core.specs.Match.{Parts}
 
@@ -155,6 +155,11 @@ pub is_in_word : (words : List ℕ) (at bit : ℕ) → bit < 64
 unfolding IsIn
 is_in_word words at bit h = search rules
 
+pub in_word : (words : List ℕ) (number : ℕ) {at : ℕ} → number / 64 ≡ at
+    → (bit_at (get_or words at 0) (number % 64) ≡ 1) ↔ IsIn words number
+unfolding IsIn
+in_word words number same = rw (← same) (λ k. k, λ k. k)
+
 pub is_within : (words : List ℕ) {number : ℕ} → IsIn words number → number < 64 * length words
 unfolding IsIn
 is_within words h = grind (arith, common_steps)
@@ -172,11 +177,6 @@ adds_both f g = record {
   kept = λ number h. g.kept number (f.kept number h);
   from = λ number h. let one = g.from number h in let two = f.from one.0 one.1 in (two.0, two.1, flows_join _ _ two.2 one.2.1);
 }
-
--- what follows at any place follows at each
-pub adds_anywhere : {code : List Node} {at_first at_last : Bool} {old new : List ℕ} → Adds code false false old new
-    → Adds code at_first at_last old new
-adds_anywhere a = search (rules, parts_anywhere)
 
 -- what a set leads to is in it
 pub spreads_out : {code : List Node} {at_first at_last : Bool} {old now : List ℕ} → Adds code at_first at_last old now
