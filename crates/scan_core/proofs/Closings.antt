@@ -20,12 +20,7 @@ use Rattle.std.proofs.lemmas.{
 use Rattle.std.specs.Int.{bit_at, trailing_zeros, bit_not, Bits.{or_zero_l, or_zero_r}}
 use mir.Val.{bool_byte}
 use Rattle.scan_core.specs.{declared.{closures.Closures.Closures, hops.Hop.Hop, node.Node.Node, branch.Branch.Branch}, inner.Closing.{Follows, FollowsFirst, IsApart, IsFollowed, LandsFirst}, inner.Closures.{AreClosures, Closes, Stays}, inner.Hops.{AreHops, AreLandings, HopsTo, IsHop, IsLanding, Meets, PartsTo, end_of, no_hop}, inner.Sets.{Flows, FlowsOn}, inner.Branches.IsBranch, inner.Words.{Adds, IsIn, SpreadsOut, unset, width}}
-use Rattle.scan_core.proofs.{
-  Countings.set_elsewhere,
-  Enterings.{each_more, each_to, led_by, parts_anywhere},
-  Insides.{adds_both, entered_one, flows_join, fresh_bit, in_word, is_in_word, is_within, lowest_in, spreads_out},
-  Insides.unset-set,
-}
+use Rattle.scan_core.proofs.{Countings.set_elsewhere, Enterings.{each_more, each_to, led_by, parts_anywhere}, Insides.{adds_both, entered_one, flows_join, fresh_bit, in_word, is_in_word, lowest_in, spreads_out}, Insides.unset-set}
 
 -- some of a word's numbers are those of a hop, or none
 pub one_of : {word : ℕ} (from : ℕ) → word < 2 ^ 64 → (bit_and word from ≡ 0 → ⊥)
@@ -251,10 +246,6 @@ apart_more {code} {now} {new} {count} s c begun inside size closes fits small en
     w : Closed code count now new
     w = close_word (omega arith) refl closes fits small en
 
-pub apart_ends : {code : List Node} {closures : Closures} {old now : List ℕ} {count : ℕ}
-    → Apart code closures old now count → length now ≤ count → IsApart code closures.hops now
-apart_ends s h = λ start to k flow. s.done start to (omega (arith, is_within _ k)) k flow
-
 -- Following a hop.
 
 -- a number of a word is entered if something holds
@@ -277,12 +268,6 @@ pub record Led (code : List Node) (hop : Hop) (old mid : List ℕ) (all : ℕ) :
   pub larger : get_or old hop.word 0 ≤ all
   pub fits : all < 2 ^ 64
 
-not_zero : {n : ℕ} → IsTrue (not (eqb n 0)) → n ≡ 0 → ⊥
-not_zero {n} t = eqb-false n 0 (not-true (eqb n 0) t)
-
-is_not_zero : {n : ℕ} → (n ≡ 0 → ⊥) → IsTrue (not (eqb n 0))
-is_not_zero {n} h = ap not (ne_eqb n 0 h)
-
 pub led_is : {code : List Node} {hop : Hop} {old mid : List ℕ} {holds : Bool} → IsHop code hop → length old ≡ width code
     → get_or old hop.at 0 < 2 ^ 64 → get_or old hop.word 0 < 2 ^ 64
     → holds ≡ not (eqb (bit_and (get_or old hop.at 0) hop.from) 0)
@@ -297,7 +282,7 @@ led_is {code} {hop} {old} {mid} {holds} is size fits high test em = record {
   new = λ n k. elim ((exact n).0 k) [ inl was ↦ inl was | inr led ↦ inr led.1 ];
   followed = λ bit small one k.
       let here = (is_in_word _ _ _ small).1 k in
-      (exact _).1 (inr (test ∙ is_not_zero (λ none. none_of _ _ _ none here one), refl));
+      (exact _).1 (inr (test ∙ ap not (ne_eqb _ 0 (λ none. none_of _ _ _ none here one)), refl));
   set = em;
   larger = le_or_l _ (bool_byte holds * 2 ^ hop.bit % 2 ^ 64);
   fits = or_lt 64 _ (bool_byte holds * 2 ^ hop.bit % 2 ^ 64) high (omega arith);
@@ -309,7 +294,7 @@ led_is {code} {hop} {old} {mid} {holds} is size fits high test em = record {
     entered : (number : ℕ) → IsTrue holds → number ≡ end_of hop
         → (start : ℕ) × IsIn old start × FlowsOn code false false start number
     entered number t e =
-        let one = one_of _ fits (not_zero (sym test ∙ t)) in
+        let one = one_of _ fits (eqb-false _ 0 (not-true _ (sym test ∙ t))) in
         let start : ℕ = hop.at * 64 + one.0 in
         (start, (is_in_word _ _ _ one.1).0 one.2, (1, (start, refl, rw (← e) at ((is.exact one.0 one.1).0 one.3))))
 
@@ -431,11 +416,6 @@ pub record Spreads (code : List Node) (closures : Closures) (old now : List ℕ)
   pub apart : IsApart code closures.hops now
   pub done : over ≡ 0 → (place : ℕ) → place < length closures.hops.onward.items
       → IsFollowed now now (get_or closures.hops.onward.items place no_hop)
-
-pub spreads_more : {code : List Node} {closures : Closures} {old now new : List ℕ} {before over : ℕ}
-    → Spreads code closures old now before
-    → FollowsFirst code closures now new (length closures.hops.onward.items) over → Spreads code closures old new over
-spreads_more s p = record { adds = adds_both s.adds p.closer.adds; apart = p.closer.apart; done = p.done }
 
 -- what some hops lead to from a set is in another, if all were followed
 hop_led : {code : List Node} (hops : List Hop) (old new : List ℕ) {from to : ℕ}

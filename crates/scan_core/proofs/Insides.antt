@@ -134,12 +134,7 @@ grows_both : {Added Other : ℕ → Type 0} {old middle new : List ℕ} {before 
     → Grows (λ n. Added n ⊎ Other n) old new before on
 grows_both f g = search rules
 
--- a node that leads nowhere at this place, and one that leads to two numbers
-pub grows_closed : {code : List Node} {number : ℕ} {branch : Branch} {at_first at_last : Bool} {words : List ℕ} {on : ℕ}
-    → IsBranch code number branch → (Opens branch.when at_first at_last → ⊥)
-    → Grows (Flows code at_first at_last number) words words on on
-grows_closed {at_first} {at_last} w never = grows_none (λ to f. absurd (never ((w.exact at_first at_last to).0 f).0))
-
+-- a node that leads to two numbers
 pub grows_way : {code : List Node} {number : ℕ} {branch : Branch} {at_first at_last : Bool} {old middle new : List ℕ}
     {before between on : ℕ} → IsBranch code number branch → Opens branch.when at_first at_last
     → Grows (λ n. n ≡ branch.one) old middle before between → Grows (λ n. n ≡ branch.other) middle new between on
