@@ -19,8 +19,20 @@ use Rattle.std.proofs.lemmas.{
 }
 use Rattle.std.specs.Int.{bit_at, trailing_zeros, bit_not, Bits.{or_zero_l, or_zero_r}}
 use mir.Val.{bool_byte}
-use Rattle.scan_core.specs.{declared.{closures.Closures.Closures, hops.Hop.Hop, node.Node.Node, branch.Branch.Branch}, inner.Closing.{Follows, FollowsFirst, IsApart, IsFollowed, LandsFirst}, inner.Closures.{AreClosures, Closes, Stays}, inner.Hops.{AreHops, AreLandings, HopsTo, IsHop, IsLanding, Meets, PartsTo, end_of, no_hop}, inner.Sets.{Flows, FlowsOn}, inner.Branches.IsBranch, inner.Words.{Adds, IsIn, SpreadsOut, unset, width}}
-use Rattle.scan_core.proofs.{Countings.set_elsewhere, Enterings.{each_more, each_to, led_by, parts_anywhere}, Insides.{adds_both, entered_one, flows_join, fresh_bit, in_word, is_in_word, lowest_in, spreads_out}, Insides.unset-set}
+use Rattle.scan_core.specs.{
+  declared.{closures.Closures.Closures, hops.Hop.Hop, node.Node.Node, branch.Branch.Branch},
+  inner.Closing.{Follows, FollowsFirst, IsApart, IsFollowed, LandsFirst},
+  inner.Closures.{AreClosures, Closes, Stays},
+  inner.Hops.{AreHops, AreLandings, HopsTo, IsHop, IsLanding, Meets, PartsTo, end_of, no_hop},
+  inner.Sets.{Flows, FlowsOn},
+  inner.Branches.IsBranch,
+  inner.Words.{Adds, IsIn, SpreadsOut, unset, width},
+}
+use Rattle.scan_core.proofs.{
+  Countings.set_elsewhere,
+  Enterings.{each_more, each_to, led_by, parts_anywhere},
+  Insides.{adds_both, entered_one, flows_join, fresh_bit, in_word, is_in_word, lowest_in, spreads_out, unset-set},
+}
 
 -- some of a word's numbers are those of a hop, or none
 pub one_of : {word : ℕ} (from : ℕ) → word < 2 ^ 64 → (bit_and word from ≡ 0 → ⊥)
