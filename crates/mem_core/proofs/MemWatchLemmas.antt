@@ -8,7 +8,7 @@ use Rattle.std.proofs.{
 use Rattle.watch_core.{
   specs.Snapshot.{Snapshot, clinging, first_led, forgiving, insisting, is_nowhere, latest, leads_to, opens_as, or_else, waiting, Finding, Found},
   specs.Edits.{World, empty_world, held_in, is_one, led_to, seen_in, shown},
-  specs.Watched.{Watched, Finds, Reopens, file_seen, open_contents, opens, watched_at},
+  specs.Watched.{Watched, Reopens, file_seen, open_contents, opens, watched_at},
   specs.declared.watch.Seen.Seen,
   proofs.NameLemmas.{latest-last, name_changes, name_there},
 }
@@ -16,7 +16,7 @@ use Rattle.ports_core.specs.declared.reason.Reason.{Reason}
 use Rattle.mem_core.specs.{
   MemWatchState.{MemWatchState, is_fed, world_at, seen_by, seen, shown_by, shown_in, shows},
   declared.mem_watch.{Leading.{Leading, TheVariants.{Plain, Forgiving, Clinging, Keeping}}, Manner.Manner},
-  inner.Leading.{CanFail, fails_by, forgiven, led_at},
+  inner.Leading.{CanFail, forgiven, led_at},
 }
 
 pub world_there : (worlds : List World) (n : ℕ) (world : World) → n < length worlds
