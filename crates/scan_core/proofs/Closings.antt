@@ -19,18 +19,20 @@ use Rattle.std.proofs.lemmas.{
 }
 use Rattle.std.specs.Int.{bit_at, trailing_zeros, bit_not, Bits.{or_zero_l, or_zero_r}}
 use mir.Val.{bool_byte}
+use Rattle.bre_core.specs.Match.{Parts}
 use Rattle.scan_core.specs.{
+  Code.At,
   declared.{closures.Closures.Closures, hops.Hop.Hop, node.Node.Node, branch.Branch.Branch},
   inner.Closing.{Follows, FollowsFirst, IsApart, IsFollowed, LandsFirst},
-  inner.Closures.{AreClosures, Closes, Stays},
+  inner.Closures.{AreClosures, Closes, IsPlain, Stays},
   inner.Hops.{AreHops, AreLandings, HopsTo, IsHop, IsLanding, Meets, PartsTo, end_of, no_hop},
-  inner.Sets.{Flows, FlowsOn},
+  inner.Sets.{Flows, FlowsOn, LeadsOn},
   inner.Branches.IsBranch,
   inner.Words.{Adds, IsIn, SpreadsOut, unset, width},
 }
 use Rattle.scan_core.proofs.{
   Countings.set_elsewhere,
-  Enterings.{each_more, each_to, led_by, parts_anywhere},
+  Enterings.{at_index, each_more, each_to, flows_of, led_by, parts_anywhere},
   Insides.{adds_both, entered_one, flows_join, fresh_bit, in_word, is_in_word, lowest_in, spreads_out, unset-set},
 }
 
@@ -457,7 +459,35 @@ spreads_end {code} {closures} {new = new} s z c l eb el begun = spreads_out (add
       | inr ends ↦ l.adds.kept to (s.adds.kept to (begun to (rw eb at (ends to flow))))
     ]
 
--- at a line's front and end
+-- At a line's front and end.
+
+-- the first numbers lead to no more there
+pub plain_more : (code : List Node) {count : ℕ} {read : Node} → read ≡ get_or code count read → count < length code
+    → ((at_first at_last : Bool) (from to : ℕ) → LeadsOn read at_first at_last from to → LeadsOn read false false from to)
+    → ((number : ℕ) → number < count → IsPlain code number) → (number : ℕ) → number < count + 1 → IsPlain code number
+plain_more code {count} {read} e inside plain before number h at_first at_last to f = elim (cases_eq number count) [
+  | inl same ↦
+      let here = subst (At code number) (sym e) (rw same (at_index code count read inside)) in
+      (read, here, plain at_first at_last number to (flows_of code read here f))
+  | inr other ↦ before number (omega arith) at_first at_last to f
+]
+
+pub spreads_plainly : {code : List Node} {at_first at_last : Bool} {old new : List ℕ}
+    → SpreadsOut code false false old new → ((number : ℕ) → IsPlain code number)
+    → SpreadsOut code at_first at_last old new
+spreads_plainly {code} {at_first} {at_last} {old} s plain = record {
+  size = s.size;
+  exact = λ number. (
+    λ k. let f = (s.exact number).0 k in (f.0, f.1, (f.2.0, parts_anywhere _ _ _ _ _ _ f.2.1)),
+    λ k. (s.exact number).1 (k.0, k.1, (k.2.0, parts k.2.0 k.0 number k.2.1)),
+  );
+}
+  where
+    parts : (count from to : ℕ) → Parts (Flows code at_first at_last) count from to
+        → Parts (Flows code false false) count from to
+    parts zero from to p = p
+    parts (suc count) from to p = (p.0, parts count from p.0 p.1, plain p.0 at_first at_last to p.2)
+
 pub spreads_again : {code : List Node} {at_first at_last : Bool} {old now new : List ℕ}
     → SpreadsOut code false false old now → SpreadsOut code at_first at_last now new
     → SpreadsOut code at_first at_last old new

@@ -110,6 +110,9 @@ pub fn spread(words: &mut [u64], nodes: &[Node], closures: &Closures, at_first: 
     ensures { SpreadsOut nodes.now at_first at_last words.old words.new }
 {
     spread_anywhere(words, nodes, closures);
+    if !closures.is_anchored {
+        return;
+    }
     if at_first || at_last {
         spread_all(words, nodes, at_first, at_last);
     }

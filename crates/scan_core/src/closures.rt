@@ -1,14 +1,14 @@
 //! What follows without a byte, ready to be looked up: within a word for eight numbers at once, and out of it by hops.
 
 ghost use Rattle.std.specs.{
-  Prelude.{◌≡◌, ◌↔◌, ◌<◌, ◌+◌, ◌*◌, ◌^◌, ℕ, false, IfOk, IfErr, length},
+  Prelude.{◌≡◌, ◌↔◌, ◌<◌, ◌+◌, ◌*◌, ◌^◌, ℕ, Bool, false, IsFalse, IfOk, IfErr, length},
   Int.bit_at,
 };
 ghost use Rattle.bre_core.specs.declared.fault.BreFault.TheVariants.{Memory};
 ghost use Rattle.scan_core.specs.inner.{
-  Closures.{AreClosures, Closes, IsInside, IsLeading},
+  Closures.{AreClosures, Closes, IsInside, IsLeading, IsPlain},
   Each.AreEach,
-  Sets.{IsCode, Flows},
+  Sets.{IsCode, Flows, LeadsOn},
   Words.width,
 };
 
@@ -30,6 +30,8 @@ pub struct Closures {
     pub inside: Vec<u64>,
     /// What leads out of a word, and of the base.
     pub hops: Hops,
+    /// Whether some node leads on only at a line's front or end.
+    pub is_anchored: bool,
 }
 
 /// The numbers of a word whose nodes lead out of a set.
@@ -44,6 +46,29 @@ fn leading(nodes: &[Node], words: &[u64], at: usize) -> u64
         word |= (!is_within(nodes, words, at * 64 + bit) as u64) << bit;
     }
     word
+}
+
+/// Whether a node leads on only at a line's front or end.
+fn is_anchor(node: &Node) -> bool
+    ensures { IsFalse result → (at_first at_last : Bool) (from to : ℕ) → LeadsOn node.now at_first at_last from to
+        → LeadsOn node.now false false from to }
+{
+    match node {
+        Node::First | Node::Last => true,
+        Node::Take(_) | Node::Choose(_) | Node::Back(_) => false,
+    }
+}
+
+/// Whether some node leads on only at a line's front or end.
+fn has_anchors(nodes: &[Node]) -> bool
+    ensures { IsFalse result → (number : ℕ) → IsPlain nodes.now number }
+{
+    for number in 0..nodes.len() {
+        if is_anchor(&nodes[number]) {
+            return true;
+        }
+    }
+    false
 }
 
 /// A number's bit, if it stands in this word.
@@ -158,5 +183,6 @@ pub fn closures_of(alloc: Global, nodes: &[Node]) -> Result<Closures, BreFault>
         leads,
         inside,
         hops,
+        is_anchored: has_anchors(nodes),
     })
 }

@@ -15,4 +15,5 @@ returns-clause-ok c =
       leads = rw value at (each_to c.loop-at.invariant all);
       inside = c.in_ok-inside.ensures.ok;
       hops = rw value at c.in_ok-hops.ensures.ok;
+      plain = c.has_anchors.ensures;
     }
