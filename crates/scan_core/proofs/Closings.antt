@@ -19,7 +19,6 @@ use Rattle.std.proofs.lemmas.{
 }
 use Rattle.std.specs.Int.{bit_at, trailing_zeros, bit_not, Bits.{or_zero_l, or_zero_r}}
 use mir.Val.{bool_byte}
-use Rattle.bre_core.specs.Match.{Parts}
 use Rattle.scan_core.specs.{
   Code.At,
   declared.{closures.Closures.Closures, hops.Hop.Hop, node.Node.Node, branch.Branch.Branch},
@@ -475,18 +474,13 @@ plain_more code {count} {read} e inside plain before number h at_first at_last t
 pub spreads_plainly : {code : List Node} {at_first at_last : Bool} {old new : List ℕ}
     → SpreadsOut code false false old new → ((number : ℕ) → IsPlain code number)
     → SpreadsOut code at_first at_last old new
-spreads_plainly {code} {at_first} {at_last} {old} s plain = record {
+spreads_plainly s plain = spreads_out (record {
   size = s.size;
-  exact = λ number. (
-    λ k. let f = (s.exact number).0 k in (f.0, f.1, (f.2.0, parts_anywhere _ _ _ _ _ _ f.2.1)),
-    λ k. (s.exact number).1 (k.0, k.1, (k.2.0, parts k.2.0 k.0 number k.2.1)),
-  );
-}
-  where
-    parts : (count from to : ℕ) → Parts (Flows code at_first at_last) count from to
-        → Parts (Flows code false false) count from to
-    parts zero from to p = p
-    parts (suc count) from to p = (p.0, parts count from p.0 p.1, plain p.0 at_first at_last to p.2)
+  kept = λ number k. (s.exact number).1 (number, k, (0, refl));
+  from = λ number k. let f = (s.exact number).0 k in (f.0, f.1, (f.2.0, parts_anywhere _ _ _ _ _ _ f.2.1));
+}) (λ from to k f.
+    let was = (s.exact from).0 k in
+    (s.exact to).1 (was.0, was.1, flows_join _ 1 was.2 (from, refl, plain from _ _ to f)))
 
 pub spreads_again : {code : List Node} {at_first at_last : Bool} {old now new : List ℕ}
     → SpreadsOut code false false old now → SpreadsOut code at_first at_last now new
