@@ -402,12 +402,6 @@ following_more {closures} {hop} {now} {count} {over} {led} s f eh = record {
       ];
 }
 
--- the numbers of a hop are those that lead to its end
-from_bit : {code : List Node} {hop : Hop} {from to : ℕ} → IsHop code hop → hop.at ≡ from / 64 → end_of hop ≡ to
-    → Flows code false false from to → bit_at hop.from (from % 64) ≡ 1
-from_bit {code} {hop} {from} is at end flow =
-    search rules
-
 -- Following the landings.
 
 pub landing_more : {code : List Node} {base : List ℕ} {landings : List Hop} {hop : Hop} {old now new : List ℕ}
@@ -437,7 +431,7 @@ hop_led : {code : List Node} (hops : List Hop) (old new : List ℕ) {from to : �
     → IsIn old from → Flows code false false from to → HopsTo hops (from / 64) to → IsIn new to
 hop_led hops old new {from = from} are followed k flow hop =
     let same : from ≡ (get_or hops hop.0 no_hop).at * 64 + from % 64 = omega (arith, hop.2) in
-    let one = from_bit (are hop.0 hop.1) hop.2 hop.3 flow in
+    let one = ((are hop.0 hop.1).exact (from % 64) (omega arith)).1 (rw (hop.3, ← same) flow) in
     rw hop.3 at (followed hop.0 hop.1 (from % 64) (omega arith) one (subst (IsIn old) same k))
 
 pub spreads_end : {code : List Node} {closures : Closures} {base : List ℕ} {landings : List Hop} {old now new : List ℕ}
