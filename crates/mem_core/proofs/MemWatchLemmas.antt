@@ -2,13 +2,13 @@
 use Rattle.std.proofs.{
   Common.{◌≡◌, ℕ, ◌+◌, ◌-◌, ◌<◌, ◌≤◌, ◌⊎◌, inl, inr, min, zero, suc, Bool, true, false, List, [], ◌∷◌},
   Common.{◌++◌, Option, codes},
-  Common.{Some, None, length, refl, if◌then◌else◌, sym, ◌∙◌, ap, subst, arith, get_or, set, length-append, is_some, not, option_map},
+  Common.{Some, None, length, refl, if◌then◌else◌, sym, ◌∙◌, ap, subst, arith, get_or, set, length-append, is_some, not, option_map, ◌&&◌},
   lemmas.{Bool.cases_lt, Grind.common_steps},
 }
 use Rattle.watch_core.{
   specs.Snapshot.{Snapshot, clinging, first_led, forgiving, insisting, is_nowhere, latest, leads_to, opens_as, or_else, waiting, Finding, Found},
   specs.Edits.{World, empty_world, held_in, is_one, led_to, seen_in, shown},
-  specs.Watched.{Watched, Finds, Reopens, file_seen, open_contents, opens, watched_at},
+  specs.Watched.{Watched, Reopens, file_seen, open_contents, opens, watched_at},
   specs.declared.watch.Seen.Seen,
   proofs.NameLemmas.{latest-last, name_changes, name_there},
 }
@@ -16,7 +16,7 @@ use Rattle.ports_core.specs.declared.reason.Reason.{Reason}
 use Rattle.mem_core.specs.{
   MemWatchState.{MemWatchState, is_fed, world_at, seen_by, seen, shown_by, shown_in, shows},
   declared.mem_watch.{Leading.{Leading, TheVariants.{Plain, Forgiving, Clinging, Keeping}}, Manner.Manner},
-  inner.Leading.{CanFail, fails_by, forgiven, led_at},
+  inner.Leading.{CanFail, forgiven, led_at},
 }
 
 pub world_there : (worlds : List World) (n : ℕ) (world : World) → n < length worlds
@@ -97,11 +97,19 @@ turns_on watch worlds same =
 
 -- what is seen of files however names lead
 
-shown_holds : (manner : Manner) (worlds : List World) (n file : ℕ)
-    → (shown_in manner worlds n).holds file ≡ held_in (world_at worlds (suc n)).files file
-shown_holds manner worlds n file = by manner.leading manner.insists where
-  by : (leading : Leading) (insists : Bool) → (shown_in (record { leading = leading; insists = insists }) worlds n).holds file
-      ≡ held_in (world_at worlds (suc n)).files file
+-- the look of the files, but for how names lead, which calls fail, and whether it insists
+abbrev look_of : Manner → List World → ℕ → Snapshot
+look_of manner worlds n = record (seen_in (world_at worlds (suc n))) {
+  leads = led_at manner.leading worlds (suc n);
+  barred = (shown_in manner worlds n).barred;
+  breaks = (shown_in manner worlds n).breaks;
+  insists = manner.insists;
+}
+
+shown_is : (manner : Manner) (worlds : List World) (n : ℕ) → shown_in manner worlds n ≡ look_of manner worlds n
+shown_is manner worlds n = by manner.leading manner.insists where
+  by : (leading : Leading) (insists : Bool) → shown_in (record { leading = leading; insists = insists }) worlds n
+      ≡ look_of (record { leading = leading; insists = insists }) worlds n
   by Plain false = refl
   by Plain true = refl
   by Forgiving false = refl
@@ -110,49 +118,28 @@ shown_holds manner worlds n file = by manner.leading manner.insists where
   by Clinging true = refl
   by Keeping false = refl
   by Keeping true = refl
+
+shown_holds : (manner : Manner) (worlds : List World) (n file : ℕ)
+    → (shown_in manner worlds n).holds file ≡ held_in (world_at worlds (suc n)).files file
+shown_holds manner worlds n file = ap (λ (shown : Snapshot). shown.holds file) (shown_is manner worlds n)
 
 shown_lacks : (manner : Manner) (worlds : List World) (n process : ℕ)
     → is_one process (world_at worlds (suc n)).ended ≡ (shown_in manner worlds n).lacks process
-shown_lacks manner worlds n process = by manner.leading manner.insists where
-  by : (leading : Leading) (insists : Bool) → is_one process (world_at worlds (suc n)).ended
-      ≡ (shown_in (record { leading = leading; insists = insists }) worlds n).lacks process
-  by Plain false = refl
-  by Plain true = refl
-  by Forgiving false = refl
-  by Forgiving true = refl
-  by Clinging false = refl
-  by Clinging true = refl
-  by Keeping false = refl
-  by Keeping true = refl
+shown_lacks manner worlds n process = sym (ap (λ (shown : Snapshot). shown.lacks process) (shown_is manner worlds n))
 
 shown_leads : (manner : Manner) (worlds : List World) (n : ℕ) (name : List ℕ)
     → led_at manner.leading worlds (suc n) name ≡ (shown_in manner worlds n).leads name
-shown_leads manner worlds n name = by manner.leading manner.insists where
-  by : (leading : Leading) (insists : Bool) → led_at leading worlds (suc n) name
-      ≡ (shown_in (record { leading = leading; insists = insists }) worlds n).leads name
-  by Plain false = refl
-  by Plain true = refl
-  by Forgiving false = refl
-  by Forgiving true = refl
-  by Clinging false = refl
-  by Clinging true = refl
-  by Keeping false = refl
-  by Keeping true = refl
+shown_leads manner worlds n name = sym (ap (λ (shown : Snapshot). shown.leads name) (shown_is manner worlds n))
 
 -- any call may have found anything, except that a name leads nowhere if that fails
 shown_finds : (manner : Manner) (worlds : List World) (n : ℕ) (name : List ℕ) (finding : Finding)
     → (manner.insists ≡ true → is_nowhere finding ≡ false) → Found (shown_in manner worlds n) name finding
-shown_finds manner worlds n name finding = by manner.leading manner.insists where
-  by : (leading : Leading) (insists : Bool) → (insists ≡ true → is_nowhere finding ≡ false)
-      → Found (shown_in (record { leading = leading; insists = insists }) worlds n) name finding
-  by Plain false there = refl
-  by Plain true there = ap not (there refl)
-  by Forgiving false there = refl
-  by Forgiving true there = ap not (there refl)
-  by Clinging false there = refl
-  by Clinging true there = ap not (there refl)
-  by Keeping false there = refl
-  by Keeping true there = ap not (there refl)
+shown_finds manner worlds n name finding there =
+    subst (λ shown. Found shown name finding) (sym (shown_is manner worlds n)) (by manner.insists there)
+  where
+    by : (insists : Bool) → (insists ≡ true → is_nowhere finding ≡ false) → not (insists && is_nowhere finding) ≡ true
+    by false there = refl
+    by true there = ap not (there refl)
 
 pub finds_any : (manner : Manner) (within : ℕ) (worlds : List World) (n : ℕ) (name : List ℕ) (finding : Finding)
     → (manner.insists ≡ true → is_nowhere finding ≡ false)

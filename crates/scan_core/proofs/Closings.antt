@@ -22,8 +22,8 @@ use mir.Val.{bool_byte}
 use Rattle.scan_core.specs.{
   Code.At,
   declared.{closures.Closures.Closures, hops.Hop.Hop, node.Node.Node, branch.Branch.Branch},
-  inner.Closing.{Closer, Follows, HasLanded, IsApart, FollowsHops},
-  inner.Closures.{AreClosures, Closes, HasAnchors, IsBase, IsBegun, IsPlain, Stays},
+  inner.Closing.{Follows, FollowsFirst, IsApart, IsFollowed, LandsFirst},
+  inner.Closures.{AreClosures, Closes, IsPlain, Stays},
   inner.Hops.{AreHops, AreLandings, HopsTo, IsHop, IsLanding, Meets, PartsTo, end_of, no_hop},
   inner.Sets.{Flows, FlowsOn, LeadsOn},
   inner.Branches.IsBranch,
@@ -31,10 +31,8 @@ use Rattle.scan_core.specs.{
 }
 use Rattle.scan_core.proofs.{
   Countings.set_elsewhere,
-  Enterings.{at_index, at_least, each_more, each_to, flows_of, led_by, parts_anywhere},
-  Insides.{adds_anywhere, adds_both, entered_one, either_bit, flows_join, fresh_bit, is_in_word, is_within, left_bit},
-  Insides.lowest_in,
-  Insides.{right_bit, spreads_out, unset-set},
+  Enterings.{at_index, each_more, each_to, flows_of, led_by, parts_anywhere},
+  Insides.{adds_both, entered_one, flows_join, fresh_bit, in_word, is_in_word, lowest_in, spreads_out, unset-set},
 }
 
 -- some of a word's numbers are those of a hop, or none
@@ -140,34 +138,6 @@ parting_ends {all} {onward} {landings} p h met number to f = elim (met number to
   ])
 ]
 
--- At a line's front and end.
-
-pub plain_node : (code : List Node) {number : ℕ} {read : Node} → read ≡ get_or code number read → number < length code
-    → ((from to : ℕ) → LeadsOn read false true from to → LeadsOn read false false from to) → IsPlain code number
-plain_node code {number} {read} e inside plain = λ to f.
-    let here = subst (At code number) (sym e) (at_index _ _ _ inside) in
-    (read, here, plain number to (flows_of _ _ here f))
-
-pub plain_beyond : (code : List Node) {number : ℕ} → length code ≤ number → IsPlain code number
-plain_beyond code {number} h = λ to f. absurd (omega (arith, at_least code number f.0 f.1))
-
--- the first words of a set have no anchors
-abbrev pub NoneAnchors : List Node → List ℕ → ℕ → Type 0
-NoneAnchors code words count = (number : ℕ) → number < 64 * count → IsIn words number → IsPlain code number
-
-pub none_more : (code : List Node) (words : List ℕ) (count anchors : ℕ) → NoneAnchors code words count
-    → HasAnchors code count anchors → bit_and (get_or words count 0) anchors ≡ 0 → NoneAnchors code words (count + 1)
-none_more code words count anchors before has none = λ number h k. elim (cases_lt number (64 * count)) [
-  | inl l ↦ before number l k
-  | inr l ↦
-      let same : number ≡ count * 64 + number % 64 = omega arith in
-      let one = (is_in_word _ _ _ (omega arith)).1 (rw same at k) in
-      elim (has (number % 64) (omega arith)) [
-        | inl two ↦ absurd (none_of _ _ _ none one two)
-        | inr plain ↦ rw (← same) at plain
-      ]
-]
-
 -- Closing a word.
 
 -- what a word's numbers lead to has the word's own
@@ -192,19 +162,17 @@ pub record Closed (code : List Node) (at : ℕ) (old now : List ℕ) : Type 0 wh
 
 close_word : {code : List Node} {at word all : ℕ} {old now : List ℕ} → at < length old → word ≡ get_or old at 0
     → Closes code at word all → word < 2 ^ 64 → all < 2 ^ 64 → now ≡ set old at all → Closed code at old now
-close_word {code} {at} {word} {all} {old} {now} h ew c fits small es = record {
+close_word {code} {at} {word} {all} {old} {now} h ew c fits small en = record {
   adds = record {
     size = ap length en ∙ length-set old at _;
     kept = λ number k. elim (cases_eq (number / 64) at) [
-      | inl same ↦ let e : number ≡ at * 64 + number % 64 = omega arith in
-          rw (← e) at ((is_in_word now at (number % 64) (omega arith)).0
-          (bit_now _ (left_bit word all (number % 64) (bit_old _ (omega arith) (subst (IsIn old) e k)))))
-      | inr other ↦ rw (← en) at ((set_elsewhere old (bit_or word all) number other).1 k)
+      | inl same ↦ (now_is _ same).0 (c.kept _ (omega arith) (old_bit _ same k))
+      | inr other ↦ rw (← en) at ((set_elsewhere old all number other).1 k)
     ];
     from = λ number k. elim (cases_eq (number / 64) at) [
       | inl same ↦
           let e : number ≡ at * 64 + number % 64 = omega arith in
-          let b = c.from_chosen (number % 64) (omega arith) (in_all _ (omega arith) (rw e at k)) in (
+          let b = c.from_chosen _ (omega arith) ((now_is _ same).1 k) in (
             at * 64 + b.0,
             (is_in_word _ _ _ b.1).0 (ap (λ w. bit_at w b.0) (sym ew) ∙ b.2),
             subst (λ n. FlowsOn code false false (at * 64 + b.0) n) (sym e) b.3,
@@ -213,29 +181,23 @@ close_word {code} {at} {word} {all} {old} {now} h ew c fits small es = record {
     ];
   };
   elsewhere = λ number other k. (set_elsewhere _ _ _ other).0 (rw en at k);
-  fuller = rw (← en) at (unset_fuller old at (bit_or word all) (omega (arith, le_or_l word all)));
+  fuller = rw (← en) at (unset_fuller old at all (omega (arith, le_or_l word all, kept_or c fits small)));
   closed = λ start to here k s.
+      let there : to / 64 ≡ at = omega (arith, s.1) in
       let e : start ≡ at * 64 + start % 64 = omega arith in
-      let f : to ≡ at * 64 + to % 64 = omega (arith, s.1) in
+      let f : to ≡ at * 64 + to % 64 = omega arith in
       let flow = subst (λ n. Flows code false false n (at * 64 + to % 64)) e (rw f at s.0) in
-      let b = c.closed (start % 64) (to % 64) (omega arith) (omega arith) (in_all _ (omega arith) (rw e at k)) flow in
-      rw (← f) at ((is_in_word now at (to % 64) (omega arith)).0 (bit_now _ (right_bit word all (to % 64) b)));
+      (now_is _ there).0 (c.closed _ _ (omega arith) (omega arith) ((now_is _ here).1 k) flow);
 }
   where
-    en : now ≡ set old at (bit_or word all)
-    en = es ∙ ap (set old at) (sym (kept_or c fits small))
-
-    read : get_or now at 0 ≡ bit_or word all
+    read : get_or now at 0 ≡ all
     read = ap (λ w. get_or w at 0) en ∙ get_or-set_same old at _ 0 h
 
-    bit_now : (bit : ℕ) → bit_at (bit_or word all) bit ≡ 1 → bit_at (get_or now at 0) bit ≡ 1
-    bit_now bit k = ap (λ w. bit_at w bit) read ∙ k
+    now_is : (number : ℕ) → number / 64 ≡ at → (bit_at all (number % 64) ≡ 1) ↔ IsIn now number
+    now_is number same = rw read at (in_word now number same)
 
-    bit_old : (bit : ℕ) → bit < 64 → IsIn old (at * 64 + bit) → bit_at word bit ≡ 1
-    bit_old bit l k = ap (λ w. bit_at w bit) ew ∙ (is_in_word _ _ _ l).1 k
-
-    in_all : (bit : ℕ) → bit < 64 → IsIn now (at * 64 + bit) → bit_at all bit ≡ 1
-    in_all bit l k = elim (either_bit _ _ _ (sym (ap (λ w. bit_at w bit) read) ∙ (is_in_word _ _ _ l).1 k)) [ inl w ↦ c.kept bit l w | inr a ↦ a ]
+    old_bit : (number : ℕ) → number / 64 ≡ at → IsIn old number → bit_at word (number % 64) ≡ 1
+    old_bit number same k = rw (← ew) at ((in_word old number same).1 k)
 
 -- all that is in a set is in another
 abbrev pub Within : List ℕ → List ℕ → Type 0
@@ -247,7 +209,7 @@ based_of : {code : List Node} {closures : Closures} {at : ℕ} (words : List ℕ
     → IsIn words start → Flows code false false start to → IsIn closures.base.items to
 based_of {at} words {start} {to} c inside e here h f =
     let same : start ≡ at * 64 + start % 64 = omega arith in
-    let one = (is_in_word _ _ _ (omega arith)).1 (rw same at h) in
+    let one = (in_word words start here).1 h in
     elim (c.leads.each at inside (start % 64) to (omega arith) (rw same at f)) [
       | inl two ↦ absurd (none_of _ _ _ e one two)
       | inr based ↦ based
@@ -297,10 +259,6 @@ apart_more {code} {now} {new} {count} s c begun inside size closes fits small en
     w : Closed code count now new
     w = close_word (omega arith) refl closes fits small en
 
-pub apart_ends : {code : List Node} {closures : Closures} {old now : List ℕ} {count : ℕ}
-    → Apart code closures old now count → length now ≤ count → IsApart code closures.hops now
-apart_ends s h = λ start to k flow. s.done start to (omega (arith, is_within _ k)) k flow
-
 -- Following a hop.
 
 -- a number of a word is entered if something holds
@@ -314,11 +272,6 @@ entered_if words {at} {bit} true h small en other =
     (λ k. elim (e.0 k) [ inl was ↦ inl was | inr same ↦ inr (refl, same) ], λ k. e.1 (elim k [ inl was ↦ inl was | inr q ↦ inr q.1 ]))
 entered_if words false h small en other = search (rules, or_zero_r, set-get_or)
 
--- what a hop leads to from a set is in another
-abbrev pub IsFollowed : List ℕ → List ℕ → Hop → Type 0
-IsFollowed old new hop = (bit : ℕ) → bit < 64 → bit_at hop.from bit ≡ 1 → IsIn old (hop.at * 64 + bit)
-    → IsIn new (end_of hop)
-
 -- what a hop leads to was entered, if it leads from the set
 pub record Led (code : List Node) (hop : Hop) (old mid : List ℕ) (all : ℕ) : Type 0 where
   pub adds : Adds code false false old mid
@@ -327,12 +280,6 @@ pub record Led (code : List Node) (hop : Hop) (old mid : List ℕ) (all : ℕ) :
   pub set : mid ≡ set old hop.word all
   pub larger : get_or old hop.word 0 ≤ all
   pub fits : all < 2 ^ 64
-
-not_zero : {n : ℕ} → IsTrue (not (eqb n 0)) → n ≡ 0 → ⊥
-not_zero {n} t = eqb-false n 0 (not-true (eqb n 0) t)
-
-is_not_zero : {n : ℕ} → (n ≡ 0 → ⊥) → IsTrue (not (eqb n 0))
-is_not_zero {n} h = ap not (ne_eqb n 0 h)
 
 pub led_is : {code : List Node} {hop : Hop} {old mid : List ℕ} {holds : Bool} → IsHop code hop → length old ≡ width code
     → get_or old hop.at 0 < 2 ^ 64 → get_or old hop.word 0 < 2 ^ 64
@@ -348,7 +295,7 @@ led_is {code} {hop} {old} {mid} {holds} is size fits high test em = record {
   new = λ n k. elim ((exact n).0 k) [ inl was ↦ inl was | inr led ↦ inr led.1 ];
   followed = λ bit small one k.
       let here = (is_in_word _ _ _ small).1 k in
-      (exact _).1 (inr (test ∙ is_not_zero (λ none. none_of _ _ _ none here one), refl));
+      (exact _).1 (inr (test ∙ ap not (ne_eqb _ 0 (λ none. none_of _ _ _ none here one)), refl));
   set = em;
   larger = le_or_l _ (bool_byte holds * 2 ^ hop.bit % 2 ^ 64);
   fits = or_lt 64 _ (bool_byte holds * 2 ^ hop.bit % 2 ^ 64) high (omega arith);
@@ -360,7 +307,7 @@ led_is {code} {hop} {old} {mid} {holds} is size fits high test em = record {
     entered : (number : ℕ) → IsTrue holds → number ≡ end_of hop
         → (start : ℕ) × IsIn old start × FlowsOn code false false start number
     entered number t e =
-        let one = one_of _ fits (not_zero (sym test ∙ t)) in
+        let one = one_of _ fits (eqb-false _ 0 (not-true _ (sym test ∙ t))) in
         let start : ℕ = hop.at * 64 + one.0 in
         (start, (is_in_word _ _ _ one.1).0 one.2, (1, (start, refl, rw (← e) at ((is.exact one.0 one.1).0 one.3))))
 
@@ -433,16 +380,10 @@ module _ {code : List Node} {closures : Closures} {hop : Hop} {old mid : List �
 
 -- Following all hops.
 
--- the first hops were followed
-pub record Following (code : List Node) (closures : Closures) (old now : List ℕ) (count over : ℕ) : Type 0 where
-  pub closer : Closer code closures.hops old now over
-  pub done : over ≡ 0 → (place : ℕ) → place < count
-      → IsFollowed now now (get_or closures.hops.onward.items place no_hop)
-
 pub following_more : {code : List Node} {closures : Closures} {hop : Hop} {old now new : List ℕ} {count over led : ℕ}
-    → Following code closures old now count over → Follows code closures hop now new led
+    → FollowsFirst code closures old now count over → Follows code closures hop now new led
     → hop ≡ get_or closures.hops.onward.items count no_hop
-    → Following code closures old new (count + 1) (bit_or over led)
+    → FollowsFirst code closures old new (count + 1) (bit_or over led)
 following_more {closures} {hop} {now} {count} {over} {led} s f eh = record {
   closer = record {
     adds = adds_both s.closer.adds f.closer.adds;
@@ -461,43 +402,11 @@ following_more {closures} {hop} {now} {count} {over} {led} s f eh = record {
       ];
 }
 
--- the numbers of a hop are those that lead to its end
-from_bit : {code : List Node} {hop : Hop} {from to : ℕ} → IsHop code hop → hop.at ≡ from / 64 → end_of hop ≡ to
-    → Flows code false false from to → bit_at hop.from (from % 64) ≡ 1
-from_bit {code} {hop} {from} is at end flow =
-    search rules
-
-pub following_ends : {code : List Node} {closures : Closures} {old now : List ℕ} {count over : ℕ}
-    → Following code closures old now count over → AreHops code closures.hops.onward.items
-    → length closures.hops.onward.items ≤ count → FollowsHops code closures old now over
-following_ends {code} {closures} {now} {over} s are h = record {
-  closer = s.closer;
-  done = λ z from to k flow. elim (s.closer.apart from to k flow) [
-    | inl there ↦ inl there
-    | inr parts ↦ elim parts [ inl hop ↦ inl (ended z from to k flow hop) | inr landing ↦ inr landing ]
-  ];
-}
-  where
-    ended : over ≡ 0 → (from to : ℕ) → IsIn now from → Flows code false false from to
-        → HopsTo closures.hops.onward.items (from / 64) to → IsIn now to
-    ended z from to k flow hop =
-        let same : from ≡ (get_or closures.hops.onward.items hop.0 no_hop).at * 64 + from % 64 = omega (arith, hop.2) in
-        let one = from_bit (are.each hop.0 hop.1) hop.2 hop.3 flow in
-        rw hop.3 at (s.done z hop.0 (omega (arith, hop.1)) (from % 64) (omega arith) one (subst (IsIn now) same k))
-
 -- Following the landings.
 
--- the first landings were followed
-pub record Landing_on (code : List Node) (base : List ℕ) (landings : List Hop) (old now : List ℕ) (count : ℕ)
-    : Type 0 where
-  pub adds : Adds code false false old now
-  pub over : (number : ℕ) → IsIn now number
-      → IsIn old number ⊎ ((to : ℕ) → Flows code false false number to → IsIn base to)
-  pub led : (place : ℕ) → place < count → IsFollowed old now (get_or landings place no_hop)
-
 pub landing_more : {code : List Node} {base : List ℕ} {landings : List Hop} {hop : Hop} {old now new : List ℕ}
-    {count all : ℕ} → Landing_on code base landings old now count → IsLanding code base hop → Led code hop now new all
-    → hop ≡ get_or landings count no_hop → Landing_on code base landings old new (count + 1)
+    {count all : ℕ} → LandsFirst code base landings old now count → IsLanding code base hop → Led code hop now new all
+    → hop ≡ get_or landings count no_hop → LandsFirst code base landings old new (count + 1)
 landing_more {landings} {hop} {old} {count} s is led eh = record {
   adds = adds_both s.adds led.adds;
   over = λ n k. elim (led.new n k) [ inl was ↦ s.over n was | inr e ↦ inr (rw (← e) at is.ends) ];
@@ -507,77 +416,76 @@ landing_more {landings} {hop} {old} {count} s is led eh = record {
   ];
 }
 
-pub landing_ends : {code : List Node} {base : List ℕ} {landings : List Hop} {old now : List ℕ} {count : ℕ}
-    → Landing_on code base landings old now count → AreLandings code base landings → length landings ≤ count
-    → HasLanded code base landings old now
-landing_ends {landings} {old} s are h = record {
-  adds = s.adds;
-  over = s.over;
-  led = λ from to k flow hop.
-      let same : from ≡ (get_or landings hop.0 no_hop).at * 64 + from % 64 = omega (arith, hop.2) in
-      let one = from_bit (are.each hop.0 hop.1).leads hop.2 hop.3 flow in
-      rw hop.3 at (s.led hop.0 (omega (arith, hop.1)) (from % 64) (omega arith) one (subst (IsIn old) same k));
-}
-
 -- Until nothing is missing.
 
 pub record Spreads (code : List Node) (closures : Closures) (old now : List ℕ) (over : ℕ) : Type 0 where
   pub adds : Adds code false false old now
   pub apart : IsApart code closures.hops now
-  pub done : over ≡ 0 → (from to : ℕ) → IsIn now from → Flows code false false from to
-      → IsIn now to ⊎ HopsTo closures.hops.landings.items (from / 64) to
+  pub done : over ≡ 0 → (place : ℕ) → place < length closures.hops.onward.items
+      → IsFollowed now now (get_or closures.hops.onward.items place no_hop)
 
-pub spreads_more : {code : List Node} {closures : Closures} {old now new : List ℕ} {before over : ℕ}
-    → Spreads code closures old now before → FollowsHops code closures now new over → Spreads code closures old new over
-spreads_more s p = record { adds = adds_both s.adds p.closer.adds; apart = p.closer.apart; done = p.done }
+-- what some hops lead to from a set is in another, if all were followed
+hop_led : {code : List Node} (hops : List Hop) (old new : List ℕ) {from to : ℕ}
+    → ((place : ℕ) → place < length hops → IsHop code (get_or hops place no_hop))
+    → ((place : ℕ) → place < length hops → IsFollowed old new (get_or hops place no_hop))
+    → IsIn old from → Flows code false false from to → HopsTo hops (from / 64) to → IsIn new to
+hop_led hops old new {from = from} are followed k flow hop =
+    let same : from ≡ (get_or hops hop.0 no_hop).at * 64 + from % 64 = omega (arith, hop.2) in
+    let one = ((are hop.0 hop.1).exact (from % 64) (omega arith)).1 (rw (hop.3, ← same) flow) in
+    rw hop.3 at (followed hop.0 hop.1 (from % 64) (omega arith) one (subst (IsIn old) same k))
 
 pub spreads_end : {code : List Node} {closures : Closures} {base : List ℕ} {landings : List Hop} {old now new : List ℕ}
-    {over : ℕ} → Spreads code closures old now over → over ≡ 0 → HasLanded code base landings now new
-    → base ≡ closures.base.items → landings ≡ closures.hops.landings.items
-    → Within closures.base.items old → SpreadsOut code false false old new
-spreads_end {code} {new} s z l eb el begun = spreads_out (adds_both s.adds l.adds) closed
+    {over : ℕ} → Spreads code closures old now over → over ≡ 0 → AreClosures code closures
+    → LandsFirst code base landings now new (length landings) → base ≡ closures.base.items
+    → landings ≡ closures.hops.landings.items → Within closures.base.items old → SpreadsOut code false false old new
+spreads_end {code} {closures} {new = new} s z c l eb el begun = spreads_out (adds_both s.adds l.adds) closed
   where
     closed : (from to : ℕ) → IsIn new from → Flows code false false from to → IsIn new to
     closed from to k flow = elim (l.over from k) [
-      | inl was ↦ elim (s.done z from to was flow) [
+      | inl was ↦ elim (s.apart from to was flow) [
         | inl there ↦ l.adds.kept to there
-        | inr landing ↦ l.led from to was flow (rw (← el) at landing)
+        | inr parts ↦ elim parts [
+          | inl hop ↦ l.adds.kept to (hop_led closures.hops.onward.items _ _ c.hops.onward.each (s.done z) was flow hop)
+          | inr landing ↦ hop_led closures.hops.landings.items _ _ (λ place h. (c.hops.landings.each place h).leads) (rw el at l.led) was flow landing
+        ]
       ]
       | inr ends ↦ l.adds.kept to (s.adds.kept to (begun to (rw eb at (ends to flow))))
     ]
 
 -- At a line's front and end.
 
-pub spreads_front : {code : List Node} {base front old new : List ℕ} {at_first at_last : Bool} → IsBase code base
-    → IsBegun code true front → length old ≡ width code → Within base old
-    → Within old base → new ≡ front → IsTrue at_first → at_last ≡ false
-    → SpreadsOut code at_first at_last old new
-spreads_front {code} {old} {new} b f size begun only e t l = rw (← t) at (subst (λ last. SpreadsOut code true last old new) (sym l) (record {
-  size = ap length e ∙ f.size ∙ sym size;
-  exact = λ number. (
-    λ k. (0, begun 0 ((b.exact 0).1 (0, refl)), (f.exact number).0 (subst (λ w. IsIn w number) e k)),
-    λ k. let on = (b.exact k.0).0 (only k.0 k.1) in
-        subst (λ w. IsIn w number) (sym e) ((f.exact number).1 (flows_join _ _ (on.0, parts_anywhere _ _ _ _ 0 _ on.1) k.2.1)),
-  );
-}))
-
-adds_of : {code : List Node} {at_first at_last : Bool} {old new : List ℕ} → SpreadsOut code at_first at_last old new
-    → Adds code at_first at_last old new
-adds_of s = search rules
-
-closed_of : {code : List Node} {at_first at_last : Bool} {old new : List ℕ} → SpreadsOut code at_first at_last old new
-    → (from to : ℕ) → IsIn new from → Flows code at_first at_last from to → IsIn new to
-closed_of s from to k f =
-    let was = (s.exact from).0 k in
-    (s.exact to).1 (was.0, was.1, flows_join _ 1 was.2 (from, refl, f))
+-- the first numbers lead to no more there
+pub plain_more : (code : List Node) {count : ℕ} {read : Node} → read ≡ get_or code count read → count < length code
+    → ((at_first at_last : Bool) (from to : ℕ) → LeadsOn read at_first at_last from to → LeadsOn read false false from to)
+    → ((number : ℕ) → number < count → IsPlain code number) → (number : ℕ) → number < count + 1 → IsPlain code number
+plain_more code {count} {read} e inside plain before number h at_first at_last to f = elim (cases_eq number count) [
+  | inl same ↦
+      let here = subst (At code number) (sym e) (rw same (at_index code count read inside)) in
+      (read, here, plain at_first at_last number to (flows_of code read here f))
+  | inr other ↦ before number (omega arith) at_first at_last to f
+]
 
 pub spreads_plainly : {code : List Node} {at_first at_last : Bool} {old new : List ℕ}
-    → SpreadsOut code false false old new
-    → ((from to : ℕ) → IsIn new from → Flows code at_first at_last from to → Flows code false false from to)
+    → SpreadsOut code false false old new → ((number : ℕ) → IsPlain code number)
     → SpreadsOut code at_first at_last old new
-spreads_plainly s plain = spreads_out (adds_anywhere (adds_of s)) (λ from to k f. closed_of s _ _ k (plain from to k f))
+spreads_plainly s plain = spreads_out (record {
+  size = s.size;
+  kept = λ number k. (s.exact number).1 (number, k, (0, refl));
+  from = λ number k. let f = (s.exact number).0 k in (f.0, f.1, (f.2.0, parts_anywhere _ _ _ _ _ _ f.2.1));
+}) (λ from to k f.
+    let was = (s.exact from).0 k in
+    (s.exact to).1 (was.0, was.1, flows_join _ 1 was.2 (from, refl, plain from _ _ to f)))
 
 pub spreads_again : {code : List Node} {at_first at_last : Bool} {old now new : List ℕ}
     → SpreadsOut code false false old now → SpreadsOut code at_first at_last now new
     → SpreadsOut code at_first at_last old new
-spreads_again s t = spreads_out (adds_both (adds_anywhere (adds_of s)) (adds_of t)) (closed_of t)
+spreads_again s t = record {
+  size = t.size ∙ s.size;
+  exact = λ number. (
+    λ k.
+        let last = (t.exact number).0 k in
+        let first = (s.exact last.0).0 last.1 in
+        (first.0, first.1, flows_join _ _ (first.2.0, parts_anywhere _ _ _ _ _ _ first.2.1) last.2.1),
+    λ k. (t.exact number).1 (k.0, (s.exact k.0).1 (k.0, k.1, (0, refl)), k.2),
+  );
+}

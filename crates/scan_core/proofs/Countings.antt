@@ -1,7 +1,7 @@
 -- The positions of a set of words are its bits that are positions.
 use Rattle.std.proofs.{
   Common.{◌≡◌, ◌↔◌, ℕ, zero, suc, ◌+◌, ◌*◌, ◌/◌, ◌<◌, ◌≤◌, List, [], ◌∷◌, length, get_or, refl, sym, ap},
-  Common.{subst, arith},
+  Common.{subst, arith, replicate},
   Common.{rules, ◌⊎◌, inl, inr, ◌%◌, ◌^◌, set, ◌∙◌, ◌-◌, Bool, true, false, ◌++◌, length-append, eqb-true, eq-eqb},
   Common.{get_or-set_same, get_or-set_other, length-set, bit_and, bit_or, ◌==◌, count_ones},
   lemmas.Nat.{
@@ -11,7 +11,7 @@ use Rattle.std.proofs.{
     and_shr,
     Bits.{bit_at_and, bit_at_or, bit_at_lowest, bit_at-suc, bit_at-zero, bit_at_above, bit_at_cat_low, bit_at-lt},
   },
-  lemmas.Bool.cases_lt,
+  lemmas.{Bool.cases_lt, List.{get_or-replicate, length-replicate}},
   lemmas.Grind.common_steps,
 }
 use Rattle.std.specs.Int.{bit_at, Count.ones_step}
@@ -174,15 +174,15 @@ passing_ends {code} {byte} {base} {old} {now} {at} p h size same number = (
     within (inr front) = omega (arith, is_within base front)
 
 -- no bit of words that are 0
-pub none_in : (words : List ℕ) {at : ℕ} → ((n : ℕ) → n < at → get_or words n 0 ≡ 0) → length words ≤ at → (number : ℕ)
-    → IsIn words number → ⊥
-none_in words {at} zeros h number k =
+pub none_in : (words : List ℕ) (count : ℕ) → words ≡ replicate count 0 → (number : ℕ) → IsIn words number → ⊥
+none_in words count e number k =
     let l = is_within _ k in
     let same : number ≡ number / 64 * 64 + number % 64 = omega arith in
+    let zero = ap (λ w. get_or w (number / 64) 0) e ∙ get_or-replicate count (number / 64) 0 0 (omega (arith, ap length e, length-replicate {A = ℕ} count 0)) in
     omega (
       arith,
       (is_in_word words (number / 64) (number % 64) (omega arith)).1 (rw same at k),
-      ap (λ x. bit_at x (number % 64)) (zeros (number / 64) (omega arith)) ∙ bit_at-zero (number % 64),
+      ap (λ x. bit_at x (number % 64)) zero ∙ bit_at-zero (number % 64),
     )
 
 -- the weights of the marked numbers

@@ -26,7 +26,7 @@ use Rattle.scan_core.{
     Closures.{Closes, IsInside, chosen_at},
   },
   specs.declared.{node.Node.Node, branch.Branch.Branch},
-  proofs.Enterings.{at_least, parts_anywhere},
+  proofs.Enterings.at_least,
 }
 use Rattle.bre_core.specs.Match.{Parts}
 
@@ -134,12 +134,7 @@ grows_both : {Added Other : ℕ → Type 0} {old middle new : List ℕ} {before 
     → Grows (λ n. Added n ⊎ Other n) old new before on
 grows_both f g = search rules
 
--- a node that leads nowhere at this place, and one that leads to two numbers
-pub grows_closed : {code : List Node} {number : ℕ} {branch : Branch} {at_first at_last : Bool} {words : List ℕ} {on : ℕ}
-    → IsBranch code number branch → (Opens branch.when at_first at_last → ⊥)
-    → Grows (Flows code at_first at_last number) words words on on
-grows_closed {at_first} {at_last} w never = grows_none (λ to f. absurd (never ((w.exact at_first at_last to).0 f).0))
-
+-- a node that leads to two numbers
 pub grows_way : {code : List Node} {number : ℕ} {branch : Branch} {at_first at_last : Bool} {old middle new : List ℕ}
     {before between on : ℕ} → IsBranch code number branch → Opens branch.when at_first at_last
     → Grows (λ n. n ≡ branch.one) old middle before between → Grows (λ n. n ≡ branch.other) middle new between on
@@ -154,6 +149,11 @@ pub is_in_word : (words : List ℕ) (at bit : ℕ) → bit < 64
     → (bit_at (get_or words at 0) bit ≡ 1) ↔ IsIn words (at * 64 + bit)
 unfolding IsIn
 is_in_word words at bit h = search rules
+
+pub in_word : (words : List ℕ) (number : ℕ) {at : ℕ} → number / 64 ≡ at
+    → (bit_at (get_or words at 0) (number % 64) ≡ 1) ↔ IsIn words number
+unfolding IsIn
+in_word words number same = rw (← same) (λ k. k, λ k. k)
 
 pub is_within : (words : List ℕ) {number : ℕ} → IsIn words number → number < 64 * length words
 unfolding IsIn
@@ -172,11 +172,6 @@ adds_both f g = record {
   kept = λ number h. g.kept number (f.kept number h);
   from = λ number h. let one = g.from number h in let two = f.from one.0 one.1 in (two.0, two.1, flows_join _ _ two.2 one.2.1);
 }
-
--- what follows at any place follows at each
-pub adds_anywhere : {code : List Node} {at_first at_last : Bool} {old new : List ℕ} → Adds code false false old new
-    → Adds code at_first at_last old new
-adds_anywhere a = search (rules, parts_anywhere)
 
 -- what a set leads to is in it
 pub spreads_out : {code : List Node} {at_first at_last : Bool} {old now : List ℕ} → Adds code at_first at_last old now

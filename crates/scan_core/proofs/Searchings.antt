@@ -33,11 +33,6 @@ pub record Searched (code : List Node) (line : List ℕ) (place : ℕ) (words : 
   pub came : (number : ℕ) → IsIn words number ↔ (Came code line place number ⊎ FlowsOn code false false 0 number)
   pub so_far : IsCounted code line place steps
 
--- at the line's front nothing came before
-pub front_is : {code : List Node} {line base words : List ℕ} {place steps : ℕ} → Searched code line place words steps
-    → IsBase code base → place ≡ 0 → (number : ℕ) → IsIn words number → IsIn base number
-front_is s b z number k = search rules
-
 -- what is entered at a place
 pub entered_here : {code : List Node} {line : List ℕ} {place steps : ℕ} {at_first at_last : Bool} {old new : List ℕ}
     → Searched code line place old steps → IsPlace line place at_first at_last

@@ -411,11 +411,6 @@ weight_small {code} {state} t w l h =
     let p = t.1.noted state (omega (arith, t.1.states)) in
     omega (arith, w.exact state h l, p.positions, positions_most code (set_at t.0 state))
 
--- the end that was entered stays entered, whatever steps come
-more_steps : {code : List Node} {line : List ℕ} {steps : ℕ} (added : ℕ) → HasStepsBefore code line steps
-    → HasStepsBefore code line (steps + added)
-more_steps added has = search rules
-
 module _ {code : List Node} {table : Table} {line : List ℕ} {place state steps added : ℕ} (t : IsTable code table)
     (a : IsStateAt code table line place state steps) (h : place < length line) where
   state_over : HasStepsBefore code line (steps + added) → added ≤ weight code + 1
@@ -456,7 +451,7 @@ module _ {code : List Node} {table : Table} {line : List ℕ} {place state steps
         let same : state ≡ length table.states.items = omega (arith, a.known) in (
           length table.states.items,
           o.stop (λ l. absurd (omega arith)),
-          state_over (more_steps _ (a.over same)) (omega (arith, w.stop (ap (λ n. 6 * n) same))),
+          state_over (let over = a.over same in search rules) (omega (arith, w.stop (ap (λ n. 6 * n) same))),
         )
     | inl below ↦ let light = weight_small t w refl below in elim
         (cases_lt (entry table.rows.items state (slice_index line place)) (length table.states.items)) [

@@ -23,7 +23,7 @@ use crate::masks::Masks;
 use crate::node::Node;
 use crate::table::{STOP, State, Table, UNKNOWN};
 use crate::words::{has, pass, positions};
-use crate::worklist::{begin, spread_all};
+use crate::worklist::{begun_of, spread_all};
 use bre_core::BreFault;
 use std::alloc::Global;
 use std::marker::Model;
@@ -195,8 +195,7 @@ impl Building {
         ensures ok { IfOk result (λ begun. IfSome begun (IsBuilding nodes.now most 0)) }
         ensures err { IfErr result (λ fault. fault ≡ Memory) }
     {
-        let mut words = vec![in alloc; 0u64; nodes.len() / 64 + 1]?;
-        begin(&mut words, nodes, true);
+        let words = begun_of(alloc, nodes, true)?;
         if has(&words, nodes.len()) {
             return Ok(None);
         }

@@ -1,12 +1,12 @@
 //! Entering all that follows without a byte, as it was made ready: each word is closed by itself, and then the hops are
 //! followed.
 
-ghost use Rattle.std.specs.Prelude.{◌≡◌, ℕ, false, IsFalse, IsTrue, length};
+ghost use Rattle.std.specs.Prelude.{◌≡◌, ℕ, false, length};
 ghost use Rattle.scan_core.specs.inner.{
-  Closing.{Follows, HasLanded, IsApart, FollowsHops},
-  Closures.{AreClosures, IsPlain},
+  Closing.{Follows, FollowsFirst, IsApart, LandsFirst},
+  Closures.AreClosures,
   Hops.{AreLandings, IsHop},
-  Sets.{IsCode, Flows},
+  Sets.IsCode,
   Words.{Adds, IsIn, SpreadsOut, width},
 };
 
@@ -60,7 +60,7 @@ fn follow_all(words: &mut [u64], nodes: &[Node], closures: &Closures) -> u64
     requires closures { AreClosures nodes.now closures.now }
     requires begun { (number : ℕ) → IsIn closures.now.base.items number → IsIn words.old number }
     requires apart { IsApart nodes.now closures.now.hops words.old }
-    ensures { FollowsHops nodes.now closures.now words.old words.new result }
+    ensures { FollowsFirst nodes.now closures.now words.old words.new (length closures.now.hops.onward.items) result }
 {
     let mut over = 0;
     for place in 0..closures.hops.onward.len() {
@@ -75,7 +75,7 @@ fn follow_all(words: &mut [u64], nodes: &[Node], closures: &Closures) -> u64
 fn land(words: &mut [u64], nodes: &[Node], base: &[u64], landings: &[Hop])
     requires size { length words.old ≡ width nodes.now }
     requires landings { AreLandings nodes.now base.now landings.now }
-    ensures { HasLanded nodes.now base.now landings.now words.old words.new }
+    ensures { LandsFirst nodes.now base.now landings.now words.old words.new (length landings.now) }
 {
     for place in 0..landings.len() {
         let hop = &landings[place];
@@ -100,59 +100,20 @@ fn spread_anywhere(words: &mut [u64], nodes: &[Node], closures: &Closures)
     land(words, nodes, &closures.base, &closures.hops.landings);
 }
 
-/// Whether a number of a set may lead to more at a line's end than before it.
-fn has_anchors(words: &[u64], nodes: &[Node], closures: &Closures) -> bool
-    requires size { length words.now ≡ width nodes.now }
-    requires closures { AreClosures nodes.now closures.now }
-    ensures { IsFalse result → (number : ℕ) → IsIn words.now number → IsPlain nodes.now number }
-{
-    for at in 0..words.len() {
-        if words[at] & closures.anchors[at] != 0 {
-            return true;
-        }
-    }
-    false
-}
-
-/// Whether a number of a set may lead to more at this place than elsewhere.
-#[inline(always)]
-fn is_anchored(
-    words: &[u64],
-    nodes: &[Node],
-    closures: &Closures,
-    at_first: bool,
-    at_last: bool,
-) -> bool
-    requires size { length words.now ≡ width nodes.now }
-    requires closures { AreClosures nodes.now closures.now }
-    ensures { IsFalse result → (from to : ℕ) → IsIn words.now from → Flows nodes.now at_first at_last from to
-        → Flows nodes.now false false from to }
-{
-    if at_first {
-        return true;
-    }
-    if at_last {
-        return has_anchors(words, nodes, closures);
-    }
-    false
-}
-
-/// Enters all that a set leads to at one place, without a byte. The base is in the set, and nothing else at a line's front.
+/// Enters all that a set leads to at one place, without a byte. The base is in the set.
 #[inline(always)]
 pub fn spread(words: &mut [u64], nodes: &[Node], closures: &Closures, at_first: bool, at_last: bool)
     requires code { IsCode nodes.now }
     requires size { length words.old ≡ width nodes.now }
     requires closures { AreClosures nodes.now closures.now }
     requires begun { (number : ℕ) → IsIn closures.now.base.items number → IsIn words.old number }
-    requires front { IsTrue at_first → (number : ℕ) → IsIn words.old number → IsIn closures.now.base.items number }
     ensures { SpreadsOut nodes.now at_first at_last words.old words.new }
 {
-    if at_first && !at_last {
-        words.copy_from_slice(&closures.front);
+    spread_anywhere(words, nodes, closures);
+    if !closures.is_anchored {
         return;
     }
-    spread_anywhere(words, nodes, closures);
-    if is_anchored(words, nodes, closures, at_first, at_last) {
+    if at_first || at_last {
         spread_all(words, nodes, at_first, at_last);
     }
 }

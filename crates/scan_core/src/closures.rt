@@ -1,12 +1,12 @@
 //! What follows without a byte, ready to be looked up: within a word for eight numbers at once, and out of it by hops.
 
 ghost use Rattle.std.specs.{
-  Prelude.{◌≡◌, ◌↔◌, ◌<◌, ◌+◌, ◌*◌, ◌^◌, ℕ, true, false, IsFalse, IsTrue, IfOk, IfErr, length},
+  Prelude.{◌≡◌, ◌↔◌, ◌<◌, ◌+◌, ◌*◌, ◌^◌, ℕ, Bool, false, IsFalse, IfOk, IfErr, length},
   Int.bit_at,
 };
 ghost use Rattle.bre_core.specs.declared.fault.BreFault.TheVariants.{Memory};
 ghost use Rattle.scan_core.specs.inner.{
-  Closures.{AreClosures, Closes, HasAnchors, IsInside, IsLeading, IsPlain},
+  Closures.{AreClosures, Closes, IsInside, IsLeading, IsPlain},
   Each.AreEach,
   Sets.{IsCode, Flows, LeadsOn},
   Words.width,
@@ -24,16 +24,14 @@ use std::alloc::Global;
 pub struct Closures {
     /// What number 0 leads to, itself among it: since a search begins at every place, it is in each set.
     pub base: Vec<u64>,
-    /// What number 0 leads to at a line's front.
-    pub front: Vec<u64>,
     /// For each word, the numbers whose nodes lead to others than the base.
     pub leads: Vec<u64>,
     /// For each word, each eight of its numbers, and each choice from these: what the chosen ones lead to in the word.
     pub inside: Vec<u64>,
     /// What leads out of a word, and of the base.
     pub hops: Hops,
-    /// For each word, the numbers whose nodes lead on only at a line's end.
-    pub anchors: Vec<u64>,
+    /// Whether some node leads on only at a line's front or end.
+    pub is_anchored: bool,
 }
 
 /// The numbers of a word whose nodes lead out of a set.
@@ -50,37 +48,27 @@ fn leading(nodes: &[Node], words: &[u64], at: usize) -> u64
     word
 }
 
-/// Whether a node leads on only at a line's end.
+/// Whether a node leads on only at a line's front or end.
 fn is_anchor(node: &Node) -> bool
-    ensures { IsFalse result → (from to : ℕ) → LeadsOn node.now false true from to
+    ensures { IsFalse result → (at_first at_last : Bool) (from to : ℕ) → LeadsOn node.now at_first at_last from to
         → LeadsOn node.now false false from to }
 {
     match node {
-        Node::Last => true,
-        Node::Take(_) | Node::First | Node::Choose(_) | Node::Back(_) => false,
+        Node::First | Node::Last => true,
+        Node::Take(_) | Node::Choose(_) | Node::Back(_) => false,
     }
 }
 
-/// Whether a number's node leads to no more at a line's end than before it.
-fn is_plain(nodes: &[Node], number: usize) -> bool
-    ensures { IsTrue result → IsPlain nodes.now number }
+/// Whether some node leads on only at a line's front or end.
+fn has_anchors(nodes: &[Node]) -> bool
+    ensures { IsFalse result → (number : ℕ) → IsPlain nodes.now number }
 {
-    if number >= nodes.len() {
-        return true;
+    for number in 0..nodes.len() {
+        if is_anchor(&nodes[number]) {
+            return true;
+        }
     }
-    !is_anchor(&nodes[number])
-}
-
-/// The numbers of a word whose nodes lead on only at a line's end.
-fn anchors_in(nodes: &[Node], at: usize) -> u64
-    requires { at < width nodes.now }
-    ensures { HasAnchors nodes.now at result }
-{
-    let mut word: u64 = 0;
-    for bit in 0..64usize {
-        word |= (!is_plain(nodes, at * 64 + bit) as u64) << bit;
-    }
-    word
+    false
 }
 
 /// A number's bit, if it stands in this word.
@@ -183,22 +171,18 @@ pub fn closures_of(alloc: Global, nodes: &[Node]) -> Result<Closures, BreFault>
     ensures err { IfErr result (λ fault. fault ≡ Memory) }
 {
     let base = begun_of(alloc, nodes, false)?;
-    let front = begun_of(alloc, nodes, true)?;
     let inside = insides_of(alloc, nodes)?;
     let begun = base.as_slice();
     let hops = hops_of(alloc, nodes, begun)?;
     let mut leads = Vec::new(alloc);
-    let mut anchors = Vec::new(alloc);
     for at in 0..nodes.len() / 64 + 1 {
         leads.push(leading(nodes, begun, at))?;
-        anchors.push(anchors_in(nodes, at))?;
     }
     Ok(Closures {
         base,
-        front,
         leads,
         inside,
         hops,
-        anchors,
+        is_anchored: has_anchors(nodes),
     })
 }

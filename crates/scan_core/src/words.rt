@@ -55,17 +55,6 @@ pub fn lead(
     enter(words, branch.other, on)
 }
 
-/// Takes all out.
-#[inline(always)]
-pub fn clear(words: &mut [u64])
-    ensures size { length words.new ≡ length words.old }
-    ensures none { (number : ℕ) → IsIn words.new number → ⊥ }
-{
-    for at in 0..words.len() {
-        words[at] = 0;
-    }
-}
-
 /// Makes of a set what a byte leads to from it, with what is in each set. `takes` has the numbers whose nodes take each byte.
 #[inline(always)]
 pub fn pass(words: &mut [u64], nodes: &[Node], base: &[u64], takes: &[u64], byte: u8)

@@ -9,7 +9,7 @@ ghost use Rattle.scan_core.specs.inner.{
 };
 
 use crate::node::Node;
-use crate::words::{clear, enter, has, lead};
+use crate::words::{enter, has, lead};
 use bre_core::BreFault;
 use std::alloc::Global;
 
@@ -40,14 +40,14 @@ pub fn spread_all(words: &mut [u64], nodes: &[Node], at_first: bool, at_last: bo
     }
 }
 
-/// Makes a set what number 0 leads to without a byte, at a line's front or elsewhere.
-pub fn begin(words: &mut [u64], nodes: &[Node], at_first: bool)
+/// Makes of an empty set what number 0 leads to without a byte, at a line's front or elsewhere.
+fn begin(words: &mut [u64], nodes: &[Node], at_first: bool)
     requires code { IsCode nodes.now }
     requires size { length words.old ≡ width nodes.now }
+    requires none { (number : ℕ) → IsIn words.old number → ⊥ }
     ensures size { length words.new ≡ length words.old }
     ensures exact { (number : ℕ) → IsIn words.new number ↔ FlowsOn nodes.now at_first false 0 number }
 {
-    clear(words);
     enter(words, 0, 0);
     spread_all(words, nodes, at_first, false);
 }

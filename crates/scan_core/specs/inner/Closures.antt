@@ -1,6 +1,6 @@
 -- What numbers lead to without a byte, ready to be looked up.
 use Rattle.std.specs.{
-  Prelude.{◌≡◌, ◌⊎◌, ◌↔◌, ℕ, ◌+◌, ◌*◌, ◌/◌, ◌%◌, ◌^◌, ◌<◌, Bool, true, false, List, length},
+  Prelude.{◌≡◌, ◌⊎◌, ◌↔◌, ℕ, ◌+◌, ◌*◌, ◌/◌, ◌%◌, ◌^◌, ◌<◌, Bool, false, IsFalse, List, length},
   Int.bit_at,
 }
 use Rattle.scan_core.specs.{
@@ -22,13 +22,10 @@ abbrev pub IsLeading : List Node → List ℕ → ℕ → ℕ → Type 0
 IsLeading code words at word = (bit : ℕ) (to : ℕ) → bit < 64 → Flows code false false (at * 64 + bit) to
     → (bit_at word bit ≡ 1) ⊎ IsIn words to
 
--- a number leads to no more at a line's end than elsewhere
+-- a number leads to no more at a line's front or end than elsewhere
 abbrev pub IsPlain : List Node → ℕ → Type 0
-IsPlain code from = (to : ℕ) → Flows code false true from to → Flows code false false from to
-
--- if a number of a word leads to more at a line's end, its bit is 1
-abbrev pub HasAnchors : List Node → ℕ → ℕ → Type 0
-HasAnchors code at word = (bit : ℕ) → bit < 64 → (bit_at word bit ≡ 1) ⊎ IsPlain code (at * 64 + bit)
+IsPlain code from = (at_first at_last : Bool) (to : ℕ) → Flows code at_first at_last from to
+    → Flows code false false from to
 
 -- a step without a byte to a number of the same word
 abbrev pub Stays : List Node → ℕ → ℕ → Type 0
@@ -51,8 +48,7 @@ IsInside code place entry = Closes code (place / 2048) (chosen_at place) entry
 
 pub record AreClosures (code : List Node) (closures : Closures) : Type 0 where
   pub base : IsBase code closures.base.items
-  pub front : IsBegun code true closures.front.items
   pub leads : AreEach 0 (IsLeading code closures.base.items) (width code) closures.leads.items
   pub inside : AreEach 0 (IsInside code) (width code * 2048) closures.inside.items
   pub hops : AreParted code closures.base.items closures.hops
-  pub anchors : AreEach 0 (HasAnchors code) (width code) closures.anchors.items
+  pub plain : IsFalse closures.is_anchored → (number : ℕ) → IsPlain code number

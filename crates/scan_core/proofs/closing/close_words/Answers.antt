@@ -2,7 +2,8 @@ use Rattle.std.proofs.{Common.{rules, ◌<◌, ◌^◌, get_or, refl, sym, ap, �
 use Rattle.scan_core.{
   specs.inner.Words.width,
   proofs.{
-    Closings.{apart_skip, apart_more, apart_ends},
+    Closings.{apart_skip, apart_more},
+    Insides.is_within,
     closing.close_words.Goals.{then-word-index-ne0, else-word-index-ne0},
   },
 }
@@ -24,4 +25,4 @@ loop-at-preserved c =
     ]
 
 pub returns-clause-apart : goal.returns-clause-apart
-returns-clause-apart c = apart_ends c.loop-at.invariant (omega arith)
+returns-clause-apart c = λ start to k flow. c.loop-at.invariant.done start to (omega (arith, is_within _ k, c.loop-at-test.false)) k flow

@@ -1,5 +1,5 @@
-use Rattle.std.proofs.{Common.{◌<◌, length, ◌∙◌, arith}, lemmas.List.get_or_default}
-use Rattle.scan_core.{specs.inner.Hops.no_hop, proofs.Closings.{following_more, following_ends}}
+use Rattle.std.proofs.{Common.{◌≡◌, ◌<◌, length, ◌∙◌, arith}, lemmas.List.get_or_default}
+use Rattle.scan_core.{specs.inner.Hops.no_hop, proofs.Closings.following_more}
 use Rattle.scan_core.proofs.closing.follow_all.Goals as goal
 
 pub follow-over-requires-clause-hop : goal.follow-over-requires-clause-hop
@@ -15,4 +15,6 @@ loop-place-preserved c =
     following_more c.loop-place.invariant c.follow-over.ensures (c.index-hop.ensures ∙ get_or_default hops c.loop-place.place _ no_hop inside)
 
 pub returns : goal.returns
-returns c = following_ends c.loop-place.invariant c.requires.closures.hops.onward (omega arith)
+returns c =
+    let all : c.loop-place.place ≡ length c.args.closures.now.hops.onward.items = omega arith in
+    rw all at c.loop-place.invariant

@@ -1,7 +1,7 @@
-use Rattle.std.proofs.Common.{rules, ◌<◌, ◌^◌, get_or, refl, ◌∙◌, arith}
+use Rattle.std.proofs.Common.{rules, ◌≡◌, ◌<◌, ◌^◌, length, get_or, refl, ◌∙◌, arith}
 use Rattle.scan_core.{
   specs.inner.Hops.no_hop,
-  proofs.Closings.{landing_more, landing_ends, led_is},
+  proofs.Closings.{landing_more, led_is},
 }
 use Rattle.scan_core.proofs.closing.land.Goals as goal
 
@@ -15,4 +15,6 @@ loop-place-preserved c =
     landing_more s is (led_is is.leads (s.adds.size ∙ c.requires.size) fits high refl refl) refl
 
 pub returns : goal.returns
-returns c = landing_ends c.loop-place.invariant c.requires.landings (omega arith)
+returns c =
+    let all : c.loop-place.place ≡ length c.args.landings.now = omega arith in
+    rw all at c.loop-place.invariant

@@ -3,7 +3,7 @@ use Rattle.scan_core.{specs.inner.Words.width, proofs.Enterings.{each_more, each
 use Rattle.scan_core.proofs.closures.closures_of.Goals as goal
 
 pub loop-at-preserved : goal.loop-at-preserved
-loop-at-preserved c = (each_more c.loop-at.invariant.0 c.leading.ensures c.in_ok-push.ensures.items, each_more c.loop-at.invariant.1 c.anchors_in.ensures c.in_ok-push-2.ensures.items)
+loop-at-preserved c = each_more c.loop-at.invariant c.leading.ensures c.in_ok-push.ensures.items
 
 pub returns-clause-ok : goal.returns-clause-ok
 returns-clause-ok c =
@@ -12,9 +12,8 @@ returns-clause-ok c =
     let value = c.as_slice-begun.ensures.value in
     record {
       base = c.in_ok-base.ensures.ok;
-      front = c.in_ok-front.ensures.ok;
-      leads = rw value at (each_to c.loop-at.invariant.0 all);
+      leads = rw value at (each_to c.loop-at.invariant all);
       inside = c.in_ok-inside.ensures.ok;
       hops = rw value at c.in_ok-hops.ensures.ok;
-      anchors = each_to c.loop-at.invariant.1 all;
+      plain = c.has_anchors.ensures;
     }

@@ -1,7 +1,7 @@
-use Rattle.std.proofs.Common.{rules, ◌≡◌, length, refl, sym, ◌∙◌, arith, eqb-true}
+use Rattle.std.proofs.Common.{rules, ◌≡◌, length, refl, ◌∙◌, arith}
 use Rattle.scan_core.proofs.{
   Shiftings.{inner, final},
-  Searchings.{entered_here, front_is, search_more, search_found, search_ends, search_fits},
+  Searchings.{entered_here, search_more, search_found, search_ends, search_fits},
 }
 use Rattle.scan_core.proofs.search.search.Goals as goal
 
@@ -14,13 +14,6 @@ pub overflow_add-steps-2 : goal.overflow_add-steps-2
 overflow_add-steps-2 c =
     let f = search_fits _ c.loop-place.invariant c.positions-2.ensures (search rules) (omega arith) in
     search (rules, f)
-
-pub spread-requires-clause-front : goal.spread-requires-clause-front
-spread-requires-clause-front c = λ t. front_is c.loop-place.invariant c.requires.closures.base (eqb-true _ 0 t)
-
-pub spread-requires-2-clause-front : goal.spread-requires-2-clause-front
-spread-requires-2-clause-front c = λ t. let z = eqb-true _ 0 (sym c.is_empty.ensures ∙ t) in
-    front_is c.loop-place.invariant c.requires.closures.base (omega arith)
 
 pub returns-then-has-clause-outcome : goal.returns-then-has-clause-outcome
 returns-then-has-clause-outcome c = search_found _ c.loop-place.invariant c.positions.ensures

@@ -1,7 +1,5 @@
 use Rattle.std.proofs.Common.{Some, ◌∙◌, ap, length}
-use Rattle.watch_core.specs.{Snapshot.latest, Watched.file_seen}
-use Rattle.mem_core.{specs.MemWatchState.{seen, world_at}, proofs.MemWatchLemmas.tells_now}
-use Rattle.std.specs.Option.{option_map}
+use Rattle.mem_core.{specs.MemWatchState.{world_at}, proofs.MemWatchLemmas.tells_now}
 use Rattle.mem_core.proofs.mem_watch.MemWatch.seen_of.Goals as goal
 
 pub returns-in-Some-clause-tells : goal.returns-in-Some-clause-tells

@@ -1,6 +1,6 @@
-use Rattle.std.proofs.Common.{refl, false, ◌≡◌, ◌∙◌, ℕ, ap}
-use Rattle.watch_core.specs.Snapshot.{Snapshot, forgiving}
-use Rattle.mem_core.specs.{MemWatchState.shows, inner.Leading.forgiven}
+use Rattle.std.proofs.Common.{false}
+use Rattle.watch_core.specs.Snapshot.{forgiving}
+use Rattle.mem_core.specs.{inner.Leading.forgiven}
 use Rattle.mem_core.proofs.MemWatchLemmas.{forgives_all, none_seen, shows_now}
 use Rattle.mem_core.proofs.mem_watch.MemWatchWatch.forgive.Goals as goal
 

@@ -1,4 +1,4 @@
-use Rattle.std.proofs.Common.{◌∙◌, ap, refl, sym, is_some}
+use Rattle.std.proofs.Common.{◌∙◌, ap, sym, is_some}
 use Rattle.mem_core.proofs.MemWatchLemmas.{finds_any, leads_there, may_break}
 use Rattle.mem_core.proofs.mem_watch.MemWatchWatch.look.Goals as goal
 

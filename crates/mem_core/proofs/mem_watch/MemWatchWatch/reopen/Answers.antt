@@ -1,4 +1,4 @@
-use Rattle.std.proofs.Common.{◌∙◌, ap, refl, sym, is_some}
+use Rattle.std.proofs.Common.{◌∙◌, ap, sym, is_some}
 use Rattle.mem_core.{specs.MemWatchState.MemWatchState, proofs.MemWatchLemmas.{may_break, reopens_now}}
 use Rattle.watch_core.proofs.NameLemmas.{names_within}
 use Rattle.mem_core.proofs.mem_watch.MemWatchWatch.reopen.Goals as goal
