@@ -22,14 +22,13 @@ use Rattle.words_core.specs.{
     division.Dealing.Dealing,
   },
   Choice.{asking, choice_in, seen},
-  Table.{OptionRow, begins_one, beginning, full_or, is_among, only_one, option_called, option_named},
+  Table.{OptionRow, begins_one, beginning, full_or, is_among, only_one, option_called, option_lettered, option_named},
   Division.{all_in, division_in, numbers_in},
   SplitWords.AreFew,
-  Given.{Given, bare, joined},
-  Lettered.{counted_with, is_lettered, is_start, is_unit, letter_named, switched, switches, times, unit_in},
-  Lettered.with_letters,
-  Spelling.{Meaning, before, said, valued, lettered, option_lettered, cluster, after_equals, named, dashed, foremost},
-  Spelling.{given_at, mixed, meaning_of},
+  Given.bare,
+  Lettered.{is_lettered, is_start, others, times, unit_in},
+  Spelling.{Meaning, before, said, valued, lettered, cluster, after_equals, named, dashed, foremost, counted_with},
+  Spelling.{mixed, meaning_of, with_letters},
   Value.{followed_in, on_broken_in},
 }
 use Rattle.words_core.proofs.SpellingLemmas.{either}
@@ -148,23 +147,6 @@ choice-sound (kind.OnBroken calling) text = as-sound (λ on_broken. choice.OnBro
 choice-sound which text = search rules
 
 module _ (rows : List OptionRow) (place : ℕ) where
-  -- A number with letters gives options within their limits.
-
-  abbrev GivesSound : Given → Type 0
-  GivesSound given = (AreSafe rows → AreSound given.options) × (given.operands ≡ [])
-
-  switched-gives : (rest : Given) (option : Option Takes) → (AreSafe rows → IfSome option IsSafe) → GivesSound rest
-      → GivesSound (joined (switched place option) rest)
-  switched-gives rest (Some (takes.Nothing choice)) safe is = (λ rows. (safe rows, is.0 rows), is.1)
-  switched-gives rest (Some (takes.Optional choice kind)) safe is = (λ rows. (safe rows, is.0 rows), is.1)
-  switched-gives rest other safe is = is
-
-  switches-give : (letters : List ℕ) → GivesSound (switches rows place letters)
-  switches-give [] = (λ _. tt, refl)
-  switches-give (letter ∷ letters) =
-      either GivesSound (is_unit letter) _ _ (switches-give letters)
-      (switched-gives _ (letter_named rows letter) (found-safe rows (45 ∷ letter ∷ [])) (switches-give letters))
-
   -- A word of options gives no operand.
 
   module _ (word : List ℕ) where
@@ -207,19 +189,18 @@ module _ (rows : List OptionRow) (place : ℕ) where
     named-gives (Ok (takes.Nothing choice)) None safe = (λ rows. (safe rows, tt), inl refl, tt)
     named-gives (Ok (takes.Optional choice kind)) None safe = (λ rows. (safe rows, tt), inl refl, tt)
 
-    counted-gives : (unit : Measured) (options : Given) (count : Result Count UsageKind) → GivesSound options
-        → GivesItself rows place word (given_at place (counted_with unit place options count))
-    counted-gives unit options (Ok count) is = (λ safe. (tt, is.0 safe), inl is.1, tt)
-    counted-gives unit options (Err fault) is = omega arith
+    counted-gives : (unit : Measured) (count : Result Count UsageKind) (more : Result Meaning Fault)
+        → GivesItself rows place word more → GivesItself rows place word (counted_with place unit count more)
+    counted-gives unit (Ok count) more is = bare-gives (choice.Amount unit count) more (λ _. tt) is
+    counted-gives unit (Err fault) more is = omega arith
 
-    numbered-gives : (sign : Sign) (text : List ℕ)
-        → GivesItself rows place word (given_at place (with_letters rows sign place text))
-    numbered-gives sign text = counted-gives (unit_in (after_digits text)).0 _
-        (times sign (leading_digits text) (unit_in (after_digits text)).1) (switches-give (after_digits text))
+    numbered-gives : (sign : Sign) (text : List ℕ) → GivesItself rows place word (with_letters rows sign place text)
+    numbered-gives sign text = counted-gives _ (times sign (leading_digits text) (unit_in (after_digits text)).1) _
+        (cluster-gives (others (after_digits text)))
 
-    dashed-gives : (rest : List ℕ) → GivesItself rows place word (dashed rows place rest)
+    dashed-gives : (rest : List ℕ) → GivesItself rows place word (dashed rows place word rest)
     dashed-gives [] = (λ _. tt, inl refl, tt)
-    dashed-gives (byte ∷ rest) = named-gives _ (after_equals (45 ∷ 45 ∷ byte ∷ rest)) (called-safe rows _)
+    dashed-gives (byte ∷ rest) = named-gives _ (after_equals word) (called-safe rows _)
 
   mixed-gives : (word : List ℕ) → GivesItself rows place word (mixed rows place word)
   mixed-gives [] = (λ _. tt, inr refl, tt)

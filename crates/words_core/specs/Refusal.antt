@@ -13,8 +13,8 @@ use Rattle.ports_core.specs.{
 }
 use Rattle.words_core.specs.{
   Given.Given,
-  Spelling.{given_by, option_lettered},
-  Table.{OptionRow, ToolRow, row_named, tools},
+  Spelling.given_by,
+  Table.{OptionRow, ToolRow, option_lettered, row_named, tools},
 }
 
 abbrev pub word_at : List (List ℕ) → ℕ → List ℕ
