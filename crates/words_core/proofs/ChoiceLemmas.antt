@@ -82,7 +82,9 @@ retry-sets asked choice = refl
 pub tail_ends : (asked : TailSettings) (options : List Chosen)
     → (asked_by tail_by asked options).ends ≡ asked_by ends_by asked.ends options
 tail_ends asked [] = refl
-tail_ends asked (option ∷ options) = tail_ends (tail_by asked option.choice) options ∙ ap (λ ends. asked_by ends_by ends options) (tail-sets asked asked option.choice).4
+tail_ends asked (option ∷ options) =
+    tail_ends (tail_by asked option.choice) options ∙ ap (λ ends. asked_by ends_by ends options)
+    (tail-sets asked asked option.choice).4
 
 pub split-sets : (asked other : SplitAsked) (choice : Choice)
     → ((split_by asked choice).alphabet ≡ (if spells choice then (split_by other choice).alphabet else asked.alphabet))
@@ -141,7 +143,12 @@ module _ (before after : List Chosen) (word : ℕ) where
       → work_for calling which (record { options = with_it; operands = operands })
       ≡ work_for calling which (record { options = before ++ after; operands = operands })
   no_work calling tool.Head operands = rw (left_out ends_by (ten_lines (names_asked operands)) (λ asked. refl)) refl
-  no_work calling tool.Tail operands = rw (left_out tail_by (unfollowed (ten_lines (names_asked operands))) (λ asked. refl), left_out retry_by false (λ asked. refl)) refl
+  no_work calling tool.Tail operands =
+      rw (
+        left_out tail_by (unfollowed (ten_lines (names_asked operands))) (λ asked. refl),
+        left_out retry_by false
+            (λ asked. refl),
+      ) refl
   no_work calling tool.Split operands = rw (no_way, left_out delim_by 10 (λ asked. refl), left_out split_by no_options (λ asked. refl)) refl
   no_work calling tool.Csplit operands = rw (left_out csplit_by plain (λ asked. refl)) refl
   no_work calling tool.Tee operands = rw (left_out tee_by (fresh calling (texts_of operands)) (λ asked. refl)) refl
@@ -172,7 +179,12 @@ pub given_anywhere : {A C : Type 0} (by : A → Choice → A) (part : A → C) (
     → (asked : A) (options : List Chosen)
     → part (asked_by by asked options) ≡ (if has test options then fixed else part asked)
 given_anywhere by part test fixed sets asked [] = refl
-given_anywhere by part test fixed sets asked (option ∷ options) = rw (given_anywhere by part test fixed sets (by asked option.choice) options, sets asked option.choice, either_fixed (test option.choice) (has test options) fixed (part asked))
+given_anywhere by part test fixed sets asked (option ∷ options) =
+    rw (
+      given_anywhere by part test fixed sets (by asked option.choice) options,
+      sets asked option.choice,
+      either_fixed (test option.choice) (has test options) fixed (part asked),
+    )
 
 pub so_where_given : {A : Type 0} (by : A → Choice → A) (part : A → Bool) (test : Choice → Bool)
     → ((asked : A) (choice : Choice) → part (by asked choice) ≡ (if test choice then true else part asked))

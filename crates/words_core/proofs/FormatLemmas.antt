@@ -194,7 +194,8 @@ is_percent byte = byte == 37
 
 plain_other : (byte : ℕ) (text : List ℕ) → is_percent byte ≡ false → plain_text (byte ∷ text) ≡ byte ∷ plain_text text
 plain_other byte [] other = refl
-plain_other byte (next ∷ rest) other = ap (λ percent. cond (percent && is_percent next) (37 ∷ plain_text rest) (byte ∷ plain_text (next ∷ rest))) other
+plain_other byte (next ∷ rest) other =
+    ap (λ percent. cond (percent && is_percent next) (37 ∷ plain_text rest) (byte ∷ plain_text (next ∷ rest))) other
 
 plain_percent : (byte : ℕ) (text : List ℕ) → is_percent byte ≡ true
     → plain_text (byte ∷ text) ≡ 37 ∷ plain_text (without_percent text)

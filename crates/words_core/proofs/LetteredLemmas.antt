@@ -1,14 +1,14 @@
 -- Lemmas on a first word that is a number with letters: a hyphen or a `+`, digits and letters.
 use Rattle.std.proofs.{
-  lemmas.{Grind.common_steps, Bool.{and_parts, Decides.nat_tests}, List.Elements.All-head},
+  lemmas.{Grind.common_steps, Bool.{and_parts}, List.Elements.All-head},
   Math.Seq.{drop-append_seam, take-append_seam},
   Common.{◌≡◌, refl, ℕ, ◌≤◌, ◌==◌, ◌||◌, Bool, true, false, arith, List, [], ◌∷◌, ◌++◌},
-  Common.{length, append_assoc, Option, Some, None, Result, Ok, Err, sym, ap, ◌∙◌, rules, All},
+  Common.{length, append_assoc, Option, Some, None, Result, Ok, Err, sym, ◌∙◌, rules, All},
 }
 use Rattle.std.specs.{Char.is_ascii_digit, List.{list_all, prefix_len}}
 use Rattle.seg_core.specs.{
   declared.{count.{Count.Count, Sign.Sign}, unit.Unit.Unit as Measured},
-  Count.{after_digits, is_number, leading_digits},
+  Count.{after_digits, leading_digits},
 }
 use Rattle.ports_core.specs.declared.{
   calling.Calling.{Calling, TheVariants.OwnName},

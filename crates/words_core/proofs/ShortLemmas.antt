@@ -1,5 +1,5 @@
 -- Lemmas on values that may be cut short by a tool's own name: what `cutters` takes means the same there.
-use Rattle.std.proofs.Common.{◌≡◌, refl, ap, ◌∙◌, arith, suc, ℕ, ◌+◌, ◌==◌, ◌&&◌, Bool, true, false, List, [], ◌∷◌, ◌++◌, map}
+use Rattle.std.proofs.Common.{◌≡◌, refl, ap, ◌∙◌, arith, suc, ℕ, ◌+◌, ◌==◌, ◌&&◌, Bool, true, false, List, [], ◌∷◌, map, rules}
 use Rattle.std.proofs.Common.{if◌then◌else◌, Option, Some, None, option_map, Result, Ok, Err, ok_or, ◌⊎◌, inl, inr, ◌↔◌}
 use Rattle.std.specs.{List.{before_first, list_all}, Option.{option_or, unwrap_or}, Prelude.nat_lt}
 use Rattle.seg_core.specs.{Count.{after_digits, is_number}}
@@ -10,13 +10,13 @@ use Rattle.ports_core.specs.declared.{
 use Rattle.words_core.specs.{
   declared.{
     choice.{Choice.Choice, Kind.Kind},
-    spelling.State.{State, TheVariants.{Awaiting, Ended, First, OnlyOperands, Reading}},
+    spelling.State.{State, TheVariants.{First, Reading}},
     table.{Letters.{Letters, TheVariants.{Never, OfHead, OfTail}}, Takes.Takes},
   },
   Choice.{asking, choice_in},
-  Given.{Given, bare},
+  Given.{Given},
   Lettered.{is_known, is_lettered, is_start, others, switched},
-  Spelling.{Meaning, after_equals, before, cluster, dashed, foremost, given_before, is_equals, lettered, meaning_of},
+  Spelling.{Meaning, after_equals, cluster, dashed, foremost, given_before, is_equals, lettered, meaning_of},
   Spelling.{mixed, named, onward, said, spelled},
   Table.{OptionRow, beginning, begins_one, full_or, is_among, only_one, option_called, option_lettered, option_named},
   Laws.{AreCutShort, HasShortValue, IsCutShort},
@@ -31,16 +31,14 @@ use Rattle.words_core.specs.declared.table.Takes.TheVariants as takes
 
 only_is : {A : Type 0} (found : List (List ℕ × A)) (value : A)
     → (only_value found ≡ Some value) ↔ ((name : List ℕ) × (found ≡ (name, value) ∷ []))
-only_is [] value = (λ is. absurd (cc), λ is. ap only_value is.1)
 only_is (one ∷ []) value = (
   λ is. (one.0, ap (λ said. (one.0, unwrap_or said one.1) ∷ []) is),
   λ is. ap only_value is.1,
 )
-only_is (one ∷ other ∷ found) value = (λ is. absurd (cc), λ is. ap only_value is.1)
+only_is found value = search rules
 
 full_alone : {A : Type 0} (found : Option A) → option_or found None ≡ found
-full_alone (Some value) = refl
-full_alone None = refl
+full_alone found = search rules
 
 pub are_cut_short : {A : Type 0} (values : List (List ℕ × A)) → AreCutShort values
 are_cut_short values = record {
@@ -68,21 +66,17 @@ alike : {A : Type 0} (make : A → Choice) (bad : UsageKind) (found short : Opti
     → (asking make (ok_or (option_or found short) bad) ≡ asking make (ok_or (option_or found None) bad))
     ⊎ ((asking make (ok_or (option_or found None) bad) ≡ Err bad)
     × ((found ≡ None) × (value : A) × (option_or found short ≡ Some value)))
-alike make bad (Some value) short = inl refl
-alike make bad None (Some value) = inr (refl, (refl, value, refl))
-alike make bad None None = inl refl
+alike make bad found short = search rules
 
 pub follow_alike : (kind : Kind) (text : List ℕ) → Alike follow_values BadFollow own_follow kind text
 follow_alike (kind.Follow Cutters) text = alike (λ followed. choice.Follow followed) BadFollow
     (value_in follow_values text) (beginning_in OwnName follow_values text)
-follow_alike (kind.Follow OwnName) text = inl refl
-follow_alike other text = inl refl
+follow_alike other text = search rules
 
 pub on_broken_alike : (kind : Kind) (text : List ℕ) → Alike on_broken_values BadMode own_on_broken kind text
 on_broken_alike (kind.OnBroken Cutters) text = alike (λ on_broken. choice.OnBroken on_broken) BadMode
     (value_in on_broken_values text) (beginning_in OwnName on_broken_values text)
-on_broken_alike (kind.OnBroken OwnName) text = inl refl
-on_broken_alike other text = inl refl
+on_broken_alike other text = search rules
 
 -- what is true of both pairs is true of the pair that a test picks
 both_ways : {A : Type 0} (P : A → A → Type 0) (test : Bool) {own one other rest : A} → P own one → P other rest
@@ -126,10 +120,7 @@ module _ {A : Type 0} (values : List (List ℕ × A)) (own : Kind → Kind) (bad
 
   full_so : (found : Option Takes) (begun : List OptionRow)
       → full_or (option_map own_takes found) (only_one (own_rows begun)) ≡ own_found (full_or found (only_one begun))
-  full_so (Some found) begun = refl
-  full_so None [] = refl
-  full_so None (row ∷ []) = refl
-  full_so None (row ∷ other ∷ rows) = refl
+  full_so found begun = search rules
 
   module _ (alike : (kind : Kind) (text : List ℕ) → Alike values bad own kind text) (rows : List OptionRow) where
     -- letters: to them no value belongs that may be missing
@@ -141,9 +132,7 @@ module _ {A : Type 0} (values : List (List ℕ × A)) (own : Kind → Kind) (bad
 
     lettered_so : (place : ℕ) (rest : List ℕ) (others : Result Meaning Fault) (option : Option Takes)
         → lettered place rest others (option_map own_takes option) ≡ lettered place rest others option
-    lettered_so place rest others (Some (takes.Optional choice kind)) = refl
-    lettered_so place rest others (Some other) = refl
-    lettered_so place rest others None = refl
+    lettered_so place rest others option = search rules
 
     cluster_so : (place : ℕ) (letters : List ℕ) → cluster (own_rows rows) place letters ≡ cluster rows place letters
     cluster_so place [] = refl
@@ -151,9 +140,7 @@ module _ {A : Type 0} (values : List (List ℕ × A)) (own : Kind → Kind) (bad
         (lettered_so place rest (cluster rows place rest) (option_lettered rows letter))
 
     switched_so : (option : Option Takes) → switched (option_map own_takes option) ≡ switched option
-    switched_so (Some (takes.Optional choice kind)) = refl
-    switched_so (Some other) = refl
-    switched_so None = refl
+    switched_so option = search rules
 
     known_so : (letters : List ℕ) → list_all (is_known (own_rows rows)) letters ≡ list_all (is_known rows) letters
     known_so [] = refl
@@ -162,23 +149,18 @@ module _ {A : Type 0} (values : List (List ℕ × A)) (own : Kind → Kind) (bad
     start_so : (calling : Calling) (letters : Letters) (text : List ℕ)
         → is_start calling (own_rows rows) letters text ≡ is_start calling rows letters text
     start_so OwnName OfTail text = rw (known_so (after_digits text)) refl
-    start_so OwnName Never text = refl
-    start_so OwnName OfHead text = refl
-    start_so Cutters letters text = refl
+    start_so calling letters text = search rules
 
     -- one word, and all
 
     long_so : (place : ℕ) (word : List ℕ) (words : List (List ℕ)) (option : Result Takes UsageKind)
         (value : Option (List ℕ)) → after_equals word ≡ value
         → SpellAlike place (word ∷ words) (named place (own_found option) value) (named place option value)
-    long_so place word words (Err fault) value is = inl refl
     long_so place word words (Ok (takes.Optional choice kind)) (Some text) is = elim (alike kind text) [
       | inl same ↦ inl (ap (said place place) same)
       | inr (fault, short) ↦ inr (place, 0, omega arith, ap (said place place) fault, (text, is, short))
     ]
-    long_so place word words (Ok (takes.Optional choice kind)) None is = inl refl
-    long_so place word words (Ok other) (Some text) is = inl refl
-    long_so place word words (Ok other) None is = inl refl
+    long_so place word words option value is = search rules
 
     dashed_so : (place : ℕ) (word rest : List ℕ) (words : List (List ℕ))
         → SpellAlike place (word ∷ words) (dashed (own_rows rows) place word rest) (dashed rows place word rest)
@@ -208,9 +190,7 @@ module _ {A : Type 0} (values : List (List ℕ × A)) (own : Kind → Kind) (bad
         (both_ways Both (byte == 45 && is_lettered rows letters text) (inl refl)
         (both_ways Both (byte == 43 && is_start calling rows letters text) (inl refl) (mixed_so place (byte ∷ text) words))))
     meaning_so Reading place word words = mixed_so place word words
-    meaning_so (Awaiting kind option) place word words = inl refl
-    meaning_so OnlyOperands place word words = inl refl
-    meaning_so Ended place word words = inl refl
+    meaning_so other place word words = search rules
 
     onward_so : (place : ℕ) (word : List ℕ) (words : List (List ℕ)) {own_rest rest : State → Result Given Fault}
         (meant : Result Meaning Fault) → ((state : State) → SpellAlike (place + 1) words (own_rest state) (rest state))

@@ -42,4 +42,5 @@ pub told_whatever_follows : (first more : List (List ℕ)) (rows : List OptionRo
     → spelled rows (first ++ more) place state ≡ Err (Usage kind word)
 told_whatever_follows [] more rows place state word other is = grind (arith, common_steps)
 told_whatever_follows (front ∷ first) more rows place state {kind} word other is =
-    still_told first more rows place (meaning_of rows state place front) kind word (λ next. told_whatever_follows first more rows (place + 1) next word other) is
+    still_told first more rows place (meaning_of rows state place front) kind word
+    (λ next. told_whatever_follows first more rows (place + 1) next word other) is

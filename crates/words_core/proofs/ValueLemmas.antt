@@ -99,7 +99,8 @@ pub value_after_equals : (rows : List OptionRow) (name : List ℕ) (takes : Take
     (choice : Choice) (words : List (List ℕ)) (place : ℕ)
     → IsLong rows name (Ok takes) → kind_of takes ≡ Some kind → choice_in kind value ≡ Ok choice
     → Gives rows ((45 ∷ 45 ∷ name ++ 61 ∷ value) ∷ words) place choice (spelled rows words (place + 1) Reading)
-value_after_equals rows name takes kind value choice words place is takes_one reads = rw (long_equals name value place is, with_value takes place value takes_one, reads)
+value_after_equals rows name takes kind value choice words place is takes_one reads =
+    rw (long_equals name value place is, with_value takes place value takes_one, reads)
 
 pub value_after_name : (rows : List OptionRow) (name : List ℕ) (kind : Kind) (value : List ℕ) (choice : Choice)
     (words : List (List ℕ)) (place : ℕ)

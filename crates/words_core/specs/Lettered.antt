@@ -2,7 +2,7 @@
 -- `+5` of `tail`. These forms are GNU's, from before POSIX. A text here is what follows the hyphen or the `+`: digits, and
 -- then letters. One letter may stand for a unit, and the others name options.
 use Rattle.std.specs.{
-  Prelude.{ℕ, ◌*◌, ◌^◌, ◌==◌, ◌&&◌, ◌||◌, not, nat_lt, Bool, true, false, List, [], ◌∷◌, length, filter, codes, is_some},
+  Prelude.{ℕ, ◌*◌, ◌^◌, ◌==◌, ◌&&◌, ◌||◌, not, nat_lt, Bool, false, List, [], ◌∷◌, length, filter, codes, is_some},
   Prelude.{Option, Some, None, Result, if◌then◌else◌},
   List.list_all,
   Option.unwrap_or,

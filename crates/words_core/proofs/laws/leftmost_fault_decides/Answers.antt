@@ -33,7 +33,9 @@ module _ (rows : List OptionRow) (kind : UsageKind) (word : ℕ) where
       (meant : Result Meaning Fault) → least ≤ place → GivesItself rows place front meant
       → ((state : State) → Awaits least state → rest state ≡ Err (Usage kind word) → least ≤ word)
       → onward rest meant ≡ Err (Usage kind word) → least ≤ word
-  goes_after least {place} front rest (Ok meaning) within stands later is = later meaning.next (awaits_later least place meaning.next within stands.2) (of_more meaning.given (rest meaning.next) is)
+  goes_after least {place} front rest (Ok meaning) within stands later is =
+      later meaning.next (awaits_later least place meaning.next within stands.2)
+      (of_more meaning.given (rest meaning.next) is)
   goes_after least front rest (Err (Usage other at)) within stands later is = let same : at ≡ word = cc in omega arith
   goes_after least front rest (Err fault) within stands later is = absurd (cc)
 
@@ -63,7 +65,8 @@ module _ (rows : List OptionRow) (kind : UsageKind) (word : ℕ) where
   stands_later : (first more : List (List ℕ)) (place : ℕ) (state : State) (given : Given)
       → spelled rows first place state ≡ Ok given → spelled rows (first ++ more) place state ≡ Err (Usage kind word)
       → place + length first ≤ word
-  stands_later [] more place state given well is = let least = fault_after more place place state (omega arith) (well_end state place well) is in omega arith
+  stands_later [] more place state given well is =
+      let least = fault_after more place place state (omega arith) (well_end state place well) is in omega arith
   stands_later (front ∷ first) more place state given well is =
       let least = later_by first more place (meaning_of rows state place front)
       (λ next rest. stands_later first more (place + 1) next rest) well is in omega arith

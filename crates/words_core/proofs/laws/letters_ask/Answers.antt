@@ -1,21 +1,25 @@
 use Rattle.std.{
   proofs.lemmas.{
     Bool.{and_parts, lt-ltb, Decides.nat_tests},
-    List.{take-append-drop, Elements.{All-nil, All-weaker}, Sums.{AllPass-from_list_all, list_all-from_AllPass, take_while-cons}},
+    List.{
+      take-append-drop,
+      Elements.{All-weaker},
+      Sums.{AllPass-from_list_all, list_all-from_AllPass, take_while-cons},
+    },
   },
-  proofs.Common.{◌≡◌, ◌≢◌, ◌⊎◌, ◌&&◌, ◌||◌, inl, inr, refl, sym, arith, rules, ℕ, Bool, true, false, is_some, All},
+  proofs.Common.{◌≡◌, ◌≢◌, ◌⊎◌, ◌||◌, inl, inr, refl, sym, arith, rules, ℕ, Bool, true, false, is_some},
   proofs.Math.Bool.or-true,
-  proofs.Common.{◌↔◌, if◌then◌else◌, List, [], ◌∷◌, length, Option, Some, None},
+  proofs.Common.{◌↔◌, List, [], ◌∷◌, length, Option, Some},
   specs.{Prelude.{filter, nat_lt}, Char.is_ascii_digit, List.{list_all, prefix_len}},
 }
 use Rattle.seg_core.specs.Count.{after_digits, leading_digits}
 use Rattle.ports_core.specs.declared.calling.Calling.{Calling, TheVariants.OwnName}
 use Rattle.words_core.{
-  specs.declared.{choice.Choice.Choice, table.{Letters.TheVariants.OfHead, Takes.Takes}},
-  specs.Laws.{HasLetters, IsNumberWithLetters, IsParted, IsSwitch},
-  specs.Lettered.{are_known, has_digits, is_known, is_lettered, is_unit, switched},
+  specs.declared.{choice.Choice.Choice, table.{Takes.Takes}},
+  specs.Laws.{HasLetters, IsNumberWithLetters, IsSwitch},
+  specs.Lettered.{are_known, is_known, is_unit, switched},
   specs.Table.{OptionRow, head_table, option_lettered, tail_table},
-  proofs.LetteredLemmas.{as_parts, parts},
+  proofs.LetteredLemmas.{as_parts},
 }
 use Rattle.words_core.specs.declared.table.Takes.TheVariants as takes
 use Rattle.words_core.proofs.laws.letters_ask.Goals as goal
@@ -105,7 +109,8 @@ module _ (rows : List OptionRow) where
 
   are_known_so : {text digits letters : List ℕ} → HasLetters rows text digits letters → are_known rows letters ≡ true
   are_known_so {letters = letters} has =
-      let all = list_all-from_AllPass (is_known rows) letters (All-weaker IsKnown (λ letter. is_known rows letter ≡ true) known_so letters has.known) in
+      let all = list_all-from_AllPass (is_known rows) letters (All-weaker IsKnown
+      (λ letter. is_known rows letter ≡ true) known_so letters has.known) in
       rw all (lt-ltb (length (filter is_unit letters)) 2 (omega (arith, has.few)))
 
 safe_head : (letter : ℕ) → is_some (switched (option_lettered head_table letter)) ≡ true → IsSafe head_table letter

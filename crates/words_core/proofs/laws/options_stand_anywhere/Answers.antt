@@ -23,5 +23,6 @@ returns c = record {
   tell = so_where_given split_by (λ asked. asked.verbose) tells_of_files (λ a c. (split-sets a a c).4) no_options refl;
   zero = λ names. given_anywhere ends_by (λ asked. asked.delim) ends_with_zero 0 (λ a c. (ends-sets a a c).2) (ten_lines names);
   append = λ calling given.
-      rw (given_anywhere tee_by (λ asked. asked.mode) appends Append (λ a c. (tee-sets a a c).0) (fresh calling (texts_of given.operands)) given.options) (append_is (has appends given.options));
+      rw (given_anywhere tee_by (λ asked. asked.mode) appends Append (λ a c. (tee-sets a a c).0)
+      (fresh calling (texts_of given.operands)) given.options) (append_is (has appends given.options));
 }

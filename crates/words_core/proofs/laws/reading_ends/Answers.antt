@@ -42,7 +42,12 @@ module _ (rows : List OptionRow) where
   leaves first place (Err fault) rest = inl (fault, λ more. refl)
   leaves first place (Ok meaning) rest = elim (rest meaning.next) [
     | inl (fault, is) ↦ inl (fault, λ more. ap (given_before meaning.given) (is more))
-    | inr (given, next, is) ↦ inr (joined meaning.given given, next, λ more. ap (given_before meaning.given) (is more) ∙ before_both meaning.given given (spelled rows more (place + 1 + length first) next))
+    | inr (given, next, is) ↦ inr (
+      joined meaning.given given,
+      next,
+      λ more. ap (given_before meaning.given)
+          (is more) ∙ before_both meaning.given given (spelled rows more (place + 1 + length first) next),
+    )
   ]
 
   leave_the_rest : (first : List (List ℕ)) (place : ℕ) (state : State) → LeaveTheRest rows first place state

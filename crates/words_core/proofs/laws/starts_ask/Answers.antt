@@ -1,9 +1,6 @@
 use Rattle.std.proofs.Common.{◌≡◌, ◌≤◌, ◌-◌, ◌^◌, ℕ, List, false, true, append_assoc, refl, arith, ◌*◌, [], ◌∷◌, ◌++◌}
 use Rattle.std.specs.Char.{is_ascii_digit}
-use Rattle.seg_core.specs.{
-  declared.{count.Sign.TheVariants.{Plain, Plus}, unit.Unit.Unit as Measured},
-  Count.{is_number, value_of},
-}
+use Rattle.seg_core.specs.{declared.{count.Sign.TheVariants.{Plain, Plus}}, Count.{is_number, value_of}}
 use Rattle.ports_core.specs.declared.calling.Calling.{Calling, TheVariants.{Cutters, OwnName}}
 use Rattle.words_core.{
   specs.{
@@ -32,7 +29,11 @@ letters_ask letter digits {amount} alone followed other number is most =
     let end : (digits ++ letter ∷ []) ++ 102 ∷ [] ≡ digits ++ letter ∷ 102 ∷ [] = append_assoc digits (letter ∷ []) (102 ∷ []) in (
       λ calling. (
         rw (letters_last calling digits (letter ∷ []) amount number (alone calling) is most (no_number digits letter [] other)) refl,
-        rw (end, letters_last calling digits (letter ∷ 102 ∷ []) amount number (followed calling) is most (no_number digits letter (102 ∷ []) other)) refl,
+        rw (
+          end,
+          letters_last calling digits (letter ∷ 102 ∷ []) amount number (followed calling) is most
+              (no_number digits letter (102 ∷ []) other),
+        ) refl,
       ),
       (
         rw (letters_start OwnName digits (letter ∷ []) amount number (alone OwnName) is most refl) refl,
