@@ -60,8 +60,7 @@ pub ends-sets : (asked other : EndsAsked) (choice : Choice)
     → (amount_of (ends_by asked choice) ≡ (if counts choice then amount_of (ends_by other choice) else amount_of asked))
     × ((ends_by asked choice).headers ≡ (if heads choice then (ends_by other choice).headers else asked.headers))
     × ((ends_by asked choice).delim ≡ (if ends_with_zero choice then 0 else asked.delim))
-ends-sets asked other (choice.Amount unit count) = (refl, refl, refl)
-ends-sets asked other choice = (refl, refl, refl)
+ends-sets asked other choice = search rules
 
 pub tail-sets : (asked other : TailSettings) (choice : Choice)
     → ((tail_by asked choice).followed ≡
@@ -71,12 +70,10 @@ pub tail-sets : (asked other : TailSettings) (choice : Choice)
     × ((tail_by asked choice).process
     ≡ (if names_process choice then (tail_by other choice).process else asked.process))
     × ((tail_by asked choice).ends ≡ ends_by asked.ends choice)
-tail-sets asked other (choice.Follow followed) = search rules
 tail-sets asked other choice = search rules
 
 pub retry-sets : (asked : Bool) (choice : Choice) → retry_by asked choice ≡ (if retries choice then true else asked)
-retry-sets asked choice.Retry = refl
-retry-sets asked choice = refl
+retry-sets asked choice = search rules
 
 -- what `tail` writes of each input at first is set by the same options as for `head`
 pub tail_ends : (asked : TailSettings) (options : List Chosen)
@@ -93,13 +90,11 @@ pub split-sets : (asked other : SplitAsked) (choice : Choice)
     × ((split_by asked choice).elide ≡ (if elides_files choice then true else asked.elide))
     × ((split_by asked choice).verbose ≡ (if tells_of_files choice then true else asked.verbose))
     × ((split_by asked choice).from ≡ (if spells choice then (split_by other choice).from else asked.from))
-split-sets asked other (choice.Width width) = search rules
 split-sets asked other choice = search rules
 
 pub delim-sets : (asked other : ℕ) (choice : Choice)
     → delim_by asked choice ≡ (if separates choice then delim_by other choice else asked)
-delim-sets asked other (choice.Separator byte) = refl
-delim-sets asked other choice = refl
+delim-sets asked other choice = search rules
 
 pub csplit-sets : (asked other : CsplitOptions) (choice : Choice)
     → ((csplit_by asked choice).prefix.now
@@ -111,15 +106,13 @@ pub csplit-sets : (asked other : CsplitOptions) (choice : Choice)
     × ((csplit_by asked choice).quiet ≡ (if drops_sizes choice then true else asked.quiet))
     × ((csplit_by asked choice).elide ≡ (if elides_files choice then true else asked.elide))
     × ((csplit_by asked choice).suppress ≡ (if leaves_lines_out choice then true else asked.suppress))
-csplit-sets asked other (choice.Prefix prefix) = search rules
 csplit-sets asked other choice = search rules
 
 pub tee-sets : (asked other : TeeAsked) (choice : Choice)
     → ((tee_by asked choice).mode ≡ (if appends choice then mode.Append else asked.mode))
     × ((tee_by asked choice).on_broken
     ≡ (if says_on_broken choice then (tee_by other choice).on_broken else asked.on_broken))
-tee-sets asked other (choice.OnBroken on_broken) = (refl, refl)
-tee-sets asked other choice = (refl, refl)
+tee-sets asked other choice = search rules
 
 -- an option without effect may be left out
 module _ (before after : List Chosen) (word : ℕ) where
@@ -171,8 +164,7 @@ module _ (before after : List Chosen) (word : ℕ) where
 
 either_fixed : {A : Type 0} (one rest : Bool) (fixed other : A)
     → (if rest then fixed else (if one then fixed else other)) ≡ (if one || rest then fixed else other)
-either_fixed true true fixed other = refl
-either_fixed one rest fixed other = refl
+either_fixed one rest fixed other = search rules
 
 pub given_anywhere : {A C : Type 0} (by : A → Choice → A) (part : A → C) (test : Choice → Bool) (fixed : C)
     → ((asked : A) (choice : Choice) → part (by asked choice) ≡ (if test choice then fixed else part asked))
@@ -191,18 +183,15 @@ pub so_where_given : {A : Type 0} (by : A → Choice → A) (part : A → Bool) 
     → (asked : A) → part asked ≡ false → (options : List Chosen) → part (asked_by by asked options) ≡ has test options
 so_where_given by part test sets asked not options = given_anywhere by part test true sets asked options ∙ itself (has test options) not where
   itself : (is : Bool) {other : Bool} → other ≡ false → (if is then true else other) ≡ is
-  itself true not = refl
-  itself false not = not
+  itself is not = search rules
 
 pub append_is : (is : Bool) → ((if is then mode.Append else mode.Fresh) ≡ mode.Append) ↔ (is ≡ true)
-append_is true = (λ _. refl, λ _. refl)
-append_is false = search rules
+append_is is = search rules
 
 -- There is at most one way to split.
 
 pub few_ways : (delim : ℕ) (ways : List Chosen)
     → (IsOk (only_way delim ways) → length ways ≤ 1) × (length ways ≤ 1 → IsOk (only_way delim ways))
-few_ways delim (way ∷ second ∷ more) = search rules
 few_ways delim ways = search rules
 
 -- the ways among options, around an option that is a way
@@ -219,12 +208,10 @@ way_among delim front rest option cut is = absurd (cc)
 
 -- whether an option is a way doesn't depend on the byte that lines end with
 same_ways : (delim : ℕ) (choice : Choice) → is_some (way_in delim choice) ≡ is_some (way_in 10 choice)
-same_ways delim (choice.LinesEach size) = refl
-same_ways delim choice = refl
+same_ways delim choice = search rules
 
 the_way : (found : Option Way) (other way : Way) → is_some found ≡ true → way ≡ unwrap_or found other → found ≡ Some way
-the_way (Some found) other way some is = cc
-the_way None other way some is = absurd (cc)
+the_way found other way some is = search rules
 
 pub way_is : (before after : List Chosen) (option : Chosen) (way : Way) → is_way option ≡ true
     → way_of (before ++ option ∷ after) ≡ Ok way

@@ -55,9 +55,7 @@ adds_count rows sign place text unit counted {count} old mid new result which ma
 -- a letter of an option gives it, and then come the others
 pub switch_gives : (place : ℕ) (rest : List ℕ) (more : Result Meaning Fault) (option : Option Takes) {choice : Choice}
     → switched option ≡ Some choice → lettered place rest more option ≡ before (bare choice place) more
-switch_gives place rest more (Some (takes.Nothing choice)) is = cc
-switch_gives place rest more (Some (takes.Optional choice kind)) is = cc
-switch_gives place rest more other is = absurd (cc)
+switch_gives place rest more option is = search rules
 
 pub start_known : (calling : Calling) (rows : List OptionRow) (letters : Letters) (text : List ℕ)
     → is_start calling rows letters text ≡ true → are_known rows (after_digits text) ≡ true

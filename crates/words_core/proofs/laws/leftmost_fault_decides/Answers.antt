@@ -16,17 +16,14 @@ use Rattle.words_core.proofs.laws.leftmost_fault_decides.Goals as goal
 
 well_more : (given whole : Given) (meant : Result Given Fault) → given_before given meant ≡ Ok whole
     → (rest : Given) × (meant ≡ Ok rest)
-well_more given whole (Ok more) is = (more, refl)
-well_more given whole (Err fault) is = absurd (cc)
+well_more given whole meant is = search rules
 
 ends_after : (least : ℕ) (state : State) (kind : UsageKind) (word : ℕ) → Awaits least state
     → ended state ≡ Err (Usage kind word) → least ≤ word
-ends_after least (Awaiting awaited option) kind word awaits is = grind (arith, common_steps)
-ends_after least state kind word awaits is = absurd (cc)
+ends_after least state kind word awaits is = search rules
 
 awaits_later : (least place : ℕ) (state : State) → least ≤ place → Awaits place state → Awaits least state
-awaits_later least place (Awaiting kind option) within awaits = search rules
-awaits_later least place state within awaits = tt
+awaits_later least place state within awaits = search rules
 
 module _ (rows : List OptionRow) (kind : UsageKind) (word : ℕ) where
   goes_after : (least : ℕ) {place : ℕ} (front : List ℕ) (rest : State → Result Given Fault)
@@ -36,8 +33,7 @@ module _ (rows : List OptionRow) (kind : UsageKind) (word : ℕ) where
   goes_after least {place} front rest (Ok meaning) within stands later is =
       later meaning.next (awaits_later least place meaning.next within stands.2)
       (of_more meaning.given (rest meaning.next) is)
-  goes_after least front rest (Err (Usage other at)) within stands later is = let same : at ≡ word = cc in omega arith
-  goes_after least front rest (Err fault) within stands later is = absurd (cc)
+  goes_after least front rest (Err fault) within stands later is = search rules
 
   fault_after : (words : List (List ℕ)) (least place : ℕ) (state : State) → least ≤ place → Awaits least state
       → spelled rows words place state ≡ Err (Usage kind word) → least ≤ word
@@ -47,8 +43,7 @@ module _ (rows : List OptionRow) (kind : UsageKind) (word : ℕ) where
       (λ next awaited. fault_after words least (place + 1) next (omega arith) awaited) is
 
   well_end : (state : State) {given : Given} (least : ℕ) → ended state ≡ Ok given → Awaits least state
-  well_end (Awaiting awaited option) least is = absurd (cc)
-  well_end state least is = tt
+  well_end state least is = search rules
 
   later_by : (first more : List (List ℕ)) (place : ℕ) {given : Given} (meant : Result Meaning Fault)
       → ((state : State) (rest : Given) → spelled rows first (place + 1) state ≡ Ok rest

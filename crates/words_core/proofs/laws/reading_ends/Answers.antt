@@ -1,5 +1,5 @@
 use Rattle.std.proofs.{
-  Common.{◌≡◌, ℕ, ◌+◌, ◌⊎◌, List, [], ◌∷◌, ◌++◌, length, Result, Ok, Err, inl, inr, refl, sym, ap, ◌∙◌, arith},
+  Common.{◌≡◌, ℕ, ◌+◌, ◌⊎◌, List, [], ◌∷◌, ◌++◌, length, Result, Ok, Err, inl, inr, refl, rules, sym, ap, ◌∙◌, arith},
   Common.append_assoc,
   lemmas.Grind.common_steps,
 }
@@ -22,8 +22,7 @@ use Rattle.words_core.proofs.laws.reading_ends.Goals as goal
 -- Nothing given first changes nothing, and two things given in turn are the two things joined.
 
 before_nothing : (meant : Result Given Fault) → given_before nothing meant ≡ meant
-before_nothing (Ok given) = refl
-before_nothing (Err fault) = refl
+before_nothing meant = search rules
 
 before_both : (first next : Given) (meant : Result Given Fault)
     → given_before first (given_before next meant) ≡ given_before (joined first next) meant
