@@ -30,7 +30,7 @@ use Rattle.words_core.specs.{
   Lettered.is_start,
   Spelling.{foremost, mixed, onward, reading, spelled},
   Table.{OptionRow, ToolRow, row_named, tools},
-  TailWords.{bad_follow, by_file, followed_in, has_hyphen, retry_by, tail_asked, tail_of},
+  TailWords.{bad_follow, by_file, followed_in, has_dash, retry_by, tail_asked, tail_of},
   TeeWords.{TeeAsked, fresh, tee_asked, tee_by},
   Value.then_check,
   Words.{about_or, settings_for, tool_named, tool_settings, topic_in},
@@ -134,7 +134,7 @@ same_tee (Err fault) is = refl
 
 own_file : (names : List (List ℕ)) → (by_file names OwnName ≡ by_file names Cutters)
     ⊎ (by_file names Cutters ≡ bad_follow)
-own_file (name ∷ next ∷ names) = either (has_hyphen (name ∷ next ∷ names)) where
+own_file (name ∷ next ∷ names) = either (has_dash (name ∷ next ∷ names)) where
   either : (some : Bool) → (Ok (Some Descriptor) ≡ (if some then bad_follow else Ok (Some Descriptor)))
       ⊎ ((if some then bad_follow else Ok (Some Descriptor)) ≡ bad_follow)
   either some = search rules

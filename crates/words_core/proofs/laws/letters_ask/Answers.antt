@@ -7,7 +7,7 @@ use Rattle.std.{
       Sums.{AllPass-from_list_all, list_all-from_AllPass, take_while-cons},
     },
   },
-  proofs.Common.{◌≡◌, ◌≢◌, ◌⊎◌, ◌||◌, inl, inr, refl, sym, arith, rules, ℕ, Bool, true, false, is_some},
+  proofs.Common.{◌≡◌, ◌≢◌, ◌⊎◌, ◌||◌, inl, inr, refl, sym, ◌∙◌, arith, rules, ℕ, Bool, true, false, is_some},
   proofs.Math.Bool.or-true,
   proofs.Common.{◌↔◌, List, [], ◌∷◌, length, Option, Some},
   specs.{Prelude.{filter, nat_lt}, Char.is_ascii_digit, List.{list_all, prefix_len}},
@@ -18,7 +18,7 @@ use Rattle.words_core.{
   specs.declared.{choice.Choice.Choice, table.{Takes.Takes}},
   specs.Laws.{HasLetters, IsNumberWithLetters, IsSwitch},
   specs.Lettered.{are_known, is_known, is_unit, switched},
-  specs.Table.{OptionRow, head_table, option_lettered, tail_table},
+  specs.Table.{OptionRow, alone, head_table, option_lettered, tail_table},
   proofs.LetteredLemmas.{as_parts},
 }
 use Rattle.words_core.specs.declared.table.Takes.TheVariants as takes
@@ -45,6 +45,12 @@ unit_is_no_digit letter is = search rules
 
 -- A letter that is known.
 
+is_alone : (option : Option Takes) → is_some (switched option) ≡ true
+    → (takes : Takes) × (choice : Choice) × (option ≡ Some takes) × (alone takes ≡ Some choice)
+is_alone (Some (takes.Nothing choice)) is = (takes.Nothing choice, choice, refl, refl)
+is_alone (Some (takes.Optional choice kind)) is = (takes.Optional choice kind, choice, refl, refl)
+is_alone option is = absurd (cc)
+
 module _ (rows : List OptionRow) where
   abbrev IsKnown : ℕ → Type 0
   IsKnown letter = (is_unit letter ≡ true) ⊎ ((choice : Choice) × IsSwitch rows letter choice)
@@ -59,31 +65,9 @@ module _ (rows : List OptionRow) where
       → (unit || is_some (switched option)) ≡ true → (is_some (switched option) ≡ true → IsSafe letter)
       → Each letter
   known letter true option unit found is safe = (unit_is_no_digit letter unit, inl unit)
-  known letter false (Some (takes.Nothing choice)) unit found is safe = (
-    (safe refl).0,
-    inr (
-      choice,
-      record {
-        takes = takes.Nothing choice;
-        named = found;
-        alone = refl;
-        no_hyphen = (safe refl).1;
-      },
-    ),
-  )
-  known letter false (Some (takes.Optional choice kind)) unit found is safe = (
-    (safe refl).0,
-    inr (
-      choice,
-      record {
-        takes = takes.Optional choice kind;
-        named = found;
-        alone = refl;
-        no_hyphen = (safe refl).1;
-      },
-    ),
-  )
-  known letter false other unit found is safe = absurd (cc)
+  known letter false option unit found is safe =
+      let (one, choice, some, alone) = is_alone option is in
+      ((safe is).0, inr (choice, record { takes = one; named = found ∙ some; alone = alone; no_hyphen = (safe is).1 }))
 
   known_so : (letter : ℕ) → IsKnown letter → is_known rows letter ≡ true
   known_so letter (inl unit) = rw unit refl
