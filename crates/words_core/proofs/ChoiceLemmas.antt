@@ -54,65 +54,15 @@ pub last_decides : {A C : Type 0} (by : A → Choice → A) (part : A → C) {te
     → (asked : A) → LastDecides test (λ options. part (asked_by by asked options)) (part asked)
 last_decides by part {test} sets asked = record { last = decided by part test sets asked asked; none = kept by part test sets asked }
 
--- What the options of each tool set. An option without a value sets the same wherever it stands.
-
-pub ends-sets : (asked other : EndsAsked) (choice : Choice)
-    → (amount_of (ends_by asked choice) ≡ (if counts choice then amount_of (ends_by other choice) else amount_of asked))
-    × ((ends_by asked choice).headers ≡ (if heads choice then (ends_by other choice).headers else asked.headers))
-    × ((ends_by asked choice).delim ≡ (if ends_with_zero choice then 0 else asked.delim))
-ends-sets asked other choice = search rules
-
-pub tail-sets : (asked other : TailSettings) (choice : Choice)
-    → ((tail_by asked choice).followed ≡
-    (if says_followed choice then (tail_by other choice).followed else asked.followed))
-    × ((tail_by asked choice).looks ≡ (if counts_looks choice then (tail_by other choice).looks else asked.looks))
-    × ((tail_by asked choice).pause ≡ (if counts_pause choice then (tail_by other choice).pause else asked.pause))
-    × ((tail_by asked choice).process
-    ≡ (if names_process choice then (tail_by other choice).process else asked.process))
-    × ((tail_by asked choice).ends ≡ ends_by asked.ends choice)
-tail-sets asked other choice = search rules
-
-pub retry-sets : (asked : Bool) (choice : Choice) → retry_by asked choice ≡ (if retries choice then true else asked)
-retry-sets asked choice = search rules
-
 -- what `tail` writes of each input at first is set by the same options as for `head`
 pub tail_ends : (asked : TailSettings) (options : List Chosen)
     → (asked_by tail_by asked options).ends ≡ asked_by ends_by asked.ends options
 tail_ends asked [] = refl
 tail_ends asked (option ∷ options) =
-    tail_ends (tail_by asked option.choice) options ∙ ap (λ ends. asked_by ends_by ends options)
-    (tail-sets asked asked option.choice).4
-
-pub split-sets : (asked other : SplitAsked) (choice : Choice)
-    → ((split_by asked choice).alphabet ≡ (if spells choice then (split_by other choice).alphabet else asked.alphabet))
-    × ((split_by asked choice).width ≡ (if widens choice then (split_by other choice).width else asked.width))
-    × ((split_by asked choice).ending ≡ (if gives_ending choice then (split_by other choice).ending else asked.ending))
-    × ((split_by asked choice).elide ≡ (if elides_files choice then true else asked.elide))
-    × ((split_by asked choice).verbose ≡ (if tells_of_files choice then true else asked.verbose))
-    × ((split_by asked choice).from ≡ (if spells choice then (split_by other choice).from else asked.from))
-split-sets asked other choice = search rules
-
-pub delim-sets : (asked other : ℕ) (choice : Choice)
-    → delim_by asked choice ≡ (if separates choice then delim_by other choice else asked)
-delim-sets asked other choice = search rules
-
-pub csplit-sets : (asked other : CsplitOptions) (choice : Choice)
-    → ((csplit_by asked choice).prefix.now
-    ≡ (if names_prefix choice then (csplit_by other choice).prefix.now else asked.prefix.now))
-    × ((csplit_by asked choice).digits ≡ (if widens choice then (csplit_by other choice).digits else asked.digits))
-    × ((csplit_by asked choice).format
-    ≡ (if gives_format choice then (csplit_by other choice).format else asked.format))
-    × ((csplit_by asked choice).keep ≡ (if keeps_files choice then true else asked.keep))
-    × ((csplit_by asked choice).quiet ≡ (if drops_sizes choice then true else asked.quiet))
-    × ((csplit_by asked choice).elide ≡ (if elides_files choice then true else asked.elide))
-    × ((csplit_by asked choice).suppress ≡ (if leaves_lines_out choice then true else asked.suppress))
-csplit-sets asked other choice = search rules
-
-pub tee-sets : (asked other : TeeAsked) (choice : Choice)
-    → ((tee_by asked choice).mode ≡ (if appends choice then mode.Append else asked.mode))
-    × ((tee_by asked choice).on_broken
-    ≡ (if says_on_broken choice then (tee_by other choice).on_broken else asked.on_broken))
-tee-sets asked other choice = search rules
+    tail_ends (tail_by asked option.choice) options
+    ∙ ap (λ ends. asked_by ends_by ends options) (same option.choice) where
+  same : (choice : Choice) → (tail_by asked choice).ends ≡ ends_by asked.ends choice
+  same choice = search rules
 
 -- an option without effect may be left out
 module _ (before after : List Chosen) (word : ℕ) where
