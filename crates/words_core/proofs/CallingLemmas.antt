@@ -1,7 +1,7 @@
 -- Lemmas on what words mean by both ways to call the program.
 use Rattle.std.proofs.{
   Common.{◌≡◌, refl, ap, ◌∙◌, sym, map, bytes_eq, ℕ, ◌==◌, ◌&&◌, ◌||◌},
-  Common.{not, Bool, true, false, if◌then◌else◌, List, [], ◌∷◌},
+  Common.{Bool, true, false, if◌then◌else◌, List, [], ◌∷◌},
   Common.{arith, rules, Option, Some, None, Result, Ok, Err, option_map, ◌⊎◌, inl, inr},
   Math.Bool.and-false,
   lemmas.{Grind.common_steps, Bool.Decides.nat_tests},
@@ -21,7 +21,7 @@ use Rattle.words_core.specs.{
     spelling.State.TheVariants.First,
     table.Letters.{Letters, TheVariants.{Never, OfHead}},
     tail_words.TailSettings.TailSettings,
-    value.Followed.{Followed, TheVariants.{Descriptor, Name, PresentName, FirstFile}},
+    value.Followed.{Followed, TheVariants.{Descriptor}},
   },
   CsplitWords.{asked_of, style_of},
   EndsWords.names_asked,
@@ -36,7 +36,6 @@ use Rattle.words_core.specs.{
   Words.{about_or, settings_for, tool_named, tool_settings, topic_in},
 }
 use Rattle.ports_core.specs.declared.tool.Tool.TheVariants as tool
-use Rattle.words_core.specs.declared.choice.Choice.TheVariants as choice
 
 -- whether the first of these words says where `tail` begins
 abbrev pub begin : List OptionRow → Letters → List (List ℕ) → Bool

@@ -13,18 +13,15 @@ use Rattle.ports_core.specs.declared.{
 use Rattle.seg_core.specs.declared.cut.Way.{Way}
 use Rattle.words_core.specs.{
   declared.{choice.Choice.Choice, tail_words.TailSettings.TailSettings, spelled.Chosen.Chosen},
-  declared.csplit_words.CsplitOptions.CsplitOptions,
   Given.{GivenOperand, asked_by, texts_of},
   CsplitWords.{csplit_by, plain},
-  EndsWords.{EndsAsked, ends_by, names_asked, ten_lines},
-  SplitWords.{SplitAsked, delim_by, is_way, no_options, only_way, separator_in, split_by, thousand_lines, way_in},
+  EndsWords.{ends_by, names_asked, ten_lines},
+  SplitWords.{delim_by, is_way, no_options, only_way, separator_in, split_by, thousand_lines, way_in},
   SplitWords.way_of,
   TailWords.{retry_by, tail_by, unfollowed},
-  TeeWords.{TeeAsked, fresh, tee_by},
+  TeeWords.{fresh, tee_by},
   Words.{about_or, or_later, settings_for, topic_in, topic_of, work_for},
-  Laws.{LastDecides, amount_of, appends, counts, counts_looks, counts_pause, names_process, drops_sizes},
-  Laws.{elides_files, tells_of_files, ends_with_zero, gives_ending, gives_format, has, heads, keeps_files},
-  Laws.{leaves_lines_out, names_prefix, retries, says_followed, says_on_broken, separates, spells, widens},
+  Laws.{LastDecides, has},
 }
 use Rattle.ports_core.specs.declared.tool.Tool.TheVariants as tool
 use Rattle.ports_core.specs.declared.slot.Mode.TheVariants as mode
@@ -61,8 +58,8 @@ tail_ends asked [] = refl
 tail_ends asked (option ∷ options) =
     tail_ends (tail_by asked option.choice) options
     ∙ ap (λ ends. asked_by ends_by ends options) (same option.choice) where
-  same : (choice : Choice) → (tail_by asked choice).ends ≡ ends_by asked.ends choice
-  same choice = search rules
+      same : (choice : Choice) → (tail_by asked choice).ends ≡ ends_by asked.ends choice
+      same choice = search rules
 
 -- an option without effect may be left out
 module _ (before after : List Chosen) (word : ℕ) where

@@ -27,7 +27,6 @@ use Rattle.words_core.specs.{
   Table.{OptionRow, head_table, is_among, option_lettered, tail_table},
   inner.Spelling.Adds,
 }
-use Rattle.words_core.specs.declared.table.Takes.TheVariants as takes
 
 -- What calls add one after another.
 

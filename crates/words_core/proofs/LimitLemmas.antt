@@ -7,12 +7,7 @@ use Rattle.std.{
 }
 use Rattle.ports_core.{
   specs.{
-    declared.{
-      calling.Calling.Calling,
-      fault.Fault.Fault,
-      alphabet.Alphabet.{Alphabet, TheVariants.{Letters, Digits, Hex, Capitals, Octal}},
-      tool.Tool.Tool,
-    },
+    declared.{calling.Calling.Calling, fault.Fault.Fault, alphabet.Alphabet.{Alphabet}, tool.Tool.Tool},
     Name.name_count,
   },
   proofs.CounterLemmas.power_positive,
@@ -43,7 +38,6 @@ use Rattle.words_core.proofs.{
 use Rattle.ports_core.specs.declared.tool.Tool.TheVariants as tool
 use Rattle.seg_core.specs.declared.cut.Cut.TheVariants as cut
 use Rattle.seg_core.specs.declared.cut.Way.TheVariants as way
-use Rattle.words_core.specs.declared.choice.Choice.TheVariants as choice
 
 -- The operands of all words are some of the words.
 

@@ -1,5 +1,6 @@
 -- Lemmas on values that may be cut short by a tool's own name: what `cutters` takes means the same there.
-use Rattle.std.proofs.Common.{◌≡◌, refl, ap, ◌∙◌, arith, suc, ℕ, ◌+◌, ◌==◌, ◌&&◌, Bool, true, false, List, [], ◌∷◌, map, rules}
+use Rattle.std.proofs.Common.{◌≡◌, refl, ap, ◌∙◌, arith, suc, ℕ, ◌+◌, ◌==◌, ◌&&◌, Bool, true, false, List, [], ◌∷◌}
+use Rattle.std.proofs.Common.{map, rules}
 use Rattle.std.proofs.Common.{if◌then◌else◌, Option, Some, None, option_map, Result, Ok, Err, ok_or, ◌⊎◌, inl, inr, ◌↔◌}
 use Rattle.std.specs.{List.{before_first, list_all}, Option.{option_or, unwrap_or}, Prelude.nat_lt}
 use Rattle.seg_core.specs.{Count.{after_digits, is_number}}
@@ -11,7 +12,7 @@ use Rattle.words_core.specs.{
   declared.{
     choice.{Choice.Choice, Kind.Kind},
     spelling.State.{State, TheVariants.{First, Reading}},
-    table.{Letters.{Letters, TheVariants.{Never, OfHead, OfTail}}, Takes.Takes},
+    table.{Letters.{Letters, TheVariants.{OfTail}}, Takes.Takes},
   },
   Choice.{asking, choice_in},
   Given.{Given},
@@ -69,20 +70,17 @@ alike : {A : Type 0} (make : A → Choice) (bad : UsageKind) (found short : Opti
 alike make bad found short = search rules
 
 pub follow_alike : (kind : Kind) (text : List ℕ) → Alike follow_values BadFollow own_follow kind text
-follow_alike (kind.Follow Cutters) text = alike (λ followed. choice.Follow followed) BadFollow
-    (value_in follow_values text) (beginning_in OwnName follow_values text)
+follow_alike (kind.Follow Cutters) text = alike (λ followed. choice.Follow followed) BadFollow _ _
 follow_alike other text = search rules
 
 pub on_broken_alike : (kind : Kind) (text : List ℕ) → Alike on_broken_values BadMode own_on_broken kind text
-on_broken_alike (kind.OnBroken Cutters) text = alike (λ on_broken. choice.OnBroken on_broken) BadMode
-    (value_in on_broken_values text) (beginning_in OwnName on_broken_values text)
+on_broken_alike (kind.OnBroken Cutters) text = alike (λ on_broken. choice.OnBroken on_broken) BadMode _ _
 on_broken_alike other text = search rules
 
 -- what is true of both pairs is true of the pair that a test picks
 both_ways : {A : Type 0} (P : A → A → Type 0) (test : Bool) {own one other rest : A} → P own one → P other rest
     → P (if test then own else other) (if test then one else rest)
-both_ways P true first second = first
-both_ways P false first second = second
+both_ways P test first second = search rules
 
 module _ {A : Type 0} (values : List (List ℕ × A)) (own : Kind → Kind) (bad : UsageKind) where
   -- Words from this place on spell the same, or `cutters` has this fault in one of them, in which a value is cut short.

@@ -1,7 +1,7 @@
 -- Lemmas on what words spell, word after word.
 use Rattle.std.proofs.{
   lemmas.Grind.common_steps,
-  Common.{rules, ◌≡◌, ℕ, ◌+◌, Bool, true, false, if◌then◌else◌, arith, List, [], ◌∷◌, ◌++◌, Result, Ok, Err},
+  Common.{rules, ◌≡◌, ℕ, ◌+◌, Bool, if◌then◌else◌, arith, List, [], ◌∷◌, ◌++◌, Result, Ok, Err},
 }
 use Rattle.ports_core.specs.declared.fault.{
   Fault.{Fault, TheVariants.Usage},

@@ -1,11 +1,8 @@
-use Rattle.std.proofs.{
-  lemmas.Grind.common_steps,
-  Common.{◌≡◌, ◌≤◌, ℕ, ◌+◌, arith, List, [], ◌∷◌, ◌++◌, length, Result, Ok, Err, refl, rules},
-}
+use Rattle.std.proofs.{Common.{◌≡◌, ◌≤◌, ℕ, ◌+◌, arith, List, [], ◌∷◌, ◌++◌, length, Result, Ok, Err, rules}}
 use Rattle.ports_core.specs.declared.fault.{Fault.{Fault, TheVariants.Usage}, UsageKind.UsageKind}
 use Rattle.words_core.{
   specs.{
-    declared.spelling.State.{State, TheVariants.Awaiting},
+    declared.spelling.State.{State},
     Table.OptionRow,
     Given.Given,
     Spelling.{Meaning, ended, given_before, meaning_of, onward, spelled},
