@@ -21,7 +21,7 @@ ghost use Rattle.words_core.specs.{
   CsplitWords.CsplitAsked,
   EndsWords.EndsAsked,
   SplitWords.SplitAsked,
-  TailWords.has_hyphen,
+  TailWords.has_dash,
   TeeWords.TeeAsked,
   Words.{follows, settings_of},
   declared.{
@@ -174,7 +174,7 @@ fn grown(alloc: Global, words: &[&str], watch: &mut MemWatch) -> Result<Option<M
     ensures { (options : EndsAsked) (name came : List ℕ) (file n pause : ℕ)
         → settings_of Calling.Cutters (map (λ word. word.now) words.now) ≡ Ok (Tail
         (record { ends = options; followed = Some Descriptor; looks = n + 1; pause = pause; process = None }))
-        → has_hyphen options.names ≡ false → IsBare options → options.names ≡ name ∷ []
+        → has_dash options.names ≡ false → IsBare options → options.names ≡ name ∷ []
         → ((count : ℕ) → OnlyGrows count (shows watch.old) name file)
         → (shows watch.old n).holds file ≡ (shows watch.old 0).holds file ++ came
         → IfOk result

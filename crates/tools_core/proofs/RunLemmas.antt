@@ -28,7 +28,7 @@ use Rattle.words_core.specs.{
   CsplitWords.{HasBadOperand, csplit_asked, CsplitAsked},
   EndsWords.{ends_asked, EndsAsked},
   SplitWords.split_asked,
-  TailWords.{followed_by, has_hyphen, tail_asked},
+  TailWords.{followed_by, has_dash, tail_asked},
   TeeWords.{tee_asked},
   Given.Given,
   Refusal.{detail_of, word_at},
@@ -317,7 +317,7 @@ module _ (calling : Calling) (fed told_in told : Bool) (words : List (List ℕ))
 -- Whether standard input can be watched matters only if that is asked.
 
 asked_alike : (asked : TailSettings) (fed : Bool) (followed : Option Followed) (hyphen : Bool)
-    → asked.followed ≡ followed → has_hyphen asked.ends.names ≡ hyphen
+    → asked.followed ≡ followed → has_dash asked.ends.names ≡ hyphen
     → followed_by OwnName (asks_input OwnName (Tail asked) && fed) asked ≡ followed_by OwnName fed asked
 asked_alike asked false followed hyphen is there = rw (and-false (asks_input OwnName (Tail asked))) refl
 asked_alike asked true None true is there = rw (is, there) refl
@@ -328,7 +328,7 @@ asked_alike asked true (Some how) false is there = rw (is, there, there) refl
 followed_alike : (calling : Calling) (fed : Bool) (asked : TailSettings)
     → followed_by calling (asks_input calling (Tail asked) && fed) asked ≡ followed_by calling fed asked
 followed_alike Cutters fed asked = refl
-followed_alike OwnName fed asked = asked_alike asked fed asked.followed (has_hyphen asked.ends.names) refl refl
+followed_alike OwnName fed asked = asked_alike asked fed asked.followed (has_dash asked.ends.names) refl refl
 
 follows_alike : (calling : Calling) (fed : Bool) (settings : Settings)
     → follows calling (asks_input calling settings && fed) settings ≡ follows calling fed settings

@@ -9,7 +9,7 @@ use Rattle.std.proofs.{
   },
   Math.{ListN.drop_of_length-le, Seq.drop-cons},
   Common.{◌≡◌, ℕ, Bool, true, false, List, [], ◌∷◌, ◌++◌, Option, Some, None, Result, Ok, Err, IfOk, if◌then◌else◌},
-  Common.{codes, map, option_map, bytes_eq, string_bytes, refl, sym, ◌∙◌, ap, subst, arith, ◌+◌, ◌<◌, inl, inr},
+  Common.{codes, map, option_map, bytes_eq, string_bytes, refl, sym, ◌∙◌, ap, subst, arith, rules, ◌+◌, ◌<◌, inl, inr},
   Common.{length, drop, get_or, add-one, append_assoc},
 }
 use Rattle.std.specs.{List.slice_get, Str.{IsUtf8, is_utf8, Lossy.utf8_lossy}}
@@ -72,8 +72,7 @@ text_is tool argument text = own (reads_any tool) where
   own false = refl
 
 no_text : (test : Bool) {argument : List ℕ} → (test ≡ true → IsUtf8 argument) → (IsUtf8 argument → ⊥) → test ≡ false
-no_text true text none = absurd (none (text refl))
-no_text false text none = refl
+no_text test text none = search rules
 
 -- an argument that isn't UTF-8 is marked, if such arguments are read
 pub marked_is : (tool : Option Tool) (argument : List ℕ) {word : List ℕ} → reads_any tool ≡ true → (IsUtf8 argument → ⊥)

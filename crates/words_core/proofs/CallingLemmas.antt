@@ -1,8 +1,10 @@
 -- Lemmas on what words mean by both ways to call the program.
 use Rattle.std.proofs.{
-  Common.{◌≡◌, refl, ap, ◌∙◌, sym, map, bytes_eq, ℕ, ◌==◌, ◌&&◌, ◌||◌, not, Bool, true, false, if◌then◌else◌, List, [], ◌∷◌},
-  Common.{Option, Some, None, Result, Ok, Err, option_map, ◌⊎◌, inl, inr},
+  Common.{◌≡◌, refl, ap, ◌∙◌, sym, map, bytes_eq, ℕ, ◌==◌, ◌&&◌, ◌||◌},
+  Common.{Bool, true, false, if◌then◌else◌, List, [], ◌∷◌},
+  Common.{arith, rules, Option, Some, None, Result, Ok, Err, option_map, ◌⊎◌, inl, inr},
   Math.Bool.and-false,
+  lemmas.{Grind.common_steps, Bool.Decides.nat_tests},
 }
 use Rattle.operand_core.specs.Style.{Style}
 use Rattle.ports_core.specs.declared.{
@@ -19,7 +21,7 @@ use Rattle.words_core.specs.{
     spelling.State.TheVariants.First,
     table.Letters.{Letters, TheVariants.{Never, OfHead}},
     tail_words.TailSettings.TailSettings,
-    value.Followed.{Followed, TheVariants.{Descriptor, Name, PresentName, FirstFile}},
+    value.Followed.{Followed, TheVariants.{Descriptor}},
   },
   CsplitWords.{asked_of, style_of},
   EndsWords.names_asked,
@@ -28,13 +30,12 @@ use Rattle.words_core.specs.{
   Lettered.is_start,
   Spelling.{foremost, mixed, onward, reading, spelled},
   Table.{OptionRow, ToolRow, row_named, tools},
-  TailWords.{bad_follow, by_file, followed_in, has_hyphen, retry_by, tail_asked, tail_of},
+  TailWords.{bad_follow, by_file, followed_in, has_dash, retry_by, tail_asked, tail_of},
   TeeWords.{TeeAsked, fresh, tee_asked, tee_by},
   Value.then_check,
   Words.{about_or, settings_for, tool_named, tool_settings, topic_in},
 }
 use Rattle.ports_core.specs.declared.tool.Tool.TheVariants as tool
-use Rattle.words_core.specs.declared.choice.Choice.TheVariants as choice
 
 -- whether the first of these words says where `tail` begins
 abbrev pub begin : List OptionRow → Letters → List (List ℕ) → Bool
@@ -56,14 +57,12 @@ same_words rows kind letters ([] ∷ words) other = refl
 same_words rows kind letters ((byte ∷ text) ∷ words) other = ap (onward (spelled rows words 2)) (same_first rows kind letters 1 byte text other)
 
 pub begins_never : (rows : List OptionRow) (words : List (List ℕ)) → begin rows Never words ≡ false
-begins_never rows [] = refl
-begins_never rows ([] ∷ words) = refl
 begins_never rows ((byte ∷ text) ∷ words) = and-false (byte == 43)
+begins_never rows words = search rules
 
 pub begins_head : (rows : List OptionRow) (words : List (List ℕ)) → begin rows OfHead words ≡ false
-begins_head rows [] = refl
-begins_head rows ([] ∷ words) = refl
 begins_head rows ((byte ∷ text) ∷ words) = and-false (byte == 43)
+begins_head rows words = search rules
 
 -- a name is that of the same tool
 
@@ -74,13 +73,7 @@ tool_among (row ∷ rows) name = if bytes_eq row.0 name then Some row.1 else too
 by_name : (rows : List ToolRow) (name : List ℕ) → option_map (λ row. row.tool) (row_named rows name)
     ≡ tool_among (map (λ row. (row.name, row.tool)) rows) name
 by_name [] name = refl
-by_name (row ∷ rows) name = one (bytes_eq row.name name) (by_name rows name) where
-  one : (test : Bool) → option_map (λ row. row.tool) (row_named rows name)
-      ≡ tool_among (map (λ row. (row.name, row.tool)) rows) name
-      → option_map (λ row. row.tool) (if test then Some row else row_named rows name)
-      ≡ (if test then Some row.tool else tool_among (map (λ row. (row.name, row.tool)) rows) name)
-  one true rest = refl
-  one false rest = rest
+by_name (row ∷ rows) name = grind (arith, common_steps, by_name rows name)
 
 pub row_named-tool : (calling : Calling) (name : List ℕ)
     → option_map (λ row. row.tool) (row_named (tools calling) name) ≡ tool_named name
@@ -90,15 +83,12 @@ row_named-tool calling name = by_name (tools calling) name ∙ sym (by_name (too
 pub same_unknown : (name : List ℕ) (words : List (List ℕ)) (own cutters : Option ToolRow)
     → option_map (λ row. row.tool) own ≡ None → option_map (λ row. row.tool) cutters ≡ None
     → tool_settings OwnName name words own ≡ tool_settings Cutters name words cutters
-same_unknown name words None None no_own none = refl
-same_unknown name words (Some row) cutters no_own none = absurd (cc)
-same_unknown name words None (Some row) no_own none = absurd (cc)
+same_unknown name words own cutters no_own none = search rules
 
 -- a word that begins with a `+` is read as an operand
 pub plus_is_name : (rows : List OptionRow) (place : ℕ) (text : List ℕ)
     → mixed rows place (43 ∷ text) ≡ reading (one_operand (43 ∷ text) place)
-plus_is_name rows place [] = refl
-plus_is_name rows place (byte ∷ text) = refl
+plus_is_name rows place text = search rules
 
 -- What is done once an output is broken: what is set before the options stays, if no option says it.
 
@@ -108,16 +98,14 @@ with_broken on_broken asked = record asked { on_broken = on_broken }
 with_one : (on_broken : OnBroken) (asked : TeeAsked) (choice : Choice)
     → tee_by (with_broken on_broken asked) choice
     ≡ (if says_on_broken choice then tee_by asked choice else with_broken on_broken (tee_by asked choice))
-with_one on_broken asked (choice.OnBroken said) = refl
-with_one on_broken asked choice = refl
+with_one on_broken asked choice = search rules
 
 said_or : (test more : Bool) (on_broken : OnBroken) (next : TeeAsked) (options : List Chosen)
     → asked_by tee_by (with_broken on_broken next) options
     ≡ (if more then asked_by tee_by next options else with_broken on_broken (asked_by tee_by next options))
     → asked_by tee_by (if test then next else with_broken on_broken next) options
     ≡ (if test || more then asked_by tee_by next options else with_broken on_broken (asked_by tee_by next options))
-said_or true more on_broken next options rest = refl
-said_or false more on_broken next options rest = rest
+said_or test more on_broken next options rest = search rules
 
 with_all : (on_broken : OnBroken) (asked : TeeAsked) (options : List Chosen)
     → asked_by tee_by (with_broken on_broken asked) options
@@ -126,7 +114,8 @@ with_all : (on_broken : OnBroken) (asked : TeeAsked) (options : List Chosen)
 with_all on_broken asked [] = refl
 with_all on_broken asked (option ∷ options) =
     ap (λ next. asked_by tee_by next options) (with_one on_broken asked option.choice)
-    ∙ said_or (says_on_broken option.choice) (has says_on_broken options) on_broken (tee_by asked option.choice) options (with_all on_broken (tee_by asked option.choice) options)
+    ∙ said_or (says_on_broken option.choice) (has says_on_broken options) on_broken (tee_by asked option.choice)
+    options (with_all on_broken (tee_by asked option.choice) options)
 
 pub left_open : (given : Given) → has says_on_broken given.options ≡ false
     → tee_asked OwnName given ≡ with_broken Signal (tee_asked Cutters given)
@@ -137,37 +126,24 @@ said given is = rw (with_all Signal (fresh Cutters (texts_of given.operands)) gi
 
 pub same_tee : (meant : Result Given Fault) → say_nothing meant ≡ false
     → then_check meant (settings_for OwnName tool.Tee) ≡ then_check meant (settings_for Cutters tool.Tee)
-same_tee (Ok given) is = rw (said given (says_so (has says_on_broken given.options) is)) refl where
-  says_so : (test : Bool) → not test ≡ false → test ≡ true
-  says_so true is = refl
-  says_so false is = absurd (cc)
+same_tee (Ok given) is = rw (said given (grind (arith, nat_tests))) refl
 same_tee (Err fault) is = refl
 
 -- What is followed is the same by both ways to call the program, except if `cutters` refuses it.
 
 own_file : (names : List (List ℕ)) → (by_file names OwnName ≡ by_file names Cutters)
     ⊎ (by_file names Cutters ≡ bad_follow)
-own_file [] = inl refl
-own_file (name ∷ []) = inl refl
-own_file (name ∷ next ∷ names) = either (has_hyphen (name ∷ next ∷ names)) where
+own_file (name ∷ next ∷ names) = either (has_dash (name ∷ next ∷ names)) where
   either : (some : Bool) → (Ok (Some Descriptor) ≡ (if some then bad_follow else Ok (Some Descriptor)))
       ⊎ ((if some then bad_follow else Ok (Some Descriptor)) ≡ bad_follow)
-  either true = inr refl
-  either false = inl refl
+  either some = search rules
+own_file names = search rules
 
 own_follow : (followed : Option Followed) (retry : Bool) (names : List (List ℕ))
     → (followed_in followed retry OwnName names ≡ followed_in followed retry Cutters names)
     ⊎ (followed_in followed retry Cutters names ≡ bad_follow)
-own_follow None false names = inl refl
-own_follow None true names = inr refl
 own_follow (Some Descriptor) false names = own_file names
-own_follow (Some Descriptor) true names = inr refl
-own_follow (Some Name) true names = inl refl
-own_follow (Some Name) false names = inr refl
-own_follow (Some PresentName) true names = inl refl
-own_follow (Some PresentName) false names = inl refl
-own_follow (Some FirstFile) true names = inl refl
-own_follow (Some FirstFile) false names = inl refl
+own_follow followed retry names = search rules
 
 own_work : (given : Given) → (tail_asked OwnName given ≡ tail_asked Cutters given)
     ⊎ (tail_asked Cutters given ≡ bad_follow)
@@ -182,9 +158,8 @@ tail_topic : (topic : Option Topic) (own cutters : Result TailSettings Fault) �
     → (about_or tool.Tail topic (then_check own (λ asked. Ok (Tail asked)))
     ≡ about_or tool.Tail topic (then_check cutters (λ asked. Ok (Tail asked))))
     ⊎ (about_or tool.Tail topic (then_check cutters (λ asked. Ok (Tail asked))) ≡ Err (Usage BadFollow 0))
-tail_topic (Some topic) own cutters either = inl refl
-tail_topic None own cutters (inl same) = inl (ap (λ meant. then_check meant (λ asked. Ok (Tail asked))) same)
-tail_topic None own cutters (inr bad) = inr (ap (λ meant. then_check meant (λ asked. Ok (Tail asked))) bad)
+tail_topic topic own cutters (inl same) = inl (rw same refl)
+tail_topic topic own cutters (inr bad) = rw bad (search rules)
 
 pub own_tail : (meant : Result Given Fault)
     → (then_check meant (settings_for OwnName tool.Tail) ≡ then_check meant (settings_for Cutters tool.Tail))
@@ -198,10 +173,7 @@ own_topic : (topic : Option Topic) (style : Style) (operands : List GivenOperand
     → about_or tool.Csplit topic (then_check (asked_of OwnName style operands) (λ asked. Ok (Csplit asked)))
     ≡ by_own_name
     (about_or tool.Csplit topic (then_check (asked_of Cutters style operands) (λ asked. Ok (Csplit asked))))
-own_topic (Some topic) style operands = refl
-own_topic None style [] = refl
-own_topic None style (file ∷ []) = refl
-own_topic None style (file ∷ operand ∷ operands) = refl
+own_topic topic style operands = search rules
 
 pub own_csplit : (meant : Result Given Fault) → then_check meant (settings_for OwnName tool.Csplit)
     ≡ by_own_name (then_check meant (settings_for Cutters tool.Csplit))

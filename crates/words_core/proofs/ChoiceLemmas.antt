@@ -13,18 +13,15 @@ use Rattle.ports_core.specs.declared.{
 use Rattle.seg_core.specs.declared.cut.Way.{Way}
 use Rattle.words_core.specs.{
   declared.{choice.Choice.Choice, tail_words.TailSettings.TailSettings, spelled.Chosen.Chosen},
-  declared.csplit_words.CsplitOptions.CsplitOptions,
   Given.{GivenOperand, asked_by, texts_of},
   CsplitWords.{csplit_by, plain},
-  EndsWords.{EndsAsked, ends_by, names_asked, ten_lines},
-  SplitWords.{SplitAsked, delim_by, is_way, no_options, only_way, separator_in, split_by, thousand_lines, way_in},
+  EndsWords.{ends_by, names_asked, ten_lines},
+  SplitWords.{delim_by, is_way, no_options, only_way, separator_in, split_by, thousand_lines, way_in},
   SplitWords.way_of,
   TailWords.{retry_by, tail_by, unfollowed},
-  TeeWords.{TeeAsked, fresh, tee_by},
+  TeeWords.{fresh, tee_by},
   Words.{about_or, or_later, settings_for, topic_in, topic_of, work_for},
-  Laws.{LastDecides, amount_of, appends, counts, counts_looks, counts_pause, names_process, drops_sizes},
-  Laws.{elides_files, tells_of_files, ends_with_zero, gives_ending, gives_format, has, heads, keeps_files},
-  Laws.{leaves_lines_out, names_prefix, retries, says_followed, says_on_broken, separates, spells, widens},
+  Laws.{LastDecides, has},
 }
 use Rattle.ports_core.specs.declared.tool.Tool.TheVariants as tool
 use Rattle.ports_core.specs.declared.slot.Mode.TheVariants as mode
@@ -54,70 +51,15 @@ pub last_decides : {A C : Type 0} (by : A → Choice → A) (part : A → C) {te
     → (asked : A) → LastDecides test (λ options. part (asked_by by asked options)) (part asked)
 last_decides by part {test} sets asked = record { last = decided by part test sets asked asked; none = kept by part test sets asked }
 
--- What the options of each tool set. An option without a value sets the same wherever it stands.
-
-pub ends-sets : (asked other : EndsAsked) (choice : Choice)
-    → (amount_of (ends_by asked choice) ≡ (if counts choice then amount_of (ends_by other choice) else amount_of asked))
-    × ((ends_by asked choice).headers ≡ (if heads choice then (ends_by other choice).headers else asked.headers))
-    × ((ends_by asked choice).delim ≡ (if ends_with_zero choice then 0 else asked.delim))
-ends-sets asked other (choice.Amount unit count) = (refl, refl, refl)
-ends-sets asked other choice = (refl, refl, refl)
-
-pub tail-sets : (asked other : TailSettings) (choice : Choice)
-    → ((tail_by asked choice).followed ≡
-    (if says_followed choice then (tail_by other choice).followed else asked.followed))
-    × ((tail_by asked choice).looks ≡ (if counts_looks choice then (tail_by other choice).looks else asked.looks))
-    × ((tail_by asked choice).pause ≡ (if counts_pause choice then (tail_by other choice).pause else asked.pause))
-    × ((tail_by asked choice).process
-    ≡ (if names_process choice then (tail_by other choice).process else asked.process))
-    × ((tail_by asked choice).ends ≡ ends_by asked.ends choice)
-tail-sets asked other (choice.Follow followed) = search rules
-tail-sets asked other choice = search rules
-
-pub retry-sets : (asked : Bool) (choice : Choice) → retry_by asked choice ≡ (if retries choice then true else asked)
-retry-sets asked choice.Retry = refl
-retry-sets asked choice = refl
-
 -- what `tail` writes of each input at first is set by the same options as for `head`
 pub tail_ends : (asked : TailSettings) (options : List Chosen)
     → (asked_by tail_by asked options).ends ≡ asked_by ends_by asked.ends options
 tail_ends asked [] = refl
-tail_ends asked (option ∷ options) = tail_ends (tail_by asked option.choice) options ∙ ap (λ ends. asked_by ends_by ends options) (tail-sets asked asked option.choice).4
-
-pub split-sets : (asked other : SplitAsked) (choice : Choice)
-    → ((split_by asked choice).alphabet ≡ (if spells choice then (split_by other choice).alphabet else asked.alphabet))
-    × ((split_by asked choice).width ≡ (if widens choice then (split_by other choice).width else asked.width))
-    × ((split_by asked choice).ending ≡ (if gives_ending choice then (split_by other choice).ending else asked.ending))
-    × ((split_by asked choice).elide ≡ (if elides_files choice then true else asked.elide))
-    × ((split_by asked choice).verbose ≡ (if tells_of_files choice then true else asked.verbose))
-    × ((split_by asked choice).from ≡ (if spells choice then (split_by other choice).from else asked.from))
-split-sets asked other (choice.Width width) = search rules
-split-sets asked other choice = search rules
-
-pub delim-sets : (asked other : ℕ) (choice : Choice)
-    → delim_by asked choice ≡ (if separates choice then delim_by other choice else asked)
-delim-sets asked other (choice.Separator byte) = refl
-delim-sets asked other choice = refl
-
-pub csplit-sets : (asked other : CsplitOptions) (choice : Choice)
-    → ((csplit_by asked choice).prefix.now
-    ≡ (if names_prefix choice then (csplit_by other choice).prefix.now else asked.prefix.now))
-    × ((csplit_by asked choice).digits ≡ (if widens choice then (csplit_by other choice).digits else asked.digits))
-    × ((csplit_by asked choice).format
-    ≡ (if gives_format choice then (csplit_by other choice).format else asked.format))
-    × ((csplit_by asked choice).keep ≡ (if keeps_files choice then true else asked.keep))
-    × ((csplit_by asked choice).quiet ≡ (if drops_sizes choice then true else asked.quiet))
-    × ((csplit_by asked choice).elide ≡ (if elides_files choice then true else asked.elide))
-    × ((csplit_by asked choice).suppress ≡ (if leaves_lines_out choice then true else asked.suppress))
-csplit-sets asked other (choice.Prefix prefix) = search rules
-csplit-sets asked other choice = search rules
-
-pub tee-sets : (asked other : TeeAsked) (choice : Choice)
-    → ((tee_by asked choice).mode ≡ (if appends choice then mode.Append else asked.mode))
-    × ((tee_by asked choice).on_broken
-    ≡ (if says_on_broken choice then (tee_by other choice).on_broken else asked.on_broken))
-tee-sets asked other (choice.OnBroken on_broken) = (refl, refl)
-tee-sets asked other choice = (refl, refl)
+tail_ends asked (option ∷ options) =
+    tail_ends (tail_by asked option.choice) options
+    ∙ ap (λ ends. asked_by ends_by ends options) (same option.choice) where
+      same : (choice : Choice) → (tail_by asked choice).ends ≡ ends_by asked.ends choice
+      same choice = search rules
 
 -- an option without effect may be left out
 module _ (before after : List Chosen) (word : ℕ) where
@@ -141,7 +83,12 @@ module _ (before after : List Chosen) (word : ℕ) where
       → work_for calling which (record { options = with_it; operands = operands })
       ≡ work_for calling which (record { options = before ++ after; operands = operands })
   no_work calling tool.Head operands = rw (left_out ends_by (ten_lines (names_asked operands)) (λ asked. refl)) refl
-  no_work calling tool.Tail operands = rw (left_out tail_by (unfollowed (ten_lines (names_asked operands))) (λ asked. refl), left_out retry_by false (λ asked. refl)) refl
+  no_work calling tool.Tail operands =
+      rw (
+        left_out tail_by (unfollowed (ten_lines (names_asked operands))) (λ asked. refl),
+        left_out retry_by false
+            (λ asked. refl),
+      ) refl
   no_work calling tool.Split operands = rw (no_way, left_out delim_by 10 (λ asked. refl), left_out split_by no_options (λ asked. refl)) refl
   no_work calling tool.Csplit operands = rw (left_out csplit_by plain (λ asked. refl)) refl
   no_work calling tool.Tee operands = rw (left_out tee_by (fresh calling (texts_of operands)) (λ asked. refl)) refl
@@ -164,33 +111,34 @@ module _ (before after : List Chosen) (word : ℕ) where
 
 either_fixed : {A : Type 0} (one rest : Bool) (fixed other : A)
     → (if rest then fixed else (if one then fixed else other)) ≡ (if one || rest then fixed else other)
-either_fixed true true fixed other = refl
-either_fixed one rest fixed other = refl
+either_fixed one rest fixed other = search rules
 
 pub given_anywhere : {A C : Type 0} (by : A → Choice → A) (part : A → C) (test : Choice → Bool) (fixed : C)
     → ((asked : A) (choice : Choice) → part (by asked choice) ≡ (if test choice then fixed else part asked))
     → (asked : A) (options : List Chosen)
     → part (asked_by by asked options) ≡ (if has test options then fixed else part asked)
 given_anywhere by part test fixed sets asked [] = refl
-given_anywhere by part test fixed sets asked (option ∷ options) = rw (given_anywhere by part test fixed sets (by asked option.choice) options, sets asked option.choice, either_fixed (test option.choice) (has test options) fixed (part asked))
+given_anywhere by part test fixed sets asked (option ∷ options) =
+    rw (
+      given_anywhere by part test fixed sets (by asked option.choice) options,
+      sets asked option.choice,
+      either_fixed (test option.choice) (has test options) fixed (part asked),
+    )
 
 pub so_where_given : {A : Type 0} (by : A → Choice → A) (part : A → Bool) (test : Choice → Bool)
     → ((asked : A) (choice : Choice) → part (by asked choice) ≡ (if test choice then true else part asked))
     → (asked : A) → part asked ≡ false → (options : List Chosen) → part (asked_by by asked options) ≡ has test options
 so_where_given by part test sets asked not options = given_anywhere by part test true sets asked options ∙ itself (has test options) not where
   itself : (is : Bool) {other : Bool} → other ≡ false → (if is then true else other) ≡ is
-  itself true not = refl
-  itself false not = not
+  itself is not = search rules
 
 pub append_is : (is : Bool) → ((if is then mode.Append else mode.Fresh) ≡ mode.Append) ↔ (is ≡ true)
-append_is true = (λ _. refl, λ _. refl)
-append_is false = search rules
+append_is is = search rules
 
 -- There is at most one way to split.
 
 pub few_ways : (delim : ℕ) (ways : List Chosen)
     → (IsOk (only_way delim ways) → length ways ≤ 1) × (length ways ≤ 1 → IsOk (only_way delim ways))
-few_ways delim (way ∷ second ∷ more) = search rules
 few_ways delim ways = search rules
 
 -- the ways among options, around an option that is a way
@@ -207,12 +155,10 @@ way_among delim front rest option cut is = absurd (cc)
 
 -- whether an option is a way doesn't depend on the byte that lines end with
 same_ways : (delim : ℕ) (choice : Choice) → is_some (way_in delim choice) ≡ is_some (way_in 10 choice)
-same_ways delim (choice.LinesEach size) = refl
-same_ways delim choice = refl
+same_ways delim choice = search rules
 
 the_way : (found : Option Way) (other way : Way) → is_some found ≡ true → way ≡ unwrap_or found other → found ≡ Some way
-the_way (Some found) other way some is = cc
-the_way None other way some is = absurd (cc)
+the_way found other way some is = search rules
 
 pub way_is : (before after : List Chosen) (option : Chosen) (way : Way) → is_way option ≡ true
     → way_of (before ++ option ∷ after) ≡ Ok way

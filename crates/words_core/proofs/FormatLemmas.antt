@@ -6,7 +6,7 @@ use Rattle.std.proofs.{
     List.{take-append-drop, take_rest},
     Str.{IsCharBoundary-after_ascii, IsCharBoundary-before_ascii, IsCharBoundary-end},
   },
-  Common.{◌≡◌, ℕ, ◌+◌, ◌-◌, ◌^◌, ◌<◌, ◌≤◌, ◌==◌, ◌&&◌, suc, min, not, nat_le, Bool, true, false, cond, List},
+  Common.{rules, ◌≡◌, ℕ, ◌+◌, ◌-◌, ◌^◌, ◌<◌, ◌≤◌, ◌==◌, ◌&&◌, suc, min, not, nat_le, Bool, true, false, cond, List},
   Common.{[], ◌∷◌, ◌++◌, length, take, drop, get_or, Option, Some, None, inl, inr, refl, sym, subst, ◌∙◌, ap, arith},
   Common.{append_assoc, length-append, ◌⊎◌},
   Math.{Bool.and-false, Seq.{drop-append-add, get_or-append_seam}},
@@ -100,8 +100,7 @@ after_slice n text {rest} is = after_drop n text (subst (λ slice. AfterLetter s
 
 pub some_too : {T : Type 0} {P Q : T → Type 0} (found : Option T) → ((value : T) → P value → Q value) → IfSome found P
     → IfSome found Q
-some_too (Some value) goes is = goes value is
-some_too None goes is = tt
+some_too found goes is = search rules
 
 -- What `after_text` leaves is an end of the text, and is empty or begins with a `%`.
 
@@ -194,7 +193,8 @@ is_percent byte = byte == 37
 
 plain_other : (byte : ℕ) (text : List ℕ) → is_percent byte ≡ false → plain_text (byte ∷ text) ≡ byte ∷ plain_text text
 plain_other byte [] other = refl
-plain_other byte (next ∷ rest) other = ap (λ percent. cond (percent && is_percent next) (37 ∷ plain_text rest) (byte ∷ plain_text (next ∷ rest))) other
+plain_other byte (next ∷ rest) other =
+    ap (λ percent. cond (percent && is_percent next) (37 ∷ plain_text rest) (byte ∷ plain_text (next ∷ rest))) other
 
 plain_percent : (byte : ℕ) (text : List ℕ) → is_percent byte ≡ true
     → plain_text (byte ∷ text) ≡ 37 ∷ plain_text (without_percent text)
@@ -207,8 +207,7 @@ plain_percent byte (next ∷ rest) is =
       by : (second : Bool)
           → cond second (37 ∷ plain_text rest) (37 ∷ plain_text (next ∷ rest))
           ≡ 37 ∷ plain_text (cond second rest (next ∷ rest))
-      by true = refl
-      by false = refl
+      by second = search rules
 
 pub percent_at : (text : List ℕ) → position_or_len is_percent text < length text
     → plain_text text ≡ before_first is_percent text ++ 37 ∷ plain_text (without_percent (after_first is_percent text))

@@ -7,12 +7,7 @@ use Rattle.std.{
 }
 use Rattle.ports_core.{
   specs.{
-    declared.{
-      calling.Calling.Calling,
-      fault.Fault.Fault,
-      alphabet.Alphabet.{Alphabet, TheVariants.{Letters, Digits, Hex, Capitals, Octal}},
-      tool.Tool.Tool,
-    },
+    declared.{calling.Calling.Calling, fault.Fault.Fault, alphabet.Alphabet.{Alphabet}, tool.Tool.Tool},
     Name.name_count,
   },
   proofs.CounterLemmas.power_positive,
@@ -43,7 +38,6 @@ use Rattle.words_core.proofs.{
 use Rattle.ports_core.specs.declared.tool.Tool.TheVariants as tool
 use Rattle.seg_core.specs.declared.cut.Cut.TheVariants as cut
 use Rattle.seg_core.specs.declared.cut.Way.TheVariants as way
-use Rattle.words_core.specs.declared.choice.Choice.TheVariants as choice
 
 -- The operands of all words are some of the words.
 
@@ -65,15 +59,17 @@ onward-among : (rows : List OptionRow) (place : ℕ) (word : List ℕ) (words : 
     (rest : State → Result Given Fault) (meant : Result Meaning Fault)
     → GivesItself rows place word meant → ((next : State) → GivesAmong rows (place + 1) words (rest next))
     → GivesAmong rows place (word ∷ words) (onward rest meant)
-onward-among rows place word words rest (Ok meaning) is among = before-among rows words meaning.given (rest meaning.next) (is.0, is.1) (among meaning.next)
-onward-among rows place word words rest (Err fault) is among = tt
+onward-among rows place word words rest (Ok meaning) is among =
+    before-among rows words meaning.given (rest meaning.next) (is.0, is.1) (among meaning.next)
+onward-among rows place word words rest (Err fault) is among = search rules
 
 spelled-gives : (rows : List OptionRow) (words : List (List ℕ)) (place : ℕ) (state : State)
     → GivesAmong rows place words (spelled rows words place state)
 spelled-gives rows [] place (Awaiting kind option) = tt
 spelled-gives rows [] place state = (λ _. tt, none place)
 spelled-gives rows (word ∷ words) place state =
-    onward-among rows place word words (spelled rows words (place + 1)) (meaning_of rows state place word) (meaning-gives rows place state word) (λ next. spelled-gives rows words (place + 1) next)
+    onward-among rows place word words (spelled rows words (place + 1)) (meaning_of rows state place word)
+    (meaning-gives rows place state word) (λ next. spelled-gives rows words (place + 1) next)
 
 pub gives : (rows : List OptionRow) (words : List (List ℕ)) (place : ℕ) (state : State) (given : Given)
     → spelled rows words place state ≡ Ok given
@@ -94,15 +90,10 @@ abbrev HasFew : SplitAsked → Type 0
 HasFew asked = (asked.width ≤ 255) × (first_number asked.from ≤ 2 ^ 63 - 1)
 
 split_by-few : (asked : SplitAsked) (choice : Choice) → HasFew asked → IsSound choice → HasFew (split_by asked choice)
-split_by-few asked (choice.Width width) few is = (is, few.1)
-split_by-few asked (choice.Suffixes alphabet (Some from)) few is = (few.0, is)
-split_by-few asked (choice.Suffixes alphabet None) few is = (few.0, omega arith)
-split_by-few asked choice few is = few
+split_by-few asked choice few is = search rules
 
 only_way-limits : (delim : ℕ) (ways : List Chosen) → AreSound ways → IfOk (only_way delim ways) IsInLimits
-only_way-limits delim [] are = omega arith
-only_way-limits delim (way ∷ []) are = search rules
-only_way-limits delim (way ∷ second ∷ more) are = tt
+only_way-limits delim ways are = search rules
 
 ways-sound : (options : List Chosen) → AreSound options → AreSound (filter is_way options)
 ways-sound [] are = tt
@@ -110,8 +101,7 @@ ways-sound (option ∷ options) are = either AreSound (is_way option) _ _ (are.0
 
 then_check-kept : {A B : Type 0} (P : A → Type 0) (Q : B → Type 0) (first : Result A Fault) (next : A → Result B Fault)
     → IfOk first P → ((value : A) → P value → IfOk (next value) Q) → IfOk (then_check first next) Q
-then_check-kept P Q (Ok value) next is goes = goes value is
-then_check-kept P Q (Err fault) next is goes = tt
+then_check-kept P Q first next is goes = search rules
 
 -- The width of names is enough.
 
@@ -124,11 +114,7 @@ wide_enough-can : (alphabet : Alphabet) (count width : ℕ) → 1 ≤ width → 
 wide_enough-can alphabet count width some most = search rules
 
 all_writes : (alphabet : Alphabet) {count : ℕ} → count ≤ 10 ^ 20 → count ≤ name_count alphabet 23
-all_writes Letters few = omega arith
-all_writes Digits few = omega arith
-all_writes Hex few = omega arith
-all_writes Capitals few = omega arith
-all_writes Octal few = omega arith
+all_writes alphabet few = search rules
 
 least-can : (alphabet : Alphabet) {count : ℕ} → count ≤ 10 ^ 20
     → (count ≤ name_count alphabet (least_width alphabet count)) × IsWidth (least_width alphabet count)
@@ -160,8 +146,7 @@ suffix-can (way.Chunks chunks) alphabet from width few most least =
 suffix-can (way.Cut (cut.Parts limit)) alphabet (Some from) width is most least = grind (arith, common_steps)
 suffix-can (way.Cut (cut.Parts limit)) alphabet None width is most least =
     (some_names alphabet _, free-wide width most)
-suffix-can (way.Chunk place chunks) alphabet from width is most least = search rules
-suffix-can (way.Turn place files delim) alphabet from width is most least = search rules
+suffix-can way alphabet from width is most least = search rules
 
 -- Names don't widen if an option gives the number of the first file.
 
@@ -174,7 +159,8 @@ never_widen given asked from is first = grind (arith, common_steps)
 asked-can : (given : Given) → AreSound given.options → IfOk (split_asked given) CanSplit
 asked-can given sound =
     let asked = asked_by split_by no_options given.options in
-    then_check-kept IsInLimits CanSplit (way_of given.options) _ (only_way-limits (separator_in given.options) (filter is_way given.options) (ways-sound given.options sound)) (λ way is.
+    then_check-kept IsInLimits CanSplit (way_of given.options) _ (only_way-limits (separator_in given.options)
+    (filter is_way given.options) (ways-sound given.options sound)) (λ way is.
     let few : HasFew asked = asked-keeps split_by HasFew split_by-few given.options no_options (omega arith, omega arith) sound in
     then_check-kept (Serves way asked.alphabet asked.from) CanSplit (suffix_for way asked.alphabet asked.from asked.width) _
     (suffix-can way asked.alphabet asked.from asked.width is few.0 few.1) (λ suffix those.
@@ -183,15 +169,13 @@ asked-can given sound =
 
 work-can : (calling : Calling) (which : Tool) (given : Given) → AreSound given.options
     → IfOk (work_for calling which given) CanRun
-work-can calling tool.Tail given sound = search rules
 work-can calling tool.Split given sound = then_check-kept CanSplit CanRun (split_asked given) _ (asked-can given sound) (λ asked is. is)
 work-can calling tool.Csplit given sound = grind (arith, common_steps)
-work-can calling which given sound = tt
+work-can calling which given sound = search rules
 
 about-can : (which : Tool) (topic : Option Topic) (work : Result Settings Fault) → IfOk work CanRun
     → IfOk (about_or which topic work) CanRun
-about-can which (Some topic) work can = tt
-about-can which None work can = can
+about-can which topic work can = search rules
 
 settled-can : (calling : Calling) (which : Tool) (given : Given) → AreSound given.options
     → IfOk (settings_for calling which given) CanRun

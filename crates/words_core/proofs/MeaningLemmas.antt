@@ -18,18 +18,17 @@ use Rattle.words_core.specs.{
     choice.{Choice.Choice, Kind.Kind},
     spelled.Chosen.Chosen,
     table.Takes.Takes,
-    spelling.State.{State, TheVariants.{First, Reading, Awaiting, OnlyOperands, Ended}},
+    spelling.State.{State, TheVariants.{First, Reading, Awaiting}},
     division.Dealing.Dealing,
   },
   Choice.{asking, choice_in, seen},
-  Table.{OptionRow, begins_one, beginning, full_or, is_among, only_one, option_called, option_named},
+  Table.{OptionRow, begins_one, beginning, full_or, is_among, only_one, option_called, option_lettered, option_named},
   Division.{all_in, division_in, numbers_in},
   SplitWords.AreFew,
-  Given.{Given, bare, joined},
-  Lettered.{counted_with, is_lettered, is_start, is_unit, letter_named, switched, switches, times, unit_in},
-  Lettered.with_letters,
-  Spelling.{Meaning, before, said, valued, lettered, option_lettered, cluster, after_equals, named, dashed, foremost},
-  Spelling.{given_at, mixed, meaning_of},
+  Given.bare,
+  Lettered.{is_lettered, is_start, others, times, unit_in},
+  Spelling.{Meaning, before, said, valued, lettered, cluster, after_equals, named, dashed, foremost, counted_with},
+  Spelling.{mixed, meaning_of, with_letters},
   Value.{followed_in, on_broken_in},
 }
 use Rattle.words_core.proofs.SpellingLemmas.{either}
@@ -77,17 +76,16 @@ lettered-safe rows letter safe = either (λ found. IfSome found IsSafe) (nat_lt 
 
 begun-safe : (start : List ℕ) (rows : List OptionRow) → AreSafe rows → AreSafe (beginning start rows)
 begun-safe start [] safe = tt
-begun-safe start (row ∷ rows) safe = either AreSafe (begins_one start row.names) _ _ (safe.0, begun-safe start rows safe.1) (begun-safe start rows safe.1)
+begun-safe start (row ∷ rows) safe =
+    either AreSafe (begins_one start row.names) _ _ (safe.0, begun-safe start rows safe.1)
+    (begun-safe start rows safe.1)
 
 only-safe : (rows : List OptionRow) → AreSafe rows → IfOk (only_one rows) IsSafe
-only-safe [] safe = tt
-only-safe (row ∷ []) safe = safe.0
-only-safe (row ∷ other ∷ rows) safe = tt
+only-safe rows safe = search rules
 
 full-safe : (found : Option Takes) (short : Result Takes UsageKind) → IfSome found IsSafe → IfOk short IsSafe
     → IfOk (full_or found short) IsSafe
-full-safe (Some found) short safe other = safe
-full-safe None short safe other = other
+full-safe found short safe other = search rules
 
 called-safe : (rows : List OptionRow) (name : List ℕ) → AreSafe rows → IfOk (option_called rows name) IsSafe
 called-safe rows name safe =
@@ -100,8 +98,7 @@ sound-append (option ∷ front) options first rest = (first.0, sound-append fron
 -- Values are within their limits.
 
 pub anything : {A E : Type 0} (value : Result A E) → IfOk value (λ _. ⊤)
-anything (Ok value) = tt
-anything (Err fault) = tt
+anything value = search rules
 
 -- the option that awaits a value stands at this word or after it
 abbrev pub Awaits : ℕ → State → Type 0
@@ -138,40 +135,24 @@ division-sound text = grind (arith, common_steps, numbers-sound)
 -- a choice is within its limits if its value is
 as-sound : {A : Type 0} (make : A → Choice) (value : Result A UsageKind) → IfOk value (λ value. IsSound (make value))
     → IfOk (asking make value) IsSound
-as-sound make (Ok value) is = is
-as-sound make (Err fault) is = tt
+as-sound make value is = search rules
 
 choice-sound : (kind : Kind) (text : List ℕ) → IfOk (choice_in kind text) IsSound
 choice-sound kind.Divided text = as-sound (λ division. choice.Divided division) (division_in text) (division-sound text)
-choice-sound (kind.Follow calling) text = as-sound (λ followed. choice.Follow followed) (followed_in calling text) (anything (followed_in calling text))
-choice-sound (kind.OnBroken calling) text = as-sound (λ on_broken. choice.OnBroken on_broken) (on_broken_in calling text) (anything (on_broken_in calling text))
+choice-sound (kind.Follow calling) text =
+    as-sound (λ followed. choice.Follow followed) (followed_in calling text) (anything (followed_in calling text))
+choice-sound (kind.OnBroken calling) text =
+    as-sound (λ on_broken. choice.OnBroken on_broken) (on_broken_in calling text)
+    (anything (on_broken_in calling text))
 choice-sound which text = search rules
 
 module _ (rows : List OptionRow) (place : ℕ) where
-  -- A number with letters gives options within their limits.
-
-  abbrev GivesSound : Given → Type 0
-  GivesSound given = (AreSafe rows → AreSound given.options) × (given.operands ≡ [])
-
-  switched-gives : (rest : Given) (option : Option Takes) → (AreSafe rows → IfSome option IsSafe) → GivesSound rest
-      → GivesSound (joined (switched place option) rest)
-  switched-gives rest (Some (takes.Nothing choice)) safe is = (λ rows. (safe rows, is.0 rows), is.1)
-  switched-gives rest (Some (takes.Optional choice kind)) safe is = (λ rows. (safe rows, is.0 rows), is.1)
-  switched-gives rest other safe is = is
-
-  switches-give : (letters : List ℕ) → GivesSound (switches rows place letters)
-  switches-give [] = (λ _. tt, refl)
-  switches-give (letter ∷ letters) =
-      either GivesSound (is_unit letter) _ _ (switches-give letters)
-      (switched-gives _ (letter_named rows letter) (found-safe rows (45 ∷ letter ∷ [])) (switches-give letters))
-
   -- A word of options gives no operand.
 
   module _ (word : List ℕ) where
     said-gives : (option : ℕ) (value : Result Choice UsageKind) → IfOk value IsSound
         → GivesItself rows place word (said option place value)
-    said-gives option (Ok choice) is = (λ _. (is, tt), inl refl, tt)
-    said-gives option (Err fault) is = omega arith
+    said-gives option value is = search rules
 
     valued-gives : (kind : Kind) (option : ℕ) (text : List ℕ)
         → GivesItself rows place word (valued kind option place text)
@@ -179,47 +160,40 @@ module _ (rows : List OptionRow) (place : ℕ) where
 
     bare-gives : (choice : Choice) (meant : Result Meaning Fault) → (AreSafe rows → IsSound (seen choice))
         → GivesItself rows place word meant → GivesItself rows place word (before (bare choice place) meant)
-    bare-gives choice (Ok meaning) sound is = (λ safe. (sound safe, is.0 safe), is.1, is.2)
-    bare-gives choice (Err fault) sound is = is
+    bare-gives choice meant sound is = search rules
 
     lettered-gives : (rest : List ℕ) (others : Result Meaning Fault) (option : Option Takes)
         → (AreSafe rows → IfSome option IsSafe) → GivesItself rows place word others
         → GivesItself rows place word (lettered place rest others option)
-    lettered-gives rest others None safe is = omega arith
-    lettered-gives [] others (Some (takes.Value kind)) safe is = (λ _. tt, inl refl, omega arith)
     lettered-gives (byte ∷ text) others (Some (takes.Value kind)) safe is = valued-gives kind place (byte ∷ text)
-    lettered-gives rest others (Some (takes.Last topic)) safe is = (λ _. (tt, tt), inl refl, tt)
     lettered-gives rest others (Some (takes.Nothing choice)) safe is = bare-gives choice others safe is
     lettered-gives rest others (Some (takes.Optional choice kind)) safe is = bare-gives choice others safe is
+    lettered-gives rest others option safe is = search rules
 
     cluster-gives : (letters : List ℕ) → GivesItself rows place word (cluster rows place letters)
     cluster-gives [] = (λ _. tt, inl refl, tt)
-    cluster-gives (letter ∷ rest) = lettered-gives rest (cluster rows place rest) (option_lettered rows letter) (lettered-safe rows letter) (cluster-gives rest)
+    cluster-gives (letter ∷ rest) =
+        lettered-gives rest (cluster rows place rest) (option_lettered rows letter) (lettered-safe rows letter)
+        (cluster-gives rest)
 
     named-gives : (option : Result Takes UsageKind) (value : Option (List ℕ)) → (AreSafe rows → IfOk option IsSafe)
         → GivesItself rows place word (named place option value)
-    named-gives (Err fault) value safe = omega arith
     named-gives (Ok (takes.Value kind)) (Some text) safe = valued-gives kind place text
     named-gives (Ok (takes.Optional choice kind)) (Some text) safe = valued-gives kind place text
-    named-gives (Ok other) (Some text) safe = omega arith
-    named-gives (Ok (takes.Value kind)) None safe = (λ _. tt, inl refl, omega arith)
-    named-gives (Ok (takes.Last topic)) None safe = (λ _. (tt, tt), inl refl, tt)
-    named-gives (Ok (takes.Nothing choice)) None safe = (λ rows. (safe rows, tt), inl refl, tt)
-    named-gives (Ok (takes.Optional choice kind)) None safe = (λ rows. (safe rows, tt), inl refl, tt)
+    named-gives option value safe = search rules
 
-    counted-gives : (unit : Measured) (options : Given) (count : Result Count UsageKind) → GivesSound options
-        → GivesItself rows place word (given_at place (counted_with unit place options count))
-    counted-gives unit options (Ok count) is = (λ safe. (tt, is.0 safe), inl is.1, tt)
-    counted-gives unit options (Err fault) is = omega arith
+    counted-gives : (unit : Measured) (count : Result Count UsageKind) (more : Result Meaning Fault)
+        → GivesItself rows place word more → GivesItself rows place word (counted_with place unit count more)
+    counted-gives unit (Ok count) more is = bare-gives (choice.Amount unit count) more (λ _. tt) is
+    counted-gives unit (Err fault) more is = omega arith
 
-    numbered-gives : (sign : Sign) (text : List ℕ)
-        → GivesItself rows place word (given_at place (with_letters rows sign place text))
-    numbered-gives sign text = counted-gives (unit_in (after_digits text)).0 _
-        (times sign (leading_digits text) (unit_in (after_digits text)).1) (switches-give (after_digits text))
+    numbered-gives : (sign : Sign) (text : List ℕ) → GivesItself rows place word (with_letters rows sign place text)
+    numbered-gives sign text = counted-gives _ (times sign (leading_digits text) (unit_in (after_digits text)).1) _
+        (cluster-gives (others (after_digits text)))
 
-    dashed-gives : (rest : List ℕ) → GivesItself rows place word (dashed rows place rest)
-    dashed-gives [] = (λ _. tt, inl refl, tt)
-    dashed-gives (byte ∷ rest) = named-gives _ (after_equals (45 ∷ 45 ∷ byte ∷ rest)) (called-safe rows _)
+    dashed-gives : (rest : List ℕ) → GivesItself rows place word (dashed rows place word rest)
+    dashed-gives [] = search rules
+    dashed-gives (byte ∷ rest) = named-gives _ (after_equals word) (called-safe rows _)
 
   mixed-gives : (word : List ℕ) → GivesItself rows place word (mixed rows place word)
   mixed-gives [] = (λ _. tt, inr refl, tt)
@@ -237,8 +211,8 @@ module _ (rows : List OptionRow) (place : ℕ) where
       either (GivesItself rows place word) (byte == 45 && is_number text) _ _
       (valued-gives word kind place text) (either (GivesItself rows place word)
       (byte == 45 && is_lettered rows letters text) _ _ (numbered-gives word Plain text)
-      (either (GivesItself rows place word) (byte == 43 && is_start calling rows letters text) _ _ (numbered-gives word Plus text) (mixed-gives word)))
+      (either (GivesItself rows place word) (byte == 43 && is_start calling rows letters text) _ _
+      (numbered-gives word Plus text) (mixed-gives word)))
   meaning-gives Reading word = mixed-gives word
   meaning-gives (Awaiting kind option) word = valued-gives word kind option word
-  meaning-gives OnlyOperands word = (λ _. tt, inr refl, tt)
-  meaning-gives Ended word = (λ _. tt, inl refl, tt)
+  meaning-gives state word = search rules

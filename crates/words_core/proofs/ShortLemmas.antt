@@ -1,12 +1,29 @@
 -- Lemmas on values that may be cut short by a tool's own name: what `cutters` takes means the same there.
-use Rattle.std.proofs.{lemmas.Bool.eqb-true, Common.{◌≡◌, refl, ap, ◌∙◌, arith, suc, ℕ, ◌+◌, ◌==◌, ◌&&◌, Bool, true, false, if◌then◌else◌, List, [], ◌∷◌, map}, Common.{Option, Some, None, option_map, Result, Ok, Err, ok_or, ◌⊎◌, inl, inr, ◌↔◌}}
-use Rattle.std.specs.{List.before_first, Option.{option_or, unwrap_or}, Prelude.nat_lt}
+use Rattle.std.proofs.Common.{◌≡◌, refl, ap, ◌∙◌, arith, suc, ℕ, ◌+◌, ◌==◌, ◌&&◌, Bool, true, false, List, [], ◌∷◌}
+use Rattle.std.proofs.Common.{map, rules}
+use Rattle.std.proofs.Common.{if◌then◌else◌, Option, Some, None, option_map, Result, Ok, Err, ok_or, ◌⊎◌, inl, inr, ◌↔◌}
+use Rattle.std.specs.{List.{before_first, list_all}, Option.{option_or, unwrap_or}, Prelude.nat_lt}
 use Rattle.seg_core.specs.{Count.{after_digits, is_number}}
 use Rattle.ports_core.specs.declared.{
   calling.Calling.{Calling, TheVariants.{Cutters, OwnName}},
   fault.{Fault.{Fault, TheVariants.Usage}, UsageKind.{UsageKind, TheVariants.{BadFollow, BadMode}}},
 }
-use Rattle.words_core.specs.{declared.{choice.{Choice.Choice, Kind.Kind}, spelling.State.{State, TheVariants.{Awaiting, Ended, First, OnlyOperands, Reading}}, table.{Letters.{Letters, TheVariants.{Never, OfHead, OfTail}}, Takes.Takes}}, Choice.{asking, choice_in}, Given.{Given, bare}, Lettered.{are_known, is_lettered, is_start, is_switch, letter_named, switched, switches}, Spelling.{Meaning, after_equals, before, cluster, is_equals, dashed, foremost, given_before, lettered, meaning_of, mixed, named}, Spelling.{onward, option_lettered, said, spelled, valued}, Table.{OptionRow, beginning, begins_one, full_or, is_among, only_one, option_called, option_named}, Laws.{AreCutShort, HasShortValue, IsCutShort}, Refusal.word_at, Value.{beginning_in, follow_values, on_broken_values, only_value, value_in, values_from}}
+use Rattle.words_core.specs.{
+  declared.{
+    choice.{Choice.Choice, Kind.Kind},
+    spelling.State.{State, TheVariants.{First, Reading}},
+    table.{Letters.{Letters, TheVariants.{OfTail}}, Takes.Takes},
+  },
+  Choice.{asking, choice_in},
+  Given.{Given},
+  Lettered.{is_known, is_lettered, is_start, others, switched},
+  Spelling.{Meaning, after_equals, cluster, dashed, foremost, given_before, is_equals, lettered, meaning_of},
+  Spelling.{mixed, named, onward, said, spelled},
+  Table.{OptionRow, beginning, begins_one, full_or, is_among, only_one, option_called, option_lettered, option_named},
+  Laws.{AreCutShort, HasShortValue, IsCutShort},
+  Refusal.word_at,
+  Value.{beginning_in, follow_values, on_broken_values, only_value, value_in, values_from},
+}
 use Rattle.words_core.specs.declared.choice.Choice.TheVariants as choice
 use Rattle.words_core.specs.declared.choice.Kind.TheVariants as kind
 use Rattle.words_core.specs.declared.table.Takes.TheVariants as takes
@@ -15,16 +32,14 @@ use Rattle.words_core.specs.declared.table.Takes.TheVariants as takes
 
 only_is : {A : Type 0} (found : List (List ℕ × A)) (value : A)
     → (only_value found ≡ Some value) ↔ ((name : List ℕ) × (found ≡ (name, value) ∷ []))
-only_is [] value = (λ is. absurd (cc), λ is. ap only_value is.1)
 only_is (one ∷ []) value = (
   λ is. (one.0, ap (λ said. (one.0, unwrap_or said one.1) ∷ []) is),
   λ is. ap only_value is.1,
 )
-only_is (one ∷ other ∷ found) value = (λ is. absurd (cc), λ is. ap only_value is.1)
+only_is found value = search rules
 
 full_alone : {A : Type 0} (found : Option A) → option_or found None ≡ found
-full_alone (Some value) = refl
-full_alone None = refl
+full_alone found = search rules
 
 pub are_cut_short : {A : Type 0} (values : List (List ℕ × A)) → AreCutShort values
 are_cut_short values = record {
@@ -33,7 +48,8 @@ are_cut_short values = record {
   cutters = λ text. full_alone (value_in values text);
 }
 
--- The kind of a value by a tool's own name, where that of `cutters` is this.
+-- The kind of a value by a tool's own name, where that of `cutters` is this. What the value says is the same, or
+-- `cutters` has this fault, since the value is cut short.
 
 abbrev pub own_follow : Kind → Kind
 own_follow (kind.Follow calling) = kind.Follow OwnName
@@ -43,51 +59,36 @@ abbrev pub own_on_broken : Kind → Kind
 own_on_broken (kind.OnBroken calling) = kind.OnBroken OwnName
 own_on_broken other = other
 
--- what is read is the same, or `cutters` has this fault because of a value that is cut short
-abbrev pub IsAlike : {A E : Type 0} → Type 0 → E → Result A E → Result A E → Type 0
-IsAlike Short fault own cutters = (own ≡ cutters) ⊎ ((cutters ≡ Err fault) × Short)
+abbrev pub Alike : {A : Type 0} → List (List ℕ × A) → UsageKind → (Kind → Kind) → Kind → List ℕ → Type 0
+Alike values bad own kind text = (choice_in (own kind) text ≡ choice_in kind text)
+    ⊎ ((choice_in kind text ≡ Err bad) × IsCutShort values text)
 
-value_alike : {A : Type 0} (make : A → Choice) (fault : UsageKind) (found short : Option A)
-    → IsAlike ((found ≡ None) × (value : A) × (option_or found short ≡ Some value)) fault
-    (asking make (ok_or (option_or found short) fault)) (asking make (ok_or (option_or found None) fault))
-value_alike make fault (Some value) short = inl refl
-value_alike make fault None (Some value) = inr (refl, (refl, value, refl))
-value_alike make fault None None = inl refl
+alike : {A : Type 0} (make : A → Choice) (bad : UsageKind) (found short : Option A)
+    → (asking make (ok_or (option_or found short) bad) ≡ asking make (ok_or (option_or found None) bad))
+    ⊎ ((asking make (ok_or (option_or found None) bad) ≡ Err bad)
+    × ((found ≡ None) × (value : A) × (option_or found short ≡ Some value)))
+alike make bad found short = search rules
 
-pub follow_alike : (kind : Kind) (text : List ℕ)
-    → IsAlike (IsCutShort follow_values text) BadFollow (choice_in (own_follow kind) text) (choice_in kind text)
-follow_alike (kind.Follow Cutters) text = value_alike (λ followed. choice.Follow followed) BadFollow
-    (value_in follow_values text) (beginning_in OwnName follow_values text)
-follow_alike (kind.Follow OwnName) text = inl refl
-follow_alike other text = inl refl
+pub follow_alike : (kind : Kind) (text : List ℕ) → Alike follow_values BadFollow own_follow kind text
+follow_alike (kind.Follow Cutters) text = alike (λ followed. choice.Follow followed) BadFollow _ _
+follow_alike other text = search rules
 
-pub on_broken_alike : (kind : Kind) (text : List ℕ)
-    → IsAlike (IsCutShort on_broken_values text) BadMode (choice_in (own_on_broken kind) text) (choice_in kind text)
-on_broken_alike (kind.OnBroken Cutters) text = value_alike (λ on_broken. choice.OnBroken on_broken) BadMode
-    (value_in on_broken_values text) (beginning_in OwnName on_broken_values text)
-on_broken_alike (kind.OnBroken OwnName) text = inl refl
-on_broken_alike other text = inl refl
+pub on_broken_alike : (kind : Kind) (text : List ℕ) → Alike on_broken_values BadMode own_on_broken kind text
+on_broken_alike (kind.OnBroken Cutters) text = alike (λ on_broken. choice.OnBroken on_broken) BadMode _ _
+on_broken_alike other text = search rules
 
--- `cutters` has this fault in one of these words, in which a value is cut short
-abbrev pub IsRefused : {A B : Type 0} → List (List ℕ × A) → UsageKind → List (List ℕ) → Result B Fault → Type 0
-IsRefused values kind words cutters = (place : ℕ) × (cutters ≡ Err (Usage kind place))
-    × HasShortValue values (word_at words place)
-
--- what is so of both is so of either, in pairs
+-- what is true of both pairs is true of the pair that a test picks
 both_ways : {A : Type 0} (P : A → A → Type 0) (test : Bool) {own one other rest : A} → P own one → P other rest
     → P (if test then own else other) (if test then one else rest)
-both_ways P true first second = first
-both_ways P false first second = second
+both_ways P test first second = search rules
 
--- so too where the first needs that the test says yes
-either_way : {A : Type 0} (P : A → A → Type 0) (test : Bool) {own one other rest : A} → (test ≡ true → P own one)
-    → P other rest → P (if test then own else other) (if test then one else rest)
-either_way P true first second = first refl
-either_way P false first second = second
+module _ {A : Type 0} (values : List (List ℕ × A)) (own : Kind → Kind) (bad : UsageKind) where
+  -- Words from this place on spell the same, or `cutters` has this fault in one of them, in which a value is cut short.
 
-module _ {A : Type 0} (values : List (List ℕ × A)) (own : Kind → Kind) (bad : UsageKind)
-    (alike : (kind : Kind) (text : List ℕ)
-    → IsAlike (IsCutShort values text) bad (choice_in (own kind) text) (choice_in kind text)) where
+  abbrev pub SpellAlike : {B : Type 0} → ℕ → List (List ℕ) → Result B Fault → Result B Fault → Type 0
+  SpellAlike place words own cutters = (own ≡ cutters) ⊎ ((at number : ℕ) × (at ≡ place + number)
+      × (cutters ≡ Err (Usage bad at)) × HasShortValue values (word_at words number))
+
   -- the rows of a table by a tool's own name: kinds of values that may be missing differ
 
   abbrev pub own_takes : Takes → Takes
@@ -97,201 +98,120 @@ module _ {A : Type 0} (values : List (List ℕ × A)) (own : Kind → Kind) (bad
   abbrev pub own_row : OptionRow → OptionRow
   own_row row = record row { takes = own_takes row.takes }
 
-  abbrev own_rows : List OptionRow → List OptionRow
+  abbrev pub own_rows : List OptionRow → List OptionRow
   own_rows rows = map own_row rows
 
   abbrev own_found : Result Takes UsageKind → Result Takes UsageKind
   own_found (Ok takes) = Ok (own_takes takes)
   own_found (Err fault) = Err fault
 
-  -- which option a name is
-
-  named_so : (rows : List OptionRow) (name : List ℕ)
+  found_so : (rows : List OptionRow) (name : List ℕ)
       → option_named (own_rows rows) name ≡ option_map own_takes (option_named rows name)
-  named_so [] name = refl
-  named_so (row ∷ rows) name = both_ways (λ own one. own ≡ option_map own_takes one) (is_among row.names name) refl (named_so rows name)
+  found_so [] name = refl
+  found_so (row ∷ rows) name =
+      both_ways (λ own one. own ≡ option_map own_takes one) (is_among row.names name) refl (found_so rows name)
 
-  begun_so : (start : List ℕ) (rows : List OptionRow)
-      → beginning start (own_rows rows) ≡ own_rows (beginning start rows)
+  begun_so : (start : List ℕ) (rows : List OptionRow) → beginning start (own_rows rows) ≡ own_rows (beginning start rows)
   begun_so start [] = refl
-  begun_so start (row ∷ rows) = both_ways (λ own one. own ≡ own_rows one) (begins_one start row.names) (ap (λ rows. own_row row ∷ rows) (begun_so start rows)) (begun_so start rows)
+  begun_so start (row ∷ rows) = both_ways (λ own one. own ≡ own_rows one) (begins_one start row.names)
+      (ap (λ rows. own_row row ∷ rows) (begun_so start rows)) (begun_so start rows)
 
-  only_so : (rows : List OptionRow) → only_one (own_rows rows) ≡ own_found (only_one rows)
-  only_so [] = refl
-  only_so (row ∷ []) = refl
-  only_so (row ∷ other ∷ rows) = refl
+  full_so : (found : Option Takes) (begun : List OptionRow)
+      → full_or (option_map own_takes found) (only_one (own_rows begun)) ≡ own_found (full_or found (only_one begun))
+  full_so found begun = search rules
 
-  full_so : (found : Option Takes) (short : Result Takes UsageKind)
-      → full_or (option_map own_takes found) (own_found short) ≡ own_found (full_or found short)
-  full_so (Some found) short = refl
-  full_so None short = refl
+  module _ (alike : (kind : Kind) (text : List ℕ) → Alike values bad own kind text) (rows : List OptionRow) where
+    -- letters: to them no value belongs that may be missing
 
-  called_so : (rows : List OptionRow) (name : List ℕ)
-      → option_called (own_rows rows) name ≡ own_found (option_called rows name)
-  called_so rows name = rw (named_so rows name, begun_so name rows, only_so (beginning name rows)) (full_so (option_named rows name) (only_one (beginning name rows)))
+    letter_so : (letter : ℕ)
+        → option_lettered (own_rows rows) letter ≡ option_map own_takes (option_lettered rows letter)
+    letter_so letter = both_ways (λ own one. own ≡ option_map own_takes one) (nat_lt letter 128)
+        (found_so rows (45 ∷ letter ∷ [])) refl
 
-  -- a long option
+    lettered_so : (place : ℕ) (rest : List ℕ) (others : Result Meaning Fault) (option : Option Takes)
+        → lettered place rest others (option_map own_takes option) ≡ lettered place rest others option
+    lettered_so place rest others option = search rules
 
-  valued_so : (kind : Kind) (place : ℕ) (text : List ℕ)
-      → IsAlike (IsCutShort values text) (Usage bad place) (valued (own kind) place place text)
-      (valued kind place place text)
-  valued_so kind place text = elim (alike kind text) [
-    | inl same ↦ inl (ap (said place place) same)
-    | inr (fault, short) ↦ inr (ap (said place place) fault, short)
-  ]
+    cluster_so : (place : ℕ) (letters : List ℕ) → cluster (own_rows rows) place letters ≡ cluster rows place letters
+    cluster_so place [] = refl
+    cluster_so place (letter ∷ rest) = rw (letter_so letter, cluster_so place rest)
+        (lettered_so place rest (cluster rows place rest) (option_lettered rows letter))
 
-  -- this value is there, and is cut short
-  abbrev IsShortThere : Option (List ℕ) → Type 0
-  IsShortThere value = (text : List ℕ) × (value ≡ Some text) × IsCutShort values text
+    switched_so : (option : Option Takes) → switched (option_map own_takes option) ≡ switched option
+    switched_so option = search rules
 
-  long_so : (place : ℕ) (option : Result Takes UsageKind) (value : Option (List ℕ))
-      → IsAlike (IsShortThere value) (Usage bad place) (named place (own_found option) value) (named place option value)
-  long_so place (Err fault) value = inl refl
-  long_so place (Ok (takes.Optional choice kind)) (Some text) = elim (valued_so kind place text) [
-    | inl same ↦ inl same
-    | inr (fault, short) ↦ inr (fault, (text, refl, short))
-  ]
-  long_so place (Ok (takes.Optional choice kind)) None = inl refl
-  long_so place (Ok other) (Some text) = inl refl
-  long_so place (Ok other) None = inl refl
+    known_so : (letters : List ℕ) → list_all (is_known (own_rows rows)) letters ≡ list_all (is_known rows) letters
+    known_so [] = refl
+    known_so (letter ∷ letters) = rw (letter_so letter, switched_so (option_lettered rows letter), known_so letters) refl
 
-  -- letters: to them no value belongs that may be missing
+    start_so : (calling : Calling) (letters : Letters) (text : List ℕ)
+        → is_start calling (own_rows rows) letters text ≡ is_start calling rows letters text
+    start_so OwnName OfTail text = rw (known_so (after_digits text)) refl
+    start_so calling letters text = search rules
 
-  letter_so : (rows : List OptionRow) (letter : ℕ)
-      → option_lettered (own_rows rows) letter ≡ option_map own_takes (option_lettered rows letter)
-  letter_so rows letter = both_ways (λ own one. own ≡ option_map own_takes one) (nat_lt letter 128) (named_so rows (45 ∷ letter ∷ [])) refl
+    -- one word, and all
 
-  lettered_so : (place : ℕ) (rest : List ℕ) {own_others others : Result Meaning Fault} (option : Option Takes)
-      → own_others ≡ others
-      → lettered place rest own_others (option_map own_takes option) ≡ lettered place rest others option
-  lettered_so place rest None same = refl
-  lettered_so place rest (Some (takes.Nothing choice)) same = ap (before (bare choice place)) same
-  lettered_so place rest (Some (takes.Optional choice kind)) same = ap (before (bare choice place)) same
-  lettered_so place rest (Some other) same = refl
+    long_so : (place : ℕ) (word : List ℕ) (words : List (List ℕ)) (option : Result Takes UsageKind)
+        (value : Option (List ℕ)) → after_equals word ≡ value
+        → SpellAlike place (word ∷ words) (named place (own_found option) value) (named place option value)
+    long_so place word words (Ok (takes.Optional choice kind)) (Some text) is = elim (alike kind text) [
+      | inl same ↦ inl (ap (said place place) same)
+      | inr (fault, short) ↦ inr (place, 0, omega arith, ap (said place place) fault, (text, is, short))
+    ]
+    long_so place word words option value is = search rules
 
-  cluster_so : (rows : List OptionRow) (place : ℕ) (letters : List ℕ)
-      → cluster (own_rows rows) place letters ≡ cluster rows place letters
-  cluster_so rows place [] = refl
-  cluster_so rows place (letter ∷ rest) = rw (letter_so rows letter) (lettered_so place rest (option_lettered rows letter) (cluster_so rows place rest))
+    dashed_so : (place : ℕ) (word rest : List ℕ) (words : List (List ℕ))
+        → SpellAlike place (word ∷ words) (dashed (own_rows rows) place word rest) (dashed rows place word rest)
+    dashed_so place word [] words = inl refl
+    dashed_so place word (byte ∷ rest) words =
+        let name : List ℕ = before_first is_equals word in
+        rw (found_so rows name, begun_so name rows, full_so (option_named rows name) (beginning name rows))
+        (long_so place word words (option_called rows name) (after_equals word) refl)
 
-  -- a first word of digits and letters
+    mixed_so : (place : ℕ) (word : List ℕ) (words : List (List ℕ))
+        → SpellAlike place (word ∷ words) (mixed (own_rows rows) place word) (mixed rows place word)
+    mixed_so place [] words = inl refl
+    mixed_so place (byte ∷ []) words = inl refl
+    mixed_so place (byte ∷ next ∷ rest) words =
+        let Both : Result Meaning Fault → Result Meaning Fault → Type 0 = SpellAlike place ((byte ∷ next ∷ rest) ∷ words) in
+        both_ways Both (byte == 45) (both_ways Both (next == 45) (dashed_so place (byte ∷ next ∷ rest) rest words)
+        (inl (cluster_so place (next ∷ rest)))) (inl refl)
 
-  switch_so : (option : Option Takes) → is_switch (option_map own_takes option) ≡ is_switch option
-  switch_so (Some (takes.Optional choice kind)) = refl
-  switch_so (Some other) = refl
-  switch_so None = refl
+    meaning_so : (state : State) (place : ℕ) (word : List ℕ) (words : List (List ℕ))
+        → SpellAlike place (word ∷ words) (meaning_of (own_rows rows) state place word) (meaning_of rows state place word)
+    unfolding foremost
+    meaning_so (First calling kind letters) place [] words = inl refl
+    meaning_so (First calling kind letters) place (byte ∷ text) words =
+        let Both : Result Meaning Fault → Result Meaning Fault → Type 0 = SpellAlike place ((byte ∷ text) ∷ words) in
+        rw (known_so (after_digits text), start_so calling letters text, cluster_so place (others (after_digits text)))
+        (both_ways Both (byte == 45 && is_number text) (inl refl)
+        (both_ways Both (byte == 45 && is_lettered rows letters text) (inl refl)
+        (both_ways Both (byte == 43 && is_start calling rows letters text) (inl refl) (mixed_so place (byte ∷ text) words))))
+    meaning_so Reading place word words = mixed_so place word words
+    meaning_so other place word words = search rules
 
-  known_so : (rows : List OptionRow) (letters : List ℕ) → are_known (own_rows rows) letters ≡ are_known rows letters
-  known_so rows [] = refl
-  known_so rows (letter ∷ letters) = rw (named_so rows (45 ∷ letter ∷ []), switch_so (letter_named rows letter), known_so rows letters) refl
+    onward_so : (place : ℕ) (word : List ℕ) (words : List (List ℕ)) {own_rest rest : State → Result Given Fault}
+        (meant : Result Meaning Fault) → ((state : State) → SpellAlike (place + 1) words (own_rest state) (rest state))
+        → SpellAlike place (word ∷ words) (onward own_rest meant) (onward rest meant)
+    onward_so place word words (Err fault) after = inl refl
+    onward_so place word words (Ok meaning) after = elim (after meaning.next) [
+      | inl same ↦ inl (ap (given_before meaning.given) same)
+      | inr (at, number, is, fault, short) ↦ inr (at, suc number, omega arith, ap (given_before meaning.given) fault, short)
+    ]
 
-  is_lettered_so : (rows : List OptionRow) (letters : Letters) (text : List ℕ)
-      → is_lettered (own_rows rows) letters text ≡ is_lettered rows letters text
-  is_lettered_so rows OfHead text = rw (known_so rows (after_digits text)) refl
-  is_lettered_so rows Never text = refl
-  is_lettered_so rows OfTail text = refl
+    words_so : (words : List (List ℕ)) (place : ℕ) (state : State)
+        → SpellAlike place words (spelled (own_rows rows) words place state) (spelled rows words place state)
+    words_so [] place state = inl refl
+    words_so (word ∷ words) place state = elim (meaning_so state place word words) [
+      | inl same ↦ rw same (onward_so place word words (meaning_of rows state place word) (words_so words (place + 1)))
+      | inr (at, number, is, fault, short) ↦ inr (at, number, is, ap (onward (spelled rows words (place + 1))) fault, short)
+    ]
 
-  is_start_so : (calling : Calling) (rows : List OptionRow) (letters : Letters) (text : List ℕ)
-      → is_start calling (own_rows rows) letters text ≡ is_start calling rows letters text
-  is_start_so OwnName rows OfTail text = refl
-  is_start_so OwnName rows Never text = refl
-  is_start_so OwnName rows OfHead text = refl
-  is_start_so Cutters rows letters text = refl
-
-  switched_so : (place : ℕ) (option : Option Takes)
-      → switched place (option_map own_takes option) ≡ switched place option
-  switched_so place (Some (takes.Optional choice kind)) = refl
-  switched_so place (Some other) = refl
-  switched_so place None = refl
-
-  switches_so : (rows : List OptionRow) (place : ℕ) (letters : List ℕ)
-      → switches (own_rows rows) place letters ≡ switches rows place letters
-  switches_so rows place [] = refl
-  switches_so rows place (letter ∷ letters) = rw (named_so rows (45 ∷ letter ∷ []), switched_so place (letter_named rows letter), switches_so rows place letters) refl
-
-  -- one word
-
-  -- what this word means is the same, or `cutters` has this fault and the word a value that is cut short
-  abbrev AlikeWord : List ℕ → ℕ → Result Meaning Fault → Result Meaning Fault → Type 0
-  AlikeWord word place own cutters = IsAlike (HasShortValue values word) (Usage bad place) own cutters
-
-  dashed_so : (rows : List OptionRow) (place : ℕ) (rest : List ℕ)
-      → AlikeWord (45 ∷ 45 ∷ rest) place (dashed (own_rows rows) place rest) (dashed rows place rest)
-  dashed_so rows place [] = inl refl
-  dashed_so rows place (byte ∷ bytes) =
-      let word : List ℕ = 45 ∷ 45 ∷ byte ∷ bytes in
-      let name : List ℕ = before_first is_equals word in
-      rw (called_so rows name) (long_so place (option_called rows name) (after_equals word))
-
-  hyphens_so : (rows : List OptionRow) (place : ℕ) {byte next : ℕ} (rest : List ℕ) → byte ≡ 45 → next ≡ 45
-      → AlikeWord (byte ∷ next ∷ rest) place (dashed (own_rows rows) place rest) (dashed rows place rest)
-  hyphens_so rows place rest first second = rw (first, second) (dashed_so rows place rest)
-
-  mixed_so : (rows : List OptionRow) (place : ℕ) (word : List ℕ)
-      → AlikeWord word place (mixed (own_rows rows) place word) (mixed rows place word)
-  mixed_so rows place [] = inl refl
-  mixed_so rows place (byte ∷ []) = inl refl
-  mixed_so rows place (byte ∷ next ∷ rest) =
-      let Alike : Result Meaning Fault → Result Meaning Fault → Type 0 = AlikeWord (byte ∷ next ∷ rest) place in
-      either_way Alike (byte == 45)
-      (λ first. either_way Alike (next == 45)
-      (λ second. hyphens_so rows place rest (eqb-true byte 45 first) (eqb-true next 45 second))
-      (inl (cluster_so rows place (next ∷ rest))))
-      (inl refl)
-
-  foremost_so : (calling : Calling) (rows : List OptionRow) (kind : Kind) (letters : Letters) (place : ℕ)
-      (word : List ℕ)
-      → AlikeWord word place (foremost calling (own_rows rows) kind letters place word)
-      (foremost calling rows kind letters place word)
-  unfolding foremost
-  foremost_so calling rows kind letters place [] = inl refl
-  foremost_so calling rows kind letters place (byte ∷ text) =
-      let Alike : Result Meaning Fault → Result Meaning Fault → Type 0 = AlikeWord (byte ∷ text) place in
-      rw (is_lettered_so rows letters text, is_start_so calling rows letters text, switches_so rows place (after_digits text))
-      (both_ways Alike (byte == 45 && is_number text) (inl refl)
-      (both_ways Alike (byte == 45 && is_lettered rows letters text) (inl refl)
-      (both_ways Alike (byte == 43 && is_start calling rows letters text) (inl refl) (mixed_so rows place (byte ∷ text)))))
-
-  meaning_so : (rows : List OptionRow) (state : State) (place : ℕ) (word : List ℕ)
-      → AlikeWord word place (meaning_of (own_rows rows) state place word) (meaning_of rows state place word)
-  meaning_so rows (First calling kind letters) place word = foremost_so calling rows kind letters place word
-  meaning_so rows Reading place word = mixed_so rows place word
-  meaning_so rows (Awaiting kind option) place word = inl refl
-  meaning_so rows OnlyOperands place word = inl refl
-  meaning_so rows Ended place word = inl refl
-
-  -- all words
-
-  -- what they spell is the same, or `cutters` has this fault in one of them, in which a value is cut short
-  abbrev AreAlike : List (List ℕ) → ℕ → Result Given Fault → Result Given Fault → Type 0
-  AreAlike words place own cutters = (own ≡ cutters)
-      ⊎ ((number : ℕ) × (cutters ≡ Err (Usage bad (place + number))) × HasShortValue values (word_at words number))
-
-  onward_so : (word : List ℕ) (words : List (List ℕ)) (place : ℕ) (meant : Result Meaning Fault)
-      {own cutters : State → Result Given Fault}
-      → ((state : State) → AreAlike words (place + 1) (own state) (cutters state))
-      → AreAlike (word ∷ words) place (onward own meant) (onward cutters meant)
-  onward_so word words place (Err fault) rest = inl refl
-  onward_so word words place (Ok meaning) rest = elim (rest meaning.next) [
-    | inl same ↦ inl (ap (given_before meaning.given) same)
-    | inr (number, fault, short) ↦
-        inr (suc number, ap (given_before meaning.given) (fault ∙ ap (λ at. Err (Usage bad at)) (omega arith)), short)
-  ]
-
-  each_so : (rows : List OptionRow) (words : List (List ℕ)) (place : ℕ) (state : State)
-      → AreAlike words place (spelled (own_rows rows) words place state) (spelled rows words place state)
-  each_so rows [] place state = inl refl
-  each_so rows (word ∷ words) place state = elim (meaning_so rows state place word) [
-    | inl same ↦
-        rw same (onward_so word words place (meaning_of rows state place word) (each_so rows words (place + 1)))
-    | inr (fault, short) ↦
-        inr (0, ap (onward (spelled rows words (place + 1))) fault ∙ ap (λ at. Err (Usage bad at)) (omega arith), short)
-  ]
-
-  pub words_so : (rows : List OptionRow) (name : List ℕ) (words : List (List ℕ)) (state : State)
-      → (spelled (own_rows rows) words 1 state ≡ spelled rows words 1 state)
-      ⊎ IsRefused values bad (name ∷ words) (spelled rows words 1 state)
-  words_so rows name words state = elim (each_so rows words 1 state) [
-    | inl same ↦ inl same
-    | inr (number, fault, short) ↦ inr (suc number, fault ∙ ap (λ at. Err (Usage bad at)) (omega arith), short)
-  ]
+    pub alike_after : (name : List ℕ) (words : List (List ℕ)) (state : State)
+        → (spelled (own_rows rows) words 1 state ≡ spelled rows words 1 state)
+        ⊎ ((place : ℕ) × (spelled rows words 1 state ≡ Err (Usage bad place))
+        × HasShortValue values (word_at (name ∷ words) place))
+    alike_after name words state = elim (words_so words 1 state) [
+      | inl same ↦ inl same
+      | inr (at, number, is, fault, short) ↦ inr (suc number, fault ∙ ap (λ at. Err (Usage bad at)) (omega (arith, is)), short)
+    ]

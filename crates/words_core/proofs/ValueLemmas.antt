@@ -23,8 +23,7 @@ pub value_attached : (rows : List OptionRow) (letter : ℕ) (kind : Kind) (value
     (words : List (List ℕ)) (place : ℕ)
     → IsLetter rows letter kind → value ≢ [] → choice_in kind value ≡ Ok choice
     → Gives rows ((45 ∷ letter ∷ value) ∷ words) place choice (spelled rows words (place + 1) Reading)
-value_attached rows letter kind [] choice words place is some reads = absurd (some refl)
-value_attached rows letter kind (byte ∷ value) choice words place is some reads = search rules
+value_attached rows letter kind value choice words place is some reads = search rules
 
 -- A value in the word after its option.
 
@@ -91,15 +90,14 @@ long_name {rows} (byte ∷ name) place is =
 
 with_value : (takes : Takes) {kind : Kind} (place : ℕ) (value : List ℕ) → kind_of takes ≡ Some kind
     → named place (Ok takes) (Some value) ≡ valued kind place place value
-with_value (takes.Value kind) place value is = cc
-with_value (takes.Optional choice kind) place value is = cc
-with_value other place value is = absurd (cc)
+with_value takes place value is = search rules
 
 pub value_after_equals : (rows : List OptionRow) (name : List ℕ) (takes : Takes) (kind : Kind) (value : List ℕ)
     (choice : Choice) (words : List (List ℕ)) (place : ℕ)
     → IsLong rows name (Ok takes) → kind_of takes ≡ Some kind → choice_in kind value ≡ Ok choice
     → Gives rows ((45 ∷ 45 ∷ name ++ 61 ∷ value) ∷ words) place choice (spelled rows words (place + 1) Reading)
-value_after_equals rows name takes kind value choice words place is takes_one reads = rw (long_equals name value place is, with_value takes place value takes_one, reads)
+value_after_equals rows name takes kind value choice words place is takes_one reads =
+    rw (long_equals name value place is, with_value takes place value takes_one, reads)
 
 pub value_after_name : (rows : List OptionRow) (name : List ℕ) (kind : Kind) (value : List ℕ) (choice : Choice)
     (words : List (List ℕ)) (place : ℕ)
@@ -109,9 +107,7 @@ value_after_name rows name kind value choice words place is reads = awaited rows
 
 without_value : (takes : Takes) {choice : Choice} (place : ℕ) → alone takes ≡ Some choice
     → named place (Ok takes) None ≡ reading (bare choice place)
-without_value (takes.Nothing choice) place is = cc
-without_value (takes.Optional choice kind) place is = cc
-without_value other place is = absurd (cc)
+without_value takes place is = search rules
 
 pub long_alone : (rows : List OptionRow) (name : List ℕ) (takes : Takes) (choice : Choice) (words : List (List ℕ))
     (place : ℕ) → IsLong rows name (Ok takes) → alone takes ≡ Some choice

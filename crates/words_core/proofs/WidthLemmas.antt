@@ -22,6 +22,8 @@ least_within alphabet count (suc more) width = grind (arith, common_steps, least
 pub least_writes : (alphabet : Alphabet) (count more width : ℕ) → count ≤ name_count alphabet (width + more)
     → count ≤ name_count alphabet (least_from alphabet count more width)
 least_writes alphabet count zero width last = rw (let same : width + 0 ≡ width = omega arith in same) at last
-least_writes alphabet count (suc more) width last = cond_both (names_all alphabet count width) width (least_from alphabet count more (width + 1)) (λ found. count ≤ name_count alphabet found)
+least_writes alphabet count (suc more) width last =
+    cond_both (names_all alphabet count width) width (least_from alphabet count more (width + 1))
+    (λ found. count ≤ name_count alphabet found)
     (λ is. leb-true _ _ is)
     (λ _. least_writes alphabet count more (width + 1) (rw (let same : width + suc more ≡ width + 1 + more = omega arith in same) at last))

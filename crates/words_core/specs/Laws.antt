@@ -1,7 +1,7 @@
 -- Definitions for the laws: which options ask for what, and the operands among words.
 use Rattle.std.specs.{
-  Prelude.{◌≡◌, ◌≢◌, ◌↔◌, ℕ, ◌+◌, ◌<◌, ◌==◌, not, ◌&&◌, Bool, true, false, List, [], ◌∷◌, ◌++◌, All, length},
-  Prelude.{codes, if◌then◌else◌, Option, Some, None, Result, Ok, Err, ◌⊎◌},
+  Prelude.{◌≡◌, ◌≢◌, ◌↔◌, ℕ, ◌+◌, ◌≤◌, ◌==◌, not, ◌&&◌, Bool, true, false, List, [], ◌∷◌, ◌++◌, All, length},
+  Prelude.{codes, filter, if◌then◌else◌, Option, Some, None, Result, Ok, Err, ◌⊎◌},
   Char.is_ascii_digit,
   List.{Contains, list_all, list_any},
 }
@@ -9,7 +9,7 @@ use Rattle.seg_core.specs.{
   Count.value_of,
   declared.{
     count.{Count.Count, Sign.{Sign, TheVariants.{Plain, Plus}}},
-    unit.Unit.{Unit as Measured, TheVariants.Lines},
+    unit.Unit.Unit as Measured,
   },
 }
 use Rattle.ports_core.specs.declared.{
@@ -31,10 +31,10 @@ use Rattle.words_core.specs.{
   EndsWords.{EndsAsked, ten_lines},
   SplitWords.{SplitAsked, no_options},
   Given.{Given, GivenOperand, one_option},
-  Lettered.{is_start, unit_of},
+  Lettered.{is_start, is_unit},
   Refusal.word_at,
   Spelling.{after_equals, given_before, is_equals, spelled},
-  Table.{OptionRow, alone, option_called, option_named, tail_table, tee_table},
+  Table.{OptionRow, alone, option_called, option_lettered, tail_table, tee_table},
   TailWords.unfollowed,
   TeeWords.{TeeAsked, fresh},
   Value.{value_by, value_in, values_from},
@@ -179,8 +179,7 @@ Gives rows words place choice rest =
 
 -- the letter names an option that takes a value of this kind
 pub record IsLetter (rows : List OptionRow) (letter : ℕ) (kind : Kind) : Type 0 where
-  pub named : option_named rows (codes "-" ++ letter ∷ []) ≡ Some (takes.Value kind)
-  pub ascii : letter < 128
+  pub named : option_lettered rows letter ≡ Some (takes.Value kind)
   pub no_hyphen : letter ≢ 45
 
 -- a name after two hyphens, in full or cut short: what its option takes, or what is wrong with the name
@@ -211,28 +210,25 @@ LeaveTheRest rows first place state =
 -- the letter names an option that asks for this and takes no value within a cluster of letters
 pub record IsSwitch (rows : List OptionRow) (letter : ℕ) (choice : Choice) : Type 0 where
   pub takes : Takes
-  pub named : option_named rows (codes "-" ++ letter ∷ []) ≡ Some takes
+  pub named : option_lettered rows letter ≡ Some takes
   pub alone : alone takes ≡ Some choice
-  pub ascii : letter < 128
   pub no_hyphen : letter ≢ 45
 
--- each letter names an option that takes no value within a cluster, isn't a digit, and doesn't say what is counted
-abbrev pub AreSwitches : List OptionRow → List ℕ → Type 0
-AreSwitches rows letters = All (λ letter. (unit_of letter ≡ None) × (is_ascii_digit letter ≡ false)
-    × (choice : Choice) × IsSwitch rows letter choice) letters
+-- a text is these digits, perhaps none, and then these letters
+pub record IsParted (text digits letters : List ℕ) : Type 0 where
+  pub whole : text ≡ digits ++ letters
+  pub number : list_all is_ascii_digit digits ≡ true
+  pub others : All (λ letter. is_ascii_digit letter ≡ false) letters
 
--- A text has these digits, perhaps none, and after them the letters of these options and at most one letter that says
--- what is counted. Without such a letter lines are counted.
-pub data HasLetters (rows : List OptionRow) (text digits options : List ℕ) : Measured × ℕ → Type 0 where
-  of_lines : text ≡ digits ++ options → list_all is_ascii_digit digits ≡ true → AreSwitches rows options
-      → HasLetters rows text digits options (Lines, 1)
-  of_unit : (before : List ℕ) (letter : ℕ) (after : List ℕ) {unit : Measured × ℕ} → unit_of letter ≡ Some unit
-      → text ≡ digits ++ (before ++ letter ∷ after) → options ≡ before ++ after
-      → list_all is_ascii_digit digits ≡ true → AreSwitches rows options → HasLetters rows text digits options unit
+-- A text is these digits, perhaps none, and then these letters, of which at most one says what is counted. Each other
+-- letter names an option that takes no value within a cluster.
+pub record HasLetters (rows : List OptionRow) (text digits letters : List ℕ) : Type 0 where
+  pub parted : IsParted text digits letters
+  pub few : length (filter is_unit letters) ≤ 1
+  pub known : All (λ letter. (is_unit letter ≡ true) ⊎ ((choice : Choice) × IsSwitch rows letter choice)) letters
 
 abbrev pub IsNumberWithLetters : List OptionRow → List ℕ → Type 0
-IsNumberWithLetters rows text = (digits options : List ℕ) × (unit : Measured × ℕ)
-    × HasLetters rows text digits options unit
+IsNumberWithLetters rows text = (digits letters : List ℕ) × HasLetters rows text digits letters
 
 -- how many are counted: the number that the digits write, or ten without digits
 abbrev pub how_many : List ℕ → ℕ

@@ -1,6 +1,10 @@
 -- What a tool adds by its own name to a message that refuses words: which letter is no option, for which option a value
 -- was, or what a value may be. It follows from the words alone.
-use Rattle.std.specs.{Char.is_ascii_digit, Prelude.{ℕ, ◌-◌, ◌==◌, ◌||◌, nat_lt, Bool, true, false, List, [], ◌∷◌, ◌++◌, codes, is_some, take}, Prelude.{Option, Some, None, Result, Err, if◌then◌else◌, slice_index_or}}
+use Rattle.std.specs.{
+  Char.is_ascii_digit,
+  Prelude.{ℕ, ◌-◌, ◌==◌, ◌||◌, nat_lt, Bool, true, false, List, [], ◌∷◌, ◌++◌, codes, is_some, take},
+  Prelude.{Option, Some, None, Result, Err, if◌then◌else◌, slice_index_or},
+}
 use Rattle.ports_core.specs.{
   Text.in_quotes,
   declared.{
@@ -13,8 +17,8 @@ use Rattle.ports_core.specs.{
 }
 use Rattle.words_core.specs.{
   Given.Given,
-  Spelling.{given_by, option_lettered},
-  Table.{OptionRow, ToolRow, row_named, tools},
+  Spelling.given_by,
+  Table.{OptionRow, ToolRow, option_lettered, row_named, tools},
 }
 
 abbrev pub word_at : List (List ℕ) → ℕ → List ℕ

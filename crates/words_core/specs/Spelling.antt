@@ -1,11 +1,14 @@
 -- What the words after a tool's name spell: options with their values, and operands. What a word means depends on the
 -- state after the words before it. 43 is a `+`, 45 a hyphen, 61 `=`.
 use Rattle.std.specs.{
-  Prelude.{◌≡◌, ℕ, ◌+◌, ◌==◌, ◌&&◌, nat_lt, Bool, List, [], ◌∷◌, length, ◌⊎◌, Option, Some, None, Result, Ok, Err},
+  Prelude.{◌≡◌, ℕ, ◌+◌, ◌==◌, ◌&&◌, Bool, List, [], ◌∷◌, length, ◌⊎◌, Option, Some, None, Result, Ok, Err},
   Prelude.if◌then◌else◌,
   List.{before_first, after_first, position_or_len},
 }
-use Rattle.seg_core.specs.{Count.is_number, declared.count.Sign.TheVariants.{Plain, Plus}}
+use Rattle.seg_core.specs.{
+  Count.{after_digits, is_number, leading_digits},
+  declared.{count.{Count.Count, Sign.{Sign, TheVariants.{Plain, Plus}}}, unit.Unit.Unit as Measured},
+}
 use Rattle.ports_core.specs.declared.{
   calling.Calling.Calling,
   fault.{
@@ -14,14 +17,14 @@ use Rattle.ports_core.specs.declared.{
   },
 }
 use Rattle.words_core.specs.{
-  declared.choice.{Choice.{Choice, TheVariants.About}, Kind.Kind},
+  declared.choice.{Choice.{Choice, TheVariants.{About, Amount}}, Kind.Kind},
   declared.settings.Topic.Topic,
   declared.table.{Letters.Letters, Takes.Takes},
   declared.spelling.State.{State, TheVariants.{First, Reading, Awaiting, OnlyOperands, Ended}},
-  Table.{OptionRow, ToolRow, option_called, option_named},
+  Table.{OptionRow, ToolRow, option_called, option_lettered},
   Choice.choice_in,
   Value.then_check,
-  Lettered.{is_lettered, is_start, with_letters},
+  Lettered.{is_lettered, is_start, others, times, unit_in},
   Given.{Given, nothing, bare, one_option, one_operand, joined},
 }
 use Rattle.words_core.specs.declared.table.Takes.TheVariants as takes
@@ -52,9 +55,6 @@ said option place (Err fault) = Err (Usage fault place)
 
 abbrev pub valued : Kind → ℕ → ℕ → List ℕ → Result Meaning Fault
 valued kind option place text = said option place (choice_in kind text)
-
-abbrev pub option_lettered : List OptionRow → ℕ → Option Takes
-option_lettered rows letter = if nat_lt letter 128 then option_named rows (45 ∷ letter ∷ []) else None
 
 abbrev pub attached : Kind → ℕ → List ℕ → Result Meaning Fault
 attached kind place [] = awaiting kind place
@@ -95,22 +95,31 @@ long rows place word = named place (option_called rows (before_first is_equals w
 
 -- A word that may be an option or an operand. `--` ends the options, and a hyphen alone is an operand.
 
-abbrev pub dashed : List OptionRow → ℕ → List ℕ → Result Meaning Fault
-dashed rows place [] = Ok (record { given = nothing; next = OnlyOperands })
-dashed rows place (byte ∷ bytes) = long rows place (45 ∷ 45 ∷ byte ∷ bytes)
+-- a word that begins with two hyphens, by what follows these
+abbrev pub dashed : List OptionRow → ℕ → List ℕ → List ℕ → Result Meaning Fault
+dashed rows place word [] = Ok (record { given = nothing; next = OnlyOperands })
+dashed rows place word (byte ∷ bytes) = long rows place word
 
 abbrev pub mixed : List OptionRow → ℕ → List ℕ → Result Meaning Fault
 mixed rows place [] = reading (one_operand [] place)
 mixed rows place (byte ∷ []) = reading (one_operand (byte ∷ []) place)
 mixed rows place (byte ∷ next ∷ rest) =
     if byte == 45
-    then (if next == 45 then dashed rows place rest else cluster rows place (next ∷ rest))
+    then (if next == 45 then dashed rows place (byte ∷ next ∷ rest) rest else cluster rows place (next ∷ rest))
     else reading (one_operand (byte ∷ next ∷ rest) place)
 
--- what the word at this place gives, or its fault
-abbrev pub given_at : ℕ → Result Given UsageKind → Result Meaning Fault
-given_at place (Ok given) = reading given
-given_at place (Err fault) = Err (Usage fault place)
+-- A number with letters gives a count, and then what its other letters give after a hyphen. `-5cq` gives what `-c 5 -q`
+-- gives.
+
+abbrev pub counted_with : ℕ → Measured → Result Count UsageKind → Result Meaning Fault → Result Meaning Fault
+counted_with place unit (Ok count) more = before (one_option (Amount unit count) place) more
+counted_with place unit (Err fault) more = Err (Usage fault place)
+
+abbrev pub with_letters : List OptionRow → Sign → ℕ → List ℕ → Result Meaning Fault
+with_letters rows sign place text =
+    let letters = after_digits text in
+    counted_with place (unit_in letters).0 (times sign (leading_digits text) (unit_in letters).1)
+    (cluster rows place (others letters))
 
 -- The first word may be a hyphen and digits: then the digits are the value of an option of this kind. Letters may
 -- follow the digits. After a `+` digits and letters may say where `tail` begins.
@@ -118,8 +127,8 @@ unfoldable pub foremost : Calling → List OptionRow → Kind → Letters → �
 foremost calling rows kind letters place [] = mixed rows place []
 foremost calling rows kind letters place (byte ∷ text) =
     if byte == 45 && is_number text then valued kind place place text
-    else (if byte == 45 && is_lettered rows letters text then given_at place (with_letters rows Plain place text)
-    else (if byte == 43 && is_start calling rows letters text then given_at place (with_letters rows Plus place text)
+    else (if byte == 45 && is_lettered rows letters text then with_letters rows Plain place text
+    else (if byte == 43 && is_start calling rows letters text then with_letters rows Plus place text
     else mixed rows place (byte ∷ text)))
 
 -- what a word at this place means in a state; a word that an option awaits is its value, whatever it begins with

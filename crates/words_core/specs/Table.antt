@@ -5,7 +5,7 @@
 -- `--looks` is of these tools alone.
 use Rattle.std.specs.{
   Prelude.{ℕ, Bool, true, false, List, [], ◌∷◌, map, filter, codes, Option, Some, None, Result, Ok, Err},
-  Prelude.{if◌then◌else◌, eqb, bytes_eq},
+  Prelude.{if◌then◌else◌, eqb, bytes_eq, nat_lt},
   List.starts_with,
 }
 use Rattle.ports_core.specs.declared.{
@@ -242,6 +242,10 @@ is_among (known ∷ names) name = if bytes_eq known name then true else is_among
 abbrev pub option_named : List OptionRow → List ℕ → Option Takes
 option_named [] name = None
 option_named (row ∷ rows) name = if is_among row.names name then Some row.takes else option_named rows name
+
+-- the option of this letter; letters are ASCII, and 45 is a hyphen
+abbrev pub option_lettered : List OptionRow → ℕ → Option Takes
+option_lettered rows letter = if nat_lt letter 128 then option_named rows (45 ∷ letter ∷ []) else None
 
 -- what an option asks for that may stand without a value, among letters too
 abbrev pub alone : Takes → Option Choice

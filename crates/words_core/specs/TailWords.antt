@@ -41,8 +41,8 @@ retry_by retry Retry = true
 retry_by retry choice = retry
 
 -- whether standard input is among the inputs
-abbrev pub has_hyphen : List (List ℕ) → Bool
-has_hyphen names = list_any (λ name. bytes_eq name (codes "-")) names
+abbrev pub has_dash : List (List ℕ) → Bool
+has_dash names = list_any (λ name. bytes_eq name (codes "-")) names
 
 abbrev pub bad_follow : {A : Type 0} → Result A Fault
 bad_follow = Err (Usage BadFollow 0)
@@ -51,11 +51,11 @@ bad_follow = Err (Usage BadFollow 0)
 -- has none, isn't among them.
 
 abbrev pub by_file : List (List ℕ) → Calling → Result (Option Followed) Fault
-by_file (name ∷ next ∷ names) Cutters = if has_hyphen (name ∷ next ∷ names) then bad_follow else Ok (Some Descriptor)
+by_file (name ∷ next ∷ names) Cutters = if has_dash (name ∷ next ∷ names) then bad_follow else Ok (Some Descriptor)
 by_file names calling = Ok (Some Descriptor)
 
 abbrev pub by_name : Followed → List (List ℕ) → Result (Option Followed) Fault
-by_name how names = if has_hyphen names then bad_follow else Ok (Some how)
+by_name how names = if has_dash names then bad_follow else Ok (Some how)
 
 -- By `cutters` names are followed just where one that leads nowhere is looked for again. By its own name `tail` drops
 -- such a name where it isn't looked for; a file that is followed may be looked for too, until it is there; and looking
@@ -84,4 +84,4 @@ tail_asked calling given =
 -- standard input is a file that can be watched.
 abbrev pub followed_by : Calling → (fed : Bool) → TailSettings → Option Followed
 followed_by OwnName true asked = asked.followed
-followed_by calling fed asked = if has_hyphen asked.ends.names then None else asked.followed
+followed_by calling fed asked = if has_dash asked.ends.names then None else asked.followed

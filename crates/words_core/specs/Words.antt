@@ -22,7 +22,7 @@ use Rattle.words_core.specs.{
   EndsWords.ends_asked,
   SplitWords.{CanSplit, split_asked},
   Value.then_check,
-  TailWords.{followed_by, has_hyphen, tail_asked},
+  TailWords.{followed_by, has_dash, tail_asked},
   TeeWords.tee_asked,
 }
 use Rattle.ports_core.specs.declared.tool.Tool.TheVariants as tool
@@ -97,7 +97,7 @@ follows calling fed settings = false
 
 -- whether it matters if standard input is a file that can be watched
 abbrev pub asks_input : Calling → Settings → Bool
-asks_input OwnName (Tail asked) = is_followed asked.followed && has_hyphen asked.ends.names
+asks_input OwnName (Tail asked) = is_followed asked.followed && has_dash asked.ends.names
 asks_input calling settings = false
 
 -- how often inputs are looked at where they are followed

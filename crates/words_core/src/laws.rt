@@ -15,30 +15,30 @@ ghost use Rattle.words_core.specs.{
     table.Letters.TheVariants.{OfHead, OfTail},
   },
   Called.{IsCalled, calling_of, words_of},
-  Given.{Given, asked_by, GivenOperand, bare, joined, one_operand, one_option},
+  Given.{Given, asked_by, GivenOperand, bare, one_operand, one_option},
   Division.{division_in, way_of_division},
   Choice.choice_in,
   CsplitWords.{chosen_by, decimal_form, style_of},
   Format.{Format, format_in},
-  Laws.{AreAlike, AreAmong, AreNames, CsplitAsks, EndsAsk, FollowAsks, Gives, HasLetters, IsLetter, IsLong},
+  Laws.{AreAlike, AreAmong, AreNames, CsplitAsks, EndsAsk, FollowAsks, Gives, HasLetters, IsLetter, IsLong, IsParted},
   Laws.{IsNumberWithLetters, IsSwitch, IsTold, LastDecides, LeaveTheRest, MeanTheSame, NumberAsks, OnBrokenAsks},
-  Laws.{AreCutShort, RefusedAsShort, RefusedBut, SplitAsks, StartAsks, TeeAsks, amount_of, appends, as_operands, as_wide, begin_with_start, counts},
-  Laws.{by_own_name, counts_looks, counts_pause, drops_sizes, elides_files, ends_with_zero, following, fresh_file, gives_ending},
+  Laws.{AreCutShort, RefusedAsShort, RefusedBut, SplitAsks, StartAsks, TeeAsks, amount_of, appends, as_operands},
+  Laws.{as_wide, begin_with_start, by_own_name, counts, counts_looks, counts_pause, drops_sizes, elides_files},
+  Laws.{ends_with_zero, following, fresh_file, gives_ending},
   Laws.{gives_format, has, heads, how_many, is_plain, keeps_files, kind_of, leave_open, leaves_lines_out, names_prefix},
   Laws.{names_process, plain_style, retries, says_followed, says_on_broken, separates, spells, tells_of_files},
   Laws.{ten_of_input, thousands, widens},
   EndsWords.{ends_of, ten_lines},
-  Lettered.{is_lettered, is_start, with_letters},
+  Lettered.{is_lettered, is_start, others, unit_in},
   SplitWords.{SplitAsked, is_way, least_width, split_asked, split_of, way_in, way_of, separator_in},
-  Spelling.{cluster, given_at, given_before, mixed, onward, reading, spelled},
+  Spelling.{cluster, counted_with, given_before, mixed, onward, spelled, with_letters},
   Table.{OptionRow, alone, beginning, begins_one, head_table, option_called, option_named, tail_table, tools},
   TailWords.{retry_by, tail_of, unfollowed},
   TeeWords.{tee_asked, tee_of},
-  Value.{byte_in, counted, ending_in, follow_values, hex_in, on_broken_values, pause_in, size_in, then_check, up_to},
+  Value.{byte_in, counted, ending_in, follow_values, hex_in, on_broken_values, pause_in, size_in, up_to},
   Words.{settings_for, settings_of, tool_named},
 };
 ghost use Rattle.seg_core.specs.{
-  declared.unit.Unit.Unit as Measured,
   Count.{count_of, digits_of, is_number, sized, value_of},
 };
 
@@ -310,11 +310,11 @@ pub fn number_comes_first()
     ensures letters { (calling : Calling) (rows : List OptionRow) (kind : Kind) (letters : Letters) (text : List ℕ)
         (words : List (List ℕ)) (place : ℕ) → is_number text ≡ false → is_lettered rows letters text ≡ true
         → spelled rows ((codes "-" ++ text) ∷ words) place (State.First calling kind letters)
-        ≡ onward (spelled rows words (place + 1)) (given_at place (with_letters rows Sign.Plain place text)) }
+        ≡ onward (spelled rows words (place + 1)) (with_letters rows Sign.Plain place text) }
     ensures start { (calling : Calling) (rows : List OptionRow) (kind : Kind) (letters : Letters) (text : List ℕ)
         (words : List (List ℕ)) (place : ℕ) → is_start calling rows letters text ≡ true
         → spelled rows ((codes "+" ++ text) ∷ words) place (State.First calling kind letters)
-        ≡ onward (spelled rows words (place + 1)) (given_at place (with_letters rows Sign.Plus place text)) }
+        ≡ onward (spelled rows words (place + 1)) (with_letters rows Sign.Plus place text) }
 {}
 
 /// A number with letters as the first word, also after a `+`, asks for a count: the number that its digits write, or
@@ -323,14 +323,12 @@ pub fn number_comes_first()
 /// form that has digits is read.
 #[tactic(auto, unfolding(crate::specs::Spelling::foremost, crate::specs::Table::tools))]
 pub fn letters_ask()
-    ensures asks { (rows : List OptionRow) (sign : Sign) (text digits options : List ℕ) (unit : Measured × ℕ)
-        (place : ℕ) (given : Given) → HasLetters rows text digits options unit
-        → cluster rows place options ≡ reading given
-        → with_letters rows sign place text ≡ then_check (counted (sized sign (how_many digits * unit.1)))
-        (λ count. Ok (joined (one_option (Choice.Amount unit.0 count) place) given)) }
+    ensures asks { (rows : List OptionRow) (sign : Sign) (text digits letters : List ℕ) (place : ℕ)
+        → IsParted text digits letters → with_letters rows sign place text
+        ≡ counted_with place (unit_in letters).0 (counted (sized sign (how_many digits * (unit_in letters).1)))
+        (cluster rows place (others letters)) }
     ensures head { (text : List ℕ) → (is_lettered head_table OfHead text ≡ true)
-        ↔ ((digits options : List ℕ) × (unit : Measured × ℕ) × (digits ≢ [])
-        × HasLetters head_table text digits options unit) }
+        ↔ ((digits letters : List ℕ) × (digits ≢ []) × HasLetters head_table text digits letters) }
     ensures tail { (calling : Calling) (text : List ℕ) → is_lettered (tail_table calling) OfTail text ≡ true
         → IsNumberWithLetters (tail_table calling) text }
     ensures start { (text : List ℕ) → is_start Calling.OwnName (tail_table Calling.OwnName) OfTail text ≡ true

@@ -1,20 +1,18 @@
 //! A number with letters as the first word: after a hyphen, as `-5c` of `head` and `-20f` of `tail`, or after a `+`, as
 //! `+5` of `tail` (GNU's, from before POSIX).
-ghost use Rattle.std.specs.Prelude.{◌≡◌, ◌+◌, ◌-◌, ◌^◌, ◌==◌, IfErr, IfOk, filter, if◌then◌else◌, length, map, min};
+ghost use Rattle.std.specs.Prelude.{◌≡◌, ◌+◌, ◌-◌, ◌^◌, ◌==◌, if◌then◌else◌, length, map, min, true};
 ghost use Rattle.seg_core.specs.Count.{after_digits, leading_digits, value_of};
 ghost use Rattle.words_core.specs.{
-  Given.joined,
   inner.Spelling.Adds,
-  Lettered.{are_known, are_of_tail, is_known, is_lettered, is_start, is_switch, is_unit, letter_named, switched},
-  Lettered.{switches, times, unit_in, unit_of, with_letters},
-  Spelling.{given_at, reading},
-  Table.row_seen,
+  Lettered.{are_known, are_of_tail, is_lettered, is_start, is_taken, others, switched, times, unit_in, unit_of},
+  Spelling.{cluster, with_letters},
+  Table.{option_lettered, row_seen},
 };
 
 use crate::choice::Choice;
 use crate::spelled::Spelled;
 use crate::spelling::{State, is_number};
-use crate::table::{Letters, OptionRow, Takes, find_option, is_among};
+use crate::table::{Letters, OptionRow, Takes, find_letter, is_among};
 use ports_core::{Calling, Fault, UsageKind};
 use seg_core::count::{Count, Sign};
 use seg_core::digits::{GREATEST, leading_number};
@@ -27,11 +25,18 @@ const TEN: u64 = 10;
 pub fn is_lettered(rows: &[OptionRow], letters: Letters, text: &[u8]) -> bool
     ensures { result ≡ is_lettered (map row_seen rows.now) letters text.now }
 {
+    are_known(rows, after_digits(text)) && is_taken(letters, text)
+}
+
+/// Whether a tool that takes these letters takes this text.
+fn is_taken(letters: Letters, text: &[u8]) -> bool
+    ensures { result ≡ is_taken letters text.now }
+{
     let rest = after_digits(text);
     let has_digits = rest.len() < text.len();
     match letters {
         Letters::Never => false,
-        Letters::OfHead => has_digits && count_units(rest) < 2 && are_known(rows, rest),
+        Letters::OfHead => has_digits,
         Letters::OfTail => {
             are_of_tail(rest) && (has_digits || is_among(&["b", "bf", "l", "lf"], text))
         }
@@ -44,7 +49,8 @@ pub fn is_start(calling: Calling, rows: &[OptionRow], letters: Letters, text: &[
 {
     match (calling, letters) {
         (Calling::OwnName, Letters::OfTail) => {
-            is_number(text) || is_lettered(rows, letters, text) || is_among(&["c", "cf"], text)
+            are_known(rows, after_digits(text))
+                && (is_number(text) || is_taken(letters, text) || is_among(&["c", "cf"], text))
         }
         _ => false,
     }
@@ -59,42 +65,30 @@ fn after_digits(text: &[u8]) -> &[u8]
     &text[end..]
 }
 
-/// How many of these letters say what is counted.
-fn count_units(letters: &[u8]) -> usize
-    ensures { result ≡ length (filter is_unit letters.now) }
-{
-    let mut units = 0;
-    for letter in letters {
-        if unit_of(*letter).is_some() {
-            units += 1;
-        }
-    }
-    units
-}
-
-/// Whether each of these letters says what is counted, or names an option without a value.
+/// Whether each of these letters says what is counted, or names an option that may stand without a value, and at most one
+/// says what is counted.
 fn are_known(rows: &[OptionRow], letters: &[u8]) -> bool
     ensures { result ≡ are_known (map row_seen rows.now) letters.now }
 {
+    let mut units = 0usize;
     for letter in letters {
-        if !is_known(rows, *letter) {
+        if unit_of(*letter).is_some() {
+            units += 1;
+        } else if find_switch(rows, *letter).is_none() {
             return false;
         }
     }
-    true
+    units < 2
 }
 
-fn is_known(rows: &[OptionRow], letter: u8) -> bool
-    ensures { result ≡ is_known (map row_seen rows.now) letter }
+/// What the option of this letter asks for, if it may stand without a value.
+fn find_switch(rows: &[OptionRow], letter: u8) -> Option<Choice<'static>>
+    ensures { result ≡ switched (option_lettered (map row_seen rows.now) letter) }
 {
-    unit_of(letter).is_some() || is_switch(rows, letter)
-}
-
-/// Whether a letter names an option without a value.
-fn is_switch(rows: &[OptionRow], letter: u8) -> bool
-    ensures { result ≡ is_switch (letter_named (map row_seen rows.now) letter) }
-{
-    matches!(find_option(rows, &[b'-', letter]), Some(Takes::Nothing(_)))
+    match find_letter(rows, letter) {
+        Some(Takes::Nothing(choice) | Takes::Optional(choice, _)) => Some(choice),
+        _ => None,
+    }
 }
 
 fn are_of_tail(letters: &[u8]) -> bool
@@ -152,7 +146,7 @@ fn times(sign: Sign, text: &[u8], each: u64) -> Result<Count, UsageKind>
     }
 }
 
-/// Reads a number with letters: the count, and an option for each letter that doesn't say what is counted.
+/// Reads a number with letters: the count, and the option of each letter that doesn't say what is counted.
 pub fn read_lettered<'a>(
     rows: &[OptionRow],
     sign: Sign,
@@ -160,8 +154,8 @@ pub fn read_lettered<'a>(
     text: &[u8],
     spelled: &mut Spelled<'a>,
 ) -> Result<State, Fault>
-    ensures { Adds (given_at place
-        (with_letters (map row_seen rows.now) sign place text.now)) spelled.old spelled.new result }
+    requires { are_known (map row_seen rows.now) (after_digits text.now) ≡ true }
+    ensures { Adds (with_letters (map row_seen rows.now) sign place text.now) spelled.old spelled.new result }
 {
     let letters = after_digits(text);
     let (unit, each) = unit_in(letters);
@@ -174,38 +168,23 @@ pub fn read_lettered<'a>(
     }
 }
 
-/// Adds an option for each letter that doesn't say what is counted.
+/// Adds the option of each letter that doesn't say what is counted.
 fn add_switches<'a>(
     rows: &[OptionRow],
     place: usize,
     letters: &[u8],
     spelled: &mut Spelled<'a>,
 ) -> Result<State, Fault>
-    ensures { Adds (reading (switches (map row_seen rows.now) place letters.now)) spelled.old spelled.new result }
+    requires { are_known (map row_seen rows.now) letters.now ≡ true }
+    ensures { Adds (cluster (map row_seen rows.now) place (others letters.now)) spelled.old spelled.new result }
 {
     for letter in letters {
-        if unit_of(*letter).is_none() {
-            add_switch(rows, place, *letter, spelled)?;
+        if unit_of(*letter).is_some() {
+            continue;
+        }
+        if let Some(choice) = find_switch(rows, *letter) {
+            spelled.add_option(choice, place)?;
         }
     }
     Ok(State::Reading)
-}
-
-/// Adds the option of this letter, if there is such an option.
-fn add_switch<'a>(
-    rows: &[OptionRow],
-    place: usize,
-    letter: u8,
-    spelled: &mut Spelled<'a>,
-) -> Result<(), Fault>
-    ensures ok { IfOk result (λ _. spelled.new
-        ≡ joined spelled.old (switched place (letter_named (map row_seen rows.now) letter))) }
-    ensures err { IfErr result (λ fault. fault ≡ Fault.Memory) }
-{
-    match find_option(rows, &[b'-', letter]) {
-        Some(Takes::Nothing(choice) | Takes::Optional(choice, _)) => {
-            spelled.add_option(choice, place)
-        }
-        _ => Ok(()),
-    }
 }

@@ -4,12 +4,11 @@ ghost use Rattle.ports_core.specs.Text.{in_quotes};
 ghost use Rattle.words_core.specs.{
   Refusal.{detail_of, end_with_option, for_follow, for_option, letters_of, quoted_letter, row_of, unknown_among},
   Refusal.{unknown_letter, word_at},
-  Spelling.option_lettered,
   Table.{row_seen, tool_seen},
 };
 
 use crate::spelling::read_given;
-use crate::table::{OptionRow, Takes, ToolRow, all_tools, find_option, find_row};
+use crate::table::{OptionRow, ToolRow, all_tools, find_letter, find_row};
 use ports_core::{Calling, Fault, UsageKind, write_quoted};
 use std::alloc::{AllocError, Global};
 
@@ -92,16 +91,6 @@ fn unknown_among(alloc: Global, rows: &[OptionRow], letters: &[u8]) -> Result<Ve
         }
     }
     Ok(Vec::new(alloc))
-}
-
-/// What the option of this letter takes and asks for.
-fn find_letter(rows: &[OptionRow], letter: u8) -> Option<Takes>
-    ensures { result ≡ option_lettered (map row_seen rows.now) letter }
-{
-    if letter.is_ascii() {
-        return find_option(rows, &[b'-', letter]);
-    }
-    None
 }
 
 fn quoted_letter(alloc: Global, letter: u8) -> Result<Vec<u8>, AllocError>

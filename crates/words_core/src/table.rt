@@ -5,8 +5,8 @@
 //! these tools alone.
 ghost use Rattle.std.specs.Prelude.{◌≡◌, [], ◌∷◌, map, option_map, IfNone, IfSome};
 ghost use Rattle.words_core.specs.{
-  Table.{beginning, begins_one, is_among, only_one, option_called, option_named, program_table, row_named, row_seen},
-  Table.{tool_seen, tools},
+  Table.{beginning, begins_one, is_among, only_one, option_called, option_lettered, option_named, program_table},
+  Table.{row_named, row_seen, tool_seen, tools},
 };
 
 use crate::choice::{Choice, Kind};
@@ -531,6 +531,16 @@ pub fn find_option(rows: &[OptionRow], name: &[u8]) -> Option<Takes>
         if is_among(row.names, name) {
             return Some(row.takes);
         }
+    }
+    None
+}
+
+/// What the option of this letter takes and asks for.
+pub fn find_letter(rows: &[OptionRow], letter: u8) -> Option<Takes>
+    ensures { result ≡ option_lettered (map row_seen rows.now) letter }
+{
+    if letter.is_ascii() {
+        return find_option(rows, &[b'-', letter]);
     }
     None
 }

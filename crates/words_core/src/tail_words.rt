@@ -3,7 +3,7 @@
 ghost use Rattle.std.specs.Prelude.{◌≡◌, map};
 ghost use Rattle.words_core.specs.{
   Spelling.Reads,
-  TailWords.{by_file, by_name, followed_by, followed_in, has_hyphen, retry_by, tail_asked, tail_by, unfollowed},
+  TailWords.{by_file, by_name, followed_by, followed_in, has_dash, retry_by, tail_asked, tail_by, unfollowed},
   Choice.seen,
 };
 
@@ -57,7 +57,7 @@ impl TailSettings<'_> {
     {
         match (calling, fed) {
             (Calling::OwnName, true) => self.followed,
-            _ if has_hyphen(&self.ends.names) => None,
+            _ if has_dash(&self.ends.names) => None,
             _ => self.followed,
         }
     }
@@ -137,7 +137,7 @@ fn follow_files(names: &[&str], calling: Calling) -> Result<Option<Followed>, Fa
     ensures { result ≡ by_file (map (λ name. name.now) names.now) calling }
 {
     match (names, calling) {
-        ([_, _, ..], Calling::Cutters) if has_hyphen(names) => Err(BAD_FOLLOW),
+        ([_, _, ..], Calling::Cutters) if has_dash(names) => Err(BAD_FOLLOW),
         _ => Ok(Some(Followed::Descriptor)),
     }
 }
@@ -146,15 +146,15 @@ fn follow_files(names: &[&str], calling: Calling) -> Result<Option<Followed>, Fa
 fn follow_names(how: Followed, names: &[&str]) -> Result<Option<Followed>, Fault>
     ensures { result ≡ by_name how (map (λ name. name.now) names.now) }
 {
-    if has_hyphen(names) {
+    if has_dash(names) {
         return Err(BAD_FOLLOW);
     }
     Ok(Some(how))
 }
 
 /// Whether standard input is among the inputs.
-pub(crate) fn has_hyphen(names: &[&str]) -> bool
-    ensures { result ≡ has_hyphen (map (λ name. name.now) names.now) }
+pub(crate) fn has_dash(names: &[&str]) -> bool
+    ensures { result ≡ has_dash (map (λ name. name.now) names.now) }
 {
     for name in names {
         if *name == STANDARD_INPUT {

@@ -15,7 +15,7 @@ use crate::spelled::{Chosen, Spelled};
 use crate::spelling::read_given;
 use crate::split_words::settle_split;
 use crate::table::{Takes, all_tools, find_option, find_row, program_options};
-use crate::tail_words::{has_hyphen, settle_tail};
+use crate::tail_words::{has_dash, settle_tail};
 use crate::tee_words::settle_tee;
 use crate::value::MOST_LOOKS;
 use ports_core::{Calling, Fault, Tool, UsageKind};
@@ -86,7 +86,7 @@ impl Settings<'_> {
     {
         match (calling, self) {
             (Calling::OwnName, Settings::Tail(settings)) => {
-                settings.followed.is_some() && has_hyphen(&settings.ends.names)
+                settings.followed.is_some() && has_dash(&settings.ends.names)
             }
             _ => false,
         }

@@ -9,7 +9,7 @@ use Rattle.mem_core.specs.MemWatchState.{is_fed}
 use Rattle.watch_core.specs.{Snapshot.Snapshot, Watched.Watched}
 use Rattle.words_core.specs.{
   EndsWords.EndsAsked,
-  TailWords.has_hyphen,
+  TailWords.has_dash,
   Words.settings_of,
   declared.{settings.Settings.TheVariants.Tail, value.Followed.{Followed, TheVariants.Descriptor}},
 }
@@ -36,7 +36,7 @@ grown_so : AreRuns → TellAll → (fed : Bool) (words : List (List ℕ)) (laid 
     → old ≡ source_of (unshown []) ∷ [] → ProgramEnds Cutters fed true true true words laid old sources shows seen watched outs status → status ≡ 0
     → (options : EndsAsked) (name came : List ℕ) (file n pause : ℕ)
     → settings_of Cutters words ≡ Ok (Tail (record { ends = options; followed = Some Descriptor; looks = n + 1; pause = pause; process = None }))
-    → has_hyphen options.names ≡ false → IsBare options → options.names ≡ name ∷ []
+    → has_dash options.names ≡ false → IsBare options → options.names ≡ name ∷ []
     → ((count : ℕ) → OnlyGrows count shows name file) → (shows n).holds file ≡ (shows 0).holds file ++ came
     → (slot_at outs 0).written ≡ tail_of options.delim options.unit (is_plus options.count.sign) options.count.amount ((shows 0).holds file) ++ came
 grown_so law tells fed words laid old sources shows seen watched outs status fresh ends well options name came file n pause read no_input bare named grows held =

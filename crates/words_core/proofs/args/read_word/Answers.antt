@@ -14,4 +14,5 @@ returns-in-Ok c =
 pub returns-in-Ok-marked : goal.returns-in-Ok-marked
 returns-in-Ok-marked c =
     let bytes = c.as_bytes.ensures ∙ ap (λ bytes. bytes.items) c.in-Err.ensures.err in
-    marked_is c.args.tool _ (sym c.reads_any.ensures ∙ c.if-reads_any.true) (λ text. absurd (false≢true (c.in-Err.ensures.succeeds text))) (rw bytes at c.in-Ok-marked.ensures)
+    marked_is c.args.tool _ (sym c.reads_any.ensures ∙ c.if-reads_any.true)
+    (λ text. absurd (false≢true (c.in-Err.ensures.succeeds text))) (rw bytes at c.in-Ok-marked.ensures)

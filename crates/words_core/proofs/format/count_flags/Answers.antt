@@ -8,4 +8,5 @@ returns-then-not-is_flag c = grind (arith, common_steps, prefix_len_is)
 pub returns : goal.returns
 returns c =
     let text = c.args.text.now in
-    sym (prefix_len_is is_flag text (length text) 0 (omega arith) (λ k h. c.loop-place.invariant k (omega arith)) (λ (h : length text < length text). absurd (omega arith)))
+    sym (prefix_len_is is_flag text (length text) 0 (omega arith) (λ k h. c.loop-place.invariant k (omega arith))
+    (λ (h : length text < length text). absurd (omega arith)))

@@ -7,4 +7,5 @@ returns-clause-value c = grind (arith, common_steps, letter_clipped)
 
 pub returns-clause-after : goal.returns-clause-after
 returns-clause-after c = some_too c.read_letter.result (λ read is.
-    after_slice c.leading_number-width.result.1 c.args.text.now (after_letter_of_precision _ (rw c.read_precision-precision.ensures.rest at is))) c.read_letter.ensures.after
+    after_slice c.leading_number-width.result.1 c.args.text.now (after_letter_of_precision _
+    (rw c.read_precision-precision.ensures.rest at is))) c.read_letter.ensures.after

@@ -13,7 +13,8 @@ HasBeginning start names = (rest : List ℕ) × Contains names (start ++ rest)
 begins_by : (start name : List ℕ) (names : List (List ℕ)) (test : Bool) → starts_with eqb name start ≡ test
     → (if test then true else begins_one start names) ≡ true
     → (begins_one start names ≡ true → HasBeginning start names) → HasBeginning start (name ∷ names)
-begins_by start name names true same is more = (drop (length start) name, (zero, omega arith, (starts_is Decides-eqb name start true (sym same)).0 refl))
+begins_by start name names true same is more =
+    (drop (length start) name, (zero, omega arith, (starts_is Decides-eqb name start true (sym same)).0 refl))
 begins_by start name names false same is more =
     let found = more is in
     (found.0, Contains-append_right (name ∷ []) names (start ++ found.0) found.1)
@@ -25,7 +26,8 @@ begins start (name ∷ names) is = begins_by start name names (starts_with eqb n
 found : (start : List ℕ) (names : List (List ℕ)) → HasBeginning start names → begins_one start names ≡ true
 found start [] (rest, (place, within, is)) = absurd (omega arith)
 found start (name ∷ names) (rest, (zero, within, is)) = rw ((starts_is Decides-eqb name start (starts_with eqb name start) refl).1 rest is) refl
-found start (name ∷ names) (rest, (suc place, within, is)) = either (λ test. test ≡ true) _ _ _ refl (found start names (rest, (place, omega arith, is)))
+found start (name ∷ names) (rest, (suc place, within, is)) =
+    either (λ test. test ≡ true) _ _ _ refl (found start names (rest, (place, omega arith, is)))
 
 pub returns-clause-begins : goal.returns-clause-begins
 returns-clause-begins c row start = (begins start row.names, found start row.names)

@@ -62,7 +62,9 @@ are_alike rows row each one other words place has_one has_other =
     (All-contains (IsFirst rows row) row.names one all has_one place ∙ sym (All-contains (IsFirst rows row) row.names other all has_other place))
 
 pub returns-clause-own : goal.returns-clause-own
-returns-clause-own c calling = each_row calling AreFound (λ rows row. All (IsFound rows row) row.names) (λ rows row. All-from_recursion (IsFound rows row) row.names) (all_found calling)
+returns-clause-own c calling =
+    each_row calling AreFound (λ rows row. All (IsFound rows row) row.names)
+    (λ rows row. All-from_recursion (IsFound rows row) row.names) (all_found calling)
 
 pub returns-clause-alike : goal.returns-clause-alike
 returns-clause-alike c calling = each_row calling AreFirst (λ rows row. AreAlike rows row.names) are_alike (all_first calling)

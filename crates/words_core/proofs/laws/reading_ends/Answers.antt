@@ -1,5 +1,5 @@
 use Rattle.std.proofs.{
-  Common.{◌≡◌, ℕ, ◌+◌, ◌⊎◌, List, [], ◌∷◌, ◌++◌, length, Result, Ok, Err, inl, inr, refl, sym, ap, ◌∙◌, arith},
+  Common.{◌≡◌, ℕ, ◌+◌, ◌⊎◌, List, [], ◌∷◌, ◌++◌, length, Result, Ok, Err, inl, inr, refl, rules, sym, ap, ◌∙◌, arith},
   Common.append_assoc,
   lemmas.Grind.common_steps,
 }
@@ -22,8 +22,7 @@ use Rattle.words_core.proofs.laws.reading_ends.Goals as goal
 -- Nothing given first changes nothing, and two things given in turn are the two things joined.
 
 before_nothing : (meant : Result Given Fault) → given_before nothing meant ≡ meant
-before_nothing (Ok given) = refl
-before_nothing (Err fault) = refl
+before_nothing meant = search rules
 
 before_both : (first next : Given) (meant : Result Given Fault)
     → given_before first (given_before next meant) ≡ given_before (joined first next) meant
@@ -42,7 +41,12 @@ module _ (rows : List OptionRow) where
   leaves first place (Err fault) rest = inl (fault, λ more. refl)
   leaves first place (Ok meaning) rest = elim (rest meaning.next) [
     | inl (fault, is) ↦ inl (fault, λ more. ap (given_before meaning.given) (is more))
-    | inr (given, next, is) ↦ inr (joined meaning.given given, next, λ more. ap (given_before meaning.given) (is more) ∙ before_both meaning.given given (spelled rows more (place + 1 + length first) next))
+    | inr (given, next, is) ↦ inr (
+      joined meaning.given given,
+      next,
+      λ more. ap (given_before meaning.given)
+          (is more) ∙ before_both meaning.given given (spelled rows more (place + 1 + length first) next),
+    )
   ]
 
   leave_the_rest : (first : List (List ℕ)) (place : ℕ) (state : State) → LeaveTheRest rows first place state

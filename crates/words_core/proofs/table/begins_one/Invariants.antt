@@ -3,4 +3,6 @@ use Rattle.words_core.specs.Table.{begins_one}
 use Rattle.words_core.proofs.table.begins_one.Given as goal
 
 abbrev pub invariant-loop-known : goal.invariant-loop-known
-invariant-loop-known l = begins_one l.start (map (λ known. known.now) (drop l.known-index l.names)) ≡ begins_one l.start (map (λ known. known.now) l.names)
+invariant-loop-known l =
+    begins_one l.start (map (λ known. known.now) (drop l.known-index l.names)) ≡ begins_one l.start
+    (map (λ known. known.now) l.names)
