@@ -13,7 +13,7 @@ use Rattle.ports_core.specs.{Slot.{Slot, changed_at}, declared.fault.Fault.Fault
 use Rattle.follow_core.specs.{
   FollowState.{AllReady, Begun, up_to},
   Look.{Fate, Look, Ways, failed_in, is_dropped, sound},
-  Share.{BeginsShare, Share, share_by, share_of, shares_at_look_from},
+  Share.{BeginsShare, Share, share_by, share_of},
   inner.{Visits.{KeepsOthers, Opened, Stopped, Visited, VisitedTo, Visits}, Giving.{IsFront}},
   Printing.PrinterState,
   Reading.{AreAtLook, IsGiven, names_more, no_names},
@@ -47,14 +47,6 @@ all_both {printer} {shares} {more} all rest = record {
 }
 
 -- One name more.
-
-shares_one : (ways : Ways) (looks : List Look) (look : Look) (from : ℕ) (names : List (List ℕ)) (name : List ℕ)
-    → shares_at_look_from ways looks look from (names ++ name ∷ [])
-    ≡ shares_at_look_from ways looks look from names ++ share_of ways looks look (from + length names) name ∷ []
-shares_one ways looks look from [] name = ap (λ place. share_of ways looks look place name ∷ []) (omega arith)
-shares_one ways looks look from (first ∷ names) name =
-    let place : (from + 1) + length names ≡ from + suc (length names) = omega arith in
-    rw (shares_one ways looks look (from + 1) names name, place) refl
 
 fate_there : (fates : List Fate) (fate : Fate) {all : List Fate} → IsFront (fates ++ fate ∷ []) all → {place : ℕ}
     → length fates ≡ place → slice_index_or all place sound ≡ fate
@@ -96,14 +88,14 @@ names_next names now {place} same within = let next : place + 1 ≡ suc place = 
     refl
 
 -- what a look gives for one name more
-one_given : (looks : List Look) (look : Look) (from : ℕ) (names : List (List ℕ)) (name : List ℕ) {shares : List Share}
-    {share : Share} → AreAtLook looks look from names shares → IsGiven looks look (from + length names) name share
-    → AreAtLook looks look from (names ++ name ∷ []) (shares ++ share ∷ [])
-one_given looks look from [] name {share} no_names given = let e : from + 0 ≡ from = omega arith in
-    names_more (rw e at given) no_names
-one_given looks look from (first ∷ names) name {share} (names_more is rest) given =
+one_given : {told : Bool} {ways : Ways} {looks : List Look} {look : Look} (from : ℕ) (names : List (List ℕ))
+    {name : List ℕ} {shares : List Share} {share : Share} → AreAtLook told ways looks look from names shares
+    → IsGiven told ways looks look (from + length names) name share
+    → AreAtLook told ways looks look from (names ++ name ∷ []) (shares ++ share ∷ [])
+one_given from [] no_names given = let e : from + 0 ≡ from = omega arith in names_more (rw e at given) no_names
+one_given from (first ∷ names) (names_more is rest) given =
     let e : from + suc (length names) ≡ (from + 1) + length names = omega arith in
-    names_more is (one_given looks look (from + 1) names name rest (rw e at given))
+    names_more is (one_given (from + 1) names rest (rw e at given))
 
 pub visited_more : {told_in told : Bool} {ways : Ways} {looks : List Look} {snapshot : Snapshot}
     {names now : List NameState} {one : NameState} {place : ℕ}
@@ -119,16 +111,8 @@ visited_more {told_in} {told} {ways} {looks} {snapshot} {names} {now} {one} {pla
       fates = sofar.fates ++ visited.fate ∷ [];
       shares = sofar.shares ++ visited.share ∷ [];
       count = length-append sofar.fates (visited.fate ∷ []) ∙ ap (λ n. n + 1) sofar.count ∙ omega arith;
-      are = λ t all front. let look : Look = record { snapshot = snapshot; fates = all } in
-          rw (
-            ← names_next names now sofar.same within,
-            shares_one ways looks look ways.first (take place (texts names)) _,
-            count_taken names now sofar.same within,
-          ) (λ i. sofar.are t all (front_before sofar.fates visited.fate front) i
-          ++ visited.is_share t all (fate_there sofar.fates visited.fate front sofar.count) i ∷ []);
-      found = λ all front. let look : Look = record { snapshot = snapshot; fates = all } in
-          rw (← names_next names now sofar.same within)
-          (one_given looks look ways.first (take place (texts names)) (state_at now place).text
+      found = λ all front. rw (← names_next names now sofar.same within)
+          (one_given ways.first (take place (texts names))
           (sofar.found all (front_before sofar.fates visited.fate front))
           (rw (count_taken names now sofar.same within)
           (visited.found all (fate_there sofar.fates visited.fate front sofar.count))));
@@ -209,7 +193,7 @@ visited_short {told_in} {told} {ways} {looks} {snapshot} {names} {now} {place} {
       stopped.1.share ∷ [],
       up_to sofar.fates place sofar.shares stopped.1.share sofar.count (omega (arith, within, size))
           (omega (arith, many, size), λ above. omega (arith, many, size), λ other inside. still other (omega (arith, inside, many, size)))
-          (λ t. sofar.are t sofar.fates front) (sofar.found sofar.fates front) (rw (text_there names now sofar.same within) stopped.1.found)
+          (sofar.found sofar.fates front) (rw (text_there names now sofar.same within) stopped.1.found)
           (λ t. subst (BeginsShare stopped.1.share) (share_is t) (stopped.1.begins t sofar.fates)),
       mid,
       slots,

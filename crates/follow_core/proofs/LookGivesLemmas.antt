@@ -208,8 +208,10 @@ looked_visited : {told_in told : Bool} {ways : Ways} {looks : List Look} {snapsh
 looked_visited fate kept looked stands = record {
   fate = fate;
   share = looked.share;
-  is_share = λ is fates at. rw (kept, at) (looked.is_share is fates);
-  found = λ fates at. inr (kept, rw at looked.found);
+  found = λ fates at. record {
+    is = λ t. rw (kept, at) (looked.is_share t fates);
+    found = inr (kept, rw at looked.found);
+  };
   is_failed = looked.failed;
   shared = looked.shared;
   stands = stands;
@@ -565,8 +567,7 @@ left_visited {told_in} {ways} {snapshot} {place} {name} looks left = elim left.w
   | inl dropped ↦ record {
     fate = sound;
     share = no_share name;
-    is_share = λ t fates at. rw dropped.0 refl;
-    found = λ fates at. inl (dropped.0, refl);
+    found = λ fates at. record { is = λ t. rw dropped.0 refl; found = inl (dropped.0, refl) };
     is_failed = refl;
     shared = came_none;
     stands = λ fates at. still_left looks (seeing snapshot fates) at left;
@@ -581,8 +582,8 @@ left_visited {told_in} {ways} {snapshot} {place} {name} looks left = elim left.w
 
 -- Names on which no call can fail.
 
-sound_among : {before : List Look} {look : Look} (from : ℕ) (names : List (List ℕ)) {shares : List Share}
-    → AreAtLook before look from names shares → (place : ℕ) → place < length names
+sound_among : {told : Bool} {ways : Ways} {before : List Look} {look : Look} (from : ℕ) (names : List (List ℕ))
+    {shares : List Share} → AreAtLook told ways before look from names shares → (place : ℕ) → place < length names
     → look.snapshot.breaks (get_or names place []) ≡ false → failed_in (from + place) before ≡ None
     → fate_at (from + place) look ≡ sound
 sound_among from [] given place within unbroken kept = absurd (omega arith)
@@ -596,11 +597,11 @@ none_breaks_before : {name : List ℕ} (looks : List Look) (look : Look) → Non
 none_breaks_before [] look none = (tt, none.0)
 none_breaks_before (first ∷ looks) look none = let rest = none_breaks_before looks look none.1 in ((none.0, rest.0), rest.1)
 
-pub names_stay : (ways : Ways) (names : List (List ℕ)) (looks : List Look) (shares : List Share)
-    → AreFound ways names looks shares → (place : ℕ) → place < length names
+pub names_stay : (told : Bool) (ways : Ways) (names : List (List ℕ)) (looks : List Look) (shares : List Share)
+    → AreFound told ways names looks shares → (place : ℕ) → place < length names
     → NoneBreaks (get_or names place []) looks → failed_in (ways.first + place) looks ≡ None
-names_stay ways names looks shares no_looks place within none = refl
-names_stay ways names looks shares (looks_more {looks = before} {look} {shares = given} found at_look) place within none =
+names_stay told ways names looks shares no_looks place within none = refl
+names_stay told ways names looks shares (looks_more {looks = before} {look} {shares = given} found at_look) place within none =
     let (so_far, unbroken) = none_breaks_before before look none in
-    let kept = names_stay ways names before given found place within so_far in
+    let kept = names_stay told ways names before given found place within so_far in
     failed_sound (ways.first + place) before look (sound_among ways.first names at_look place within unbroken kept) ∙ kept

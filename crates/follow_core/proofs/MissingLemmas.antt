@@ -15,10 +15,10 @@ use Rattle.follow_core.specs.{
   Look.{Fate, Look, Ways, fate_at, failed_by, failed_in, is_dropped, snapshots, sound, unled, unopened, unmeasured},
   Look.{unsought, unread},
   Reading.{AllGive, AllInsist, AreAtLook, AreFound, IsFound, IsGiven, LeadsNowhere, looks_more, names_more, no_looks, no_names},
-  Share.{Share, opened_in, share_of, shares_at_look, shares_at_look_from, shares_of},
+  Share.{Share, opened_in, share_of},
   Version.open_after_later,
 }
-use Rattle.follow_core.proofs.{LookLemmas.failed_more, RunLemmas.shares_more}
+use Rattle.follow_core.proofs.LookLemmas.{failed_more}
 
 -- a call doesn't find that a name leads nowhere if that makes it fail
 never_nowhere : (snapshot : Snapshot) (name : List ℕ) (finding : Finding) → snapshot.insists ≡ true
@@ -50,59 +50,40 @@ later_told ways look place {name} found is kept by insists leads opened fine =
     let told = all_last _ _ _ (notes Inaccessible ∷ []) (rw (is, kept, fine, opened, by, leads) at found.events) in
     never_nowhere look.snapshot name (leads_to None) insists refl told.0.4.1
 
--- A name that leads nowhere and wasn't dropped breaks at such a look.
-
-given_sound : (ways : Ways) (before : List Look) (look : Look) (place : ℕ) {name : List ℕ} {share : Share}
-    → IsGiven before look place name share → share ≡ share_of ways before look place name
+found_sound : (ways : Ways) (before : List Look) (look : Look) (place : ℕ) {name : List ℕ} {share : Share}
+    → IsFound before look.snapshot name (fate_at place look) share → share ≡ share_of ways before look place name
     → ways.by_name ≡ true → look.snapshot.insists ≡ true → look.snapshot.leads name ≡ None
     → is_dropped place before ≡ false
     → ((before ≡ []) ⊎ ((file : ℕ) × (opened_in ways name before ≡ Some file))) → fate_at place look ≡ sound → ⊥
-given_sound ways before look place (inl dropped) is by insists leads kept there fine = false≢true (sym kept ∙ dropped.0)
-given_sound ways before look place {name} (inr (_, inr missing)) is by insists leads kept there fine =
-    never_nowhere look.snapshot name (opens_as None) insists refl missing.nowhere
-given_sound ways [] look place (inr (_, inl found)) is by insists leads kept there fine = first_told ways look place found is leads fine
-given_sound ways (first ∷ looks) look place (inr (_, inl found)) is by insists leads kept (inl none) fine = absurd (cc)
-given_sound ways (first ∷ looks) look place (inr (_, inl found)) is by insists leads kept (inr (file, opened)) fine =
+found_sound ways [] look place found is by insists leads kept there fine = first_told ways look place found is leads fine
+found_sound ways (first ∷ looks) look place found is by insists leads kept (inl none) fine = absurd (cc)
+found_sound ways (first ∷ looks) look place found is by insists leads kept (inr (file, opened)) fine =
     later_told ways look place found is kept by insists leads opened fine
 
+-- A name that leads nowhere and wasn't dropped breaks at such a look.
+
+given_sound : (ways : Ways) (before : List Look) (look : Look) (place : ℕ) {name : List ℕ} {share : Share}
+    → IsGiven true ways before look place name share → ways.by_name ≡ true → look.snapshot.insists ≡ true → look.snapshot.leads name ≡ None
+    → is_dropped place before ≡ false
+    → ((before ≡ []) ⊎ ((file : ℕ) × (opened_in ways name before ≡ Some file))) → fate_at place look ≡ sound → ⊥
+given_sound ways before look place given by insists leads kept there fine = elim given.found [
+  | inl (dropped, none) ↦ false≢true (sym kept ∙ dropped)
+  | inr (held, inr missing) ↦ never_nowhere look.snapshot _ (opens_as None) insists refl missing.nowhere
+  | inr (held, inl found) ↦ found_sound ways before look place found (given.is refl) by insists leads kept there fine
+]
+
 among_sound : (ways : Ways) (before : List Look) (look : Look) (from : ℕ) (names : List (List ℕ)) {shares : List Share}
-    → AreAtLook before look from names shares → shares ≡ shares_at_look_from ways before look from names
-    → ways.by_name ≡ true → look.snapshot.insists ≡ true → (place : ℕ) → place < length names
+    → AreAtLook true ways before look from names shares → ways.by_name ≡ true → look.snapshot.insists ≡ true → (place : ℕ) → place < length names
     → look.snapshot.leads (get_or names place []) ≡ None → is_dropped (from + place) before ≡ false
     → ((before ≡ []) ⊎ ((file : ℕ) × (opened_in ways (get_or names place []) before ≡ Some file)))
     → fate_at (from + place) look ≡ sound → ⊥
-among_sound ways before look from [] given is by insists place within leads kept there fine = absurd (omega arith)
-among_sound ways before look from (name ∷ names) (names_more given rest) is by insists zero within leads kept there fine =
+among_sound ways before look from [] given by insists place within leads kept there fine = absurd (omega arith)
+among_sound ways before look from (name ∷ names) (names_more given rest) by insists zero within leads kept there fine =
     let at : from + 0 ≡ from = omega arith in
-    given_sound ways before look from given (cc) by insists leads (rw at at kept) there (rw at at fine)
-among_sound ways before look from (name ∷ names) (names_more given rest) is by insists (suc place) within leads kept there fine =
+    given_sound ways before look from given by insists leads (rw at at kept) there (rw at at fine)
+among_sound ways before look from (name ∷ names) (names_more given rest) by insists (suc place) within leads kept there fine =
     let at : from + suc place ≡ from + 1 + place = omega arith in
-    among_sound ways before look (from + 1) names rest (cc) by insists place (omega arith) leads (rw at at kept) there (rw at at fine)
-
--- What each look gives, if what all looks give is known.
-
-at_look_many : {before : List Look} {look : Look} {from : ℕ} {names : List (List ℕ)} {shares : List Share}
-    → AreAtLook before look from names shares → length shares ≡ length names
-at_look_many no_names = refl
-at_look_many (names_more given rest) = ap suc (at_look_many rest)
-
-of_look_many : (ways : Ways) (before : List Look) (look : Look) (from : ℕ) (names : List (List ℕ))
-    → length (shares_at_look_from ways before look from names) ≡ length names
-of_look_many ways before look from [] = refl
-of_look_many ways before look from (name ∷ names) = ap suc (of_look_many ways before look (from + 1) names)
-
--- two equal lists in two parts each have the same parts, if their second parts are equally long
-parts_same : {X : Type 0} (one two more rest : List X) → one ++ more ≡ two ++ rest → length more ≡ length rest
-    → (one ≡ two) × (more ≡ rest)
-parts_same [] [] more rest is long = (refl, is)
-parts_same [] (x ∷ two) more rest is long =
-    absurd (let all : length more ≡ suc (length (two ++ rest)) = ap length is in
-    let both = length-append two rest in omega arith)
-parts_same (x ∷ one) [] more rest is long =
-    absurd (let all : suc (length (one ++ more)) ≡ length rest = ap length is in
-    let both = length-append one more in omega arith)
-parts_same (x ∷ one) (y ∷ two) more rest is long =
-    let same = parts_same one two more rest (cc) long in (cc, same.1)
+    among_sound ways before look (from + 1) names rest by insists place (omega arith) leads (rw at at kept) there (rw at at fine)
 
 -- A name that was dropped stays dropped.
 
@@ -169,33 +150,30 @@ opened_there ways name (first ∷ looks) by there = inr (rw by (led_open first l
 
 -- after one look more, a name that led nowhere at any of the looks is dropped
 one_more_go : (ways : Ways) (names : List (List ℕ)) (before : List Look) (look : Look) {more : List Share}
-    → AreAtLook before look ways.first names more → more ≡ shares_at_look ways names before look → ways.by_name ≡ true
-    → look.snapshot.insists ≡ true → (place : ℕ) → place < length names
+    → AreAtLook true ways before look ways.first names more → ways.by_name ≡ true → look.snapshot.insists ≡ true → (place : ℕ) → place < length names
     → (LeadsNowhere (get_or names place []) before → is_dropped (ways.first + place) before ≡ true)
     → LeadsNowhere (get_or names place []) (before ++ look ∷ []) → (dropped : Bool)
     → is_dropped (ways.first + place) before ≡ dropped → is_dropped (ways.first + place) (before ++ look ∷ []) ≡ true
-one_more_go ways names before look at_look is by insists place within so_far nowhere true was =
+one_more_go ways names before look at_look by insists place within so_far nowhere true was =
     still_dropped (ways.first + place) before look was
-one_more_go ways names before look at_look is by insists place within so_far nowhere false was =
+one_more_go ways names before look at_look by insists place within so_far nowhere false was =
     let there : LeadsNowhere (get_or names place []) before → ⊥ = λ missing. false≢true (sym was ∙ so_far missing) in
     elim (nowhere_before before look nowhere) [
       | inl missing ↦ absurd (there missing)
       | inr leads ↦ now_dropped (ways.first + place) before look was
-          (among_sound ways before look ways.first names at_look is by insists place within leads was
+          (among_sound ways before look ways.first names at_look by insists place within leads was
           (opened_there ways (get_or names place []) before by there))
     ]
 
 pub names_go : (ways : Ways) (names : List (List ℕ)) (looks : List Look) (shares : List Share)
-    → AreFound ways names looks shares → shares ≡ shares_of ways names looks → ways.by_name ≡ true → AllInsist looks
+    → AreFound true ways names looks shares → ways.by_name ≡ true → AllInsist looks
     → (place : ℕ) → place < length names → LeadsNowhere (get_or names place []) looks
     → is_dropped (ways.first + place) looks ≡ true
-names_go ways names looks shares no_looks is by insist place within nowhere = absurd nowhere
-names_go ways names looks shares (looks_more {looks = before} {look} {shares = given} {more} found at_look) is by insist place within nowhere =
+names_go ways names looks shares no_looks by insist place within nowhere = absurd nowhere
+names_go ways names looks shares (looks_more {looks = before} {look} {shares = given} found at_look) by insist place within nowhere =
     let insisted = insist_before before look insist in
-    let parts = parts_same given (shares_of ways names before) more (shares_at_look ways names before look)
-    (is ∙ shares_more ways names before look) (at_look_many at_look ∙ sym (of_look_many ways before look ways.first names)) in
-    one_more_go ways names before look at_look parts.1 by insisted.1 place within
-    (names_go ways names before given found parts.0 by insisted.0 place within) nowhere (is_dropped (ways.first + place) before) refl
+    one_more_go ways names before look at_look by insisted.1 place within
+    (names_go ways names before given found by insisted.0 place within) nowhere (is_dropped (ways.first + place) before) refl
 
 -- If looks cling, the first file stays.
 

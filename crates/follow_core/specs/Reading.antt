@@ -1,6 +1,6 @@
 -- What is given for a name by what the calls on it found, even if the bytes of files aren't visible.
 use Rattle.std.specs.{
-  Prelude.{◌≡◌, ◌⊎◌, ◌<◌, ◌≤◌, ◌+◌, ℕ, true, false, not, ◌&&◌, List, [], ◌∷◌, ◌++◌, Option, Some, None},
+  Prelude.{◌≡◌, ◌⊎◌, ◌<◌, ◌≤◌, ◌+◌, ℕ, Bool, true, false, not, ◌&&◌, List, [], ◌∷◌, ◌++◌, Option, Some, None},
   Prelude.{is_some, length},
 }
 use Rattle.watch_core.specs.Snapshot.{Snapshot, Found, latest, holds_many, leads_to, opens_as, reads_as}
@@ -8,7 +8,7 @@ use Rattle.follow_core.specs.{
   declared.notice.Notice.{Notice, TheVariants.{Truncated, Replaced, Inaccessible, Appeared}},
   Event.{Begins, Event, gives, notes},
   Look.{Fate, Look, Ways, sound, unread, fate_at, is_dropped, is_first, snapshots},
-  Share.{Share, failure_of, is_unopened, missing_share, no_share},
+  Share.{Share, failure_of, is_unopened, missing_share, no_share, share_of},
   Version.is_file,
 }
 
@@ -84,24 +84,29 @@ pub record IsMissing (before : List Look) (snapshot : Snapshot) (name : List ℕ
   pub nowhere : Found snapshot name (opens_as None)
   pub is : share ≡ missing_share name
 
--- what a look after these gives for the name of this number
-abbrev pub IsGiven : List Look → Look → ℕ → List ℕ → Share → Type 0
-IsGiven before look place name share = ((is_dropped place before ≡ true) × (share ≡ no_share name))
-    ⊎ ((is_dropped place before ≡ false) × (IsFound before look.snapshot name (fate_at place look) share
-    ⊎ IsMissing before look.snapshot name (fate_at place look) share))
+-- What a look after these gives for the name of this number, by what its calls found. If what the look sees is visible,
+-- that is its share.
+pub record IsGiven (told : Bool) (ways : Ways) (before : List Look) (look : Look) (place : ℕ) (name : List ℕ)
+    (share : Share) : Type 0 where
+  pub is : told ≡ true → share ≡ share_of ways before look place name
+  pub found : ((is_dropped place before ≡ true) × (share ≡ no_share name))
+      ⊎ ((is_dropped place before ≡ false) × (IsFound before look.snapshot name (fate_at place look) share
+      ⊎ IsMissing before look.snapshot name (fate_at place look) share))
 
 -- what a look after these gives for the names in order; the first name has this number
-pub data AreAtLook (before : List Look) (look : Look) : ℕ → List (List ℕ) → List Share → Type 0 where
-  no_names : {place : ℕ} → AreAtLook before look place [] []
+pub data AreAtLook (told : Bool) (ways : Ways) (before : List Look) (look : Look) : ℕ → List (List ℕ) → List Share
+    → Type 0 where
+  no_names : {place : ℕ} → AreAtLook told ways before look place [] []
   names_more : {place : ℕ} {name : List ℕ} {names : List (List ℕ)} {share : Share} {shares : List Share}
-      → IsGiven before look place name share → AreAtLook before look (place + 1) names shares
-      → AreAtLook before look place (name ∷ names) (share ∷ shares)
+      → IsGiven told ways before look place name share → AreAtLook told ways before look (place + 1) names shares
+      → AreAtLook told ways before look place (name ∷ names) (share ∷ shares)
 
--- what all looks give, look by look
-pub data AreFound (ways : Ways) (names : List (List ℕ)) : List Look → List Share → Type 0 where
-  no_looks : AreFound ways names [] []
-  looks_more : {looks : List Look} {look : Look} {shares more : List Share} → AreFound ways names looks shares
-      → AreAtLook looks look ways.first names more → AreFound ways names (looks ++ look ∷ []) (shares ++ more)
+-- What all looks give, look by look. If what they see is visible, that is `shares_of`.
+pub data AreFound (told : Bool) (ways : Ways) (names : List (List ℕ)) : List Look → List Share → Type 0 where
+  no_looks : AreFound told ways names [] []
+  looks_more : {looks : List Look} {look : Look} {shares more : List Share} → AreFound told ways names looks shares
+      → AreAtLook told ways looks look ways.first names more
+      → AreFound told ways names (looks ++ look ∷ []) (shares ++ more)
 
 -- in none of these looks a call on this name can fail
 abbrev pub NoneBreaks : List ℕ → List Look → Type 0

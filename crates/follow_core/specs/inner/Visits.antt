@@ -9,18 +9,20 @@ use Rattle.follow_core.specs.{
     visitor.Stop.{Stop, TheVariants.{Broke, Over}},
     start.Start.Start,
     follow.Phase.TheVariants.{Fresh, Looking, Over},
+    run.{End.{End, TheVariants.{Looked, Unread}}, Limits.Limits},
   },
   Standing.{NameState, NoneGoesOn, AllStand, CanVisit, Stands, StandsAmong, texts},
   Telling.{failure_message, tail_by},
-  Share.{BeginsShare, Share, share_by, share_of, shares_at_look_from},
+  Share.{BeginsShare, Share, share_by},
   Look.{Fate, Look, Ways, sound, fate_at, is_dropped, ways_of, snapshots},
   Printing.PrinterState,
   Reading.{AreAtLook, IsBegun, IsGiven},
   inner.Giving.{IsFront, Shared, HasStopped},
   Followed.any_failed,
-  FollowState.{AllReady, Begun, FollowState, Holds, IsCause, IsOther, LooksOn, SawOrNot, StopsOn, is_alive},
+  FollowState.{AllReady, Asked, Begun, FollowState, Holds, IsCause, IsOther, LooksOn, Point, SawOrNot, StopsOn},
+  FollowState.{is_alive, point},
   Sharing.{AllShared, AllShort, CanPrint, HasError},
-  Ending.Made,
+  Ending.{AreMost, Made, StoppedIn, remains},
 }
 use Rattle.ports_core.specs.{
   Slot.{Slot, changed_at, with_broken},
@@ -71,11 +73,8 @@ pub record Visited (told_in told : Bool) (ways : Ways) (looks : List Look) (snap
     (watched : Watched) (standing : Standing) (failed : Bool) : Type 0 where
   pub fate : Fate
   pub share : Share
-  pub is_share : told_in ≡ true → (fates : List Fate)
-      → fate_at place (record { snapshot = snapshot; fates = fates }) ≡ fate
-      → share ≡ share_of ways looks (record { snapshot = snapshot; fates = fates }) place name
   pub found : (fates : List Fate) → fate_at place (record { snapshot = snapshot; fates = fates }) ≡ fate
-      → IsGiven looks (record { snapshot = snapshot; fates = fates }) place name share
+      → IsGiven told_in ways looks (record { snapshot = snapshot; fates = fates }) place name share
   pub is_failed : is_some share.failure ≡ failed
   pub shared : Shared told printer share old after new None
   pub stands : (fates : List Fate) → fate_at place (record { snapshot = snapshot; fates = fates }) ≡ fate
@@ -107,10 +106,9 @@ pub record VisitedTo (told_in told : Bool) (ways : Ways) (looks : List Look) (sn
   pub fates : List Fate
   pub shares : List Share
   pub count : length fates ≡ ways.first + place
-  pub are : told_in ≡ true → (all : List Fate) → IsFront fates all → shares ≡ shares_at_look_from ways looks
-      (record { snapshot = snapshot; fates = all }) ways.first (take place (texts names))
-  pub found : (all : List Fate) → IsFront fates all → AreAtLook looks (record { snapshot = snapshot; fates = all })
-      ways.first (take place (texts names)) shares
+  pub found : (all : List Fate) → IsFront fates all
+      → AreAtLook told_in ways looks (record { snapshot = snapshot; fates = all }) ways.first (take place (texts names))
+      shares
   pub is_failed : any_failed shares ≡ failed
   pub shared : AllShared told printer shares old after new
   pub same : texts names_now ≡ texts names
@@ -168,53 +166,62 @@ pub record BeginsLook (told_in : Bool) (old : FollowState) (watched : List Watch
   pub ready : AllReady new.names new.first watched_new
   pub others : (number : ℕ) → IsOther old watched number
       → IsOther new watched_new number × (watched_at watched_new number ≡ watched_at watched number)
-  pub holds : (told : Bool) (calling : Calling) (ways : Ways) (headers : Bool) (names : List (List ℕ))
-      (looks : List Look) (first slots : List Slot)
-      → Holds told_in told calling ways headers names looks first old watched slots
-      → Holds told_in told calling ways headers names looks first new watched_new slots
+  pub holds : (told : Bool) (asked : Asked) (looks : List Look) (slots : List Slot)
+      → Holds told_in told asked looks (point old watched slots)
+      → Holds told_in told asked looks (point new watched_new slots)
 
 -- one more look was made, which saw this, and `result` says whether it failed; or the look was stopped
-pub record MakesLook (told_in told : Bool) (snapshot : Snapshot) (seen : List Snapshot) (old : FollowState)
-    (watched : List Watched) (slots : List Slot)
-    (seen_new : List Snapshot) (new : FollowState) (watched_new : List Watched) (slots_new : List Slot)
-    (result : Result Bool Fault) : Type 0 where
-  pub looked : IfOk result (λ failed. LooksOn told_in told snapshot old watched slots
-      (record new { has_failed = new.has_failed || failed }) watched_new slots_new)
-  pub stopped : IfErr result (StopsOn told_in told snapshot old watched slots watched_new slots_new)
+pub record MakesLook (told_in told : Bool) (snapshot : Snapshot) (seen : List Snapshot) (old : Point)
+    (seen_new : List Snapshot) (new : Point) (result : Result Bool Fault) : Type 0 where
+  pub looked : IfOk result (λ failed. LooksOn told_in told snapshot old
+      (record new { follow = record new.follow { has_failed = new.follow.has_failed || failed } }))
+  pub stopped : IfErr result (StopsOn told_in told snapshot old new.watched new.slots)
   pub seen_is : OnOk result (seen_new ≡ seen ++ snapshot ∷ [])
   pub saw : IfErr result (λ why. SawOrNot seen snapshot seen_new)
-  pub phase : OnOk result (new.phase ≡ Looking)
-  pub ready : OnOk result (AllReady new.names new.first watched_new)
-  pub can : OnOk result (CanPrint slots_new)
-  pub cause : IfErr result (IsCause old slots slots_new)
-  pub error : HasError slots_new
-  pub others : (number : ℕ) → IsOther old watched number → watched_at watched_new number ≡ watched_at watched number
+  pub phase : OnOk result (new.follow.phase ≡ Looking)
+  pub ready : OnOk result (AllReady new.follow.names new.follow.first new.watched)
+  pub can : OnOk result (CanPrint new.slots)
+  pub cause : IfErr result (IsCause old.follow old.slots new.slots)
+  pub error : HasError new.slots
+  pub others : (number : ℕ) → IsOther old.follow old.watched number
+      → watched_at new.watched number ≡ watched_at old.watched number
 
 -- As many looks were made as were asked for, or fewer, after which nothing more can come. The outputs have what these
 -- looks give.
-pub record LookedAll (told_in told : Bool) (calling : Calling) (ways : Ways) (headers : Bool) (names : List (List ℕ))
-    (count : ℕ)
-    (shows : ℕ → Snapshot) (first : List Slot) (follow : FollowState) (seen : List Snapshot) (watched : List Watched)
-    (slots : List Slot) : Type 0 where
+pub record LookedAll (told_in told : Bool) (asked : Asked) (count : ℕ) (shows : ℕ → Snapshot) (now : Point)
+    (seen : List Snapshot) : Type 0 where
   pub looks : List Look
   pub observed : seen ≡ snapshots looks
-  pub made : Made told_in ways names shows looks
+  pub made : Made told_in asked.ways asked.names shows looks
   pub within : length looks ≤ count
-  pub over : length looks < count → (0 < length looks) × (told_in ≡ true → is_alive ways names looks ≡ false)
-      × NoneGoesOn ways watched
-  pub holds : Holds told_in told calling ways headers names looks first follow watched slots
+  pub over : length looks < count → (0 < length looks)
+      × (told_in ≡ true → is_alive asked.ways asked.names looks ≡ false) × NoneGoesOn asked.ways now.watched
+  pub holds : Holds told_in told asked looks now
 
 -- Fewer looks were made than were asked for, and a further look could give something. Then it was found that nobody
 -- reads standard output any more, and nothing was written but what these looks give.
-pub record FoundUnread (told_in told : Bool) (calling : Calling) (ways : Ways) (headers : Bool)
-    (names : List (List ℕ)) (count : ℕ)
-    (shows : ℕ → Snapshot) (first : List Slot) (follow : FollowState) (seen : List Snapshot) (watched : List Watched)
-    (slots : List Slot) : Type 0 where
+pub record FoundUnread (told_in told : Bool) (asked : Asked) (count : ℕ) (shows : ℕ → Snapshot) (now : Point)
+    (seen : List Snapshot) : Type 0 where
   pub looks : List Look
   pub observed : seen ≡ snapshots looks
-  pub made : Made told_in ways names shows looks
+  pub made : Made told_in asked.ways asked.names shows looks
   pub fewer : length looks < count
-  pub alive : told_in ≡ true → 0 < length looks → is_alive ways names looks ≡ true
+  pub alive : told_in ≡ true → 0 < length looks → is_alive asked.ways asked.names looks ≡ true
   pub before : List Slot
-  pub broke : slots ≡ with_broken Gone 0 before
-  pub holds : Holds told_in told calling ways headers names looks first follow watched before
+  pub broke : now.slots ≡ with_broken Gone 0 before
+  pub holds : Holds told_in told asked looks (record now { slots = before })
+
+-- how looks in turn came to their end, by what they return
+abbrev pub MadeLooks : (told_in told : Bool) → Asked → (count : ℕ) → (ℕ → Snapshot) → Point → List Snapshot
+    → Result End Fault → Type 0
+MadeLooks told_in told asked count shows now seen (Ok Looked) = LookedAll told_in told asked count shows now seen
+MadeLooks told_in told asked count shows now seen (Ok Unread) = FoundUnread told_in told asked count shows now seen
+MadeLooks told_in told asked count shows now seen (Err why) =
+    StoppedIn told_in told asked count shows (remains seen now.watched now.slots) why
+
+-- looks in turn were made up to these limits, and came to their end
+abbrev pub LooksInTurn : (told_in told : Bool) → Limits → (ℕ → Snapshot) → (old new : Point) → List Snapshot
+    → Result End Fault → Type 0
+LooksInTurn told_in told limits shows old new seen result = (most : ℕ)
+    × AreMost told_in limits.process shows limits.looks most
+    × ((asked : Asked) → Holds told_in told asked [] old → MadeLooks told_in told asked most shows new seen result)

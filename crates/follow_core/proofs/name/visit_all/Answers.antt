@@ -21,7 +21,6 @@ loop-place-init g c = record {
     fates = replicate from sound;
     shares = [];
     count = length-replicate from sound ∙ omega arith;
-    are = λ t all front. refl;
     found = λ all front. no_names;
     is_failed = refl;
     shared = nothing_shared;
