@@ -19,7 +19,7 @@ use Rattle.follow_core.specs.{
   Telling.Tells,
   Printing.{PrinterState, broke as short_broke, no_room},
   declared.{notice.Notice.Notice, visitor.Stop.{Stop, TheVariants.{Broke, Over}}},
-  inner.Giving.{IsFront, ArePut, FromThere, BrokeAt, Came, CanGoOn, Copies, GivesDue, Follows, IfBroke, Keeps, HoldsMany, Noted},
+  inner.Giving.{IsFront, ArePut, FromThere, BrokeAt, Came, CanGoOn, Copies, GivesDue, Follows, IfBroke, Keeps, HoldsMany, Noted, Moment, Sight},
   inner.Giving.{Puts, WereFound, fault_by, found_all, found_before, found_begun, over_by},
   inner.Visits.KeepsOthers,
   Standing.IsLong,
@@ -228,40 +228,37 @@ next_bytes contents {read_new} tail {from} {at} {n} past few long gave =
     rw (count, take-append-le n read_new tail (omega arith), gave.front, take-add, drop_drop, place) refl
 
 -- what was copied so far, or a beginning of it if following ends
-pub record Copied (told_in told : Bool) (snapshot : Snapshot) (known : Watched) (from : ℕ) (name : List ℕ)
-    (printer : PrinterState) (old : List Slot) (after : PrinterState) (new : List Slot) (at : ℕ) (over : Option Fault)
-    : Type 0 where
+pub record Copied (see : Sight) (known : Watched) (from : ℕ) (name : List ℕ) (old new : Moment) (at : ℕ)
+    (over : Option Fault) : Type 0 where
   pub bytes : List ℕ
-  pub puts : Puts told false printer name bytes old after new over
-  pub are : told_in ≡ true → bytes ≡ take (at - from) (drop from (open_contents snapshot known))
-  pub read : AreRead snapshot known.name known.opened from bytes at
+  pub puts : Puts see.told false old.printer name bytes old.slots new.printer new.slots over
+  pub are : see.told_in ≡ true → bytes ≡ take (at - from) (drop from (open_contents see.snapshot known))
+  pub read : AreRead see.snapshot known.name known.opened from bytes at
 
-pub copied_none : {told_in told : Bool} {snapshot : Snapshot} {known : Watched} {from : ℕ} {name : List ℕ}
-    {printer : PrinterState} {slots : List Slot}
-    → Copied told_in told snapshot known from name printer slots printer slots from None
-copied_none {snapshot} {known} {from} = record {
-  bytes = [];
-  puts = puts_nothing;
-  are = λ t. grind (arith, common_steps);
-  read = none_read;
-}
+module _ {see : Sight} {known : Watched} {from : ℕ} {name : List ℕ} {old : Moment} where
+  pub copied_none : Copied see known from name old old from None
+  copied_none = record {
+    bytes = [];
+    puts = puts_nothing;
+    are = λ t. grind (arith, common_steps);
+    read = none_read;
+  }
 
--- one piece more was copied, or a beginning of it
-pub copied_more : {told_in told : Bool} {snapshot : Snapshot} {known : Watched} {from at n : ℕ}
-    {name read_old read_new : List ℕ} {printer mid after : PrinterState} {old now new : List Slot} (tail : List ℕ)
-    {over : Option Fault} → from ≤ at → n ≤ length read_old → length read_new ≡ length read_old
-    → (told_in ≡ true → GaveFrom (open_contents snapshot known) at read_old read_new n)
-    → Found snapshot known.name (reads_as known.opened at (take n read_new))
-    → Copied told_in told snapshot known from name printer old mid now at None
-    → Puts told false mid name (take n (read_new ++ tail)) now after new over
-    → Copied told_in told snapshot known from name printer old after new (at + n) over
-copied_more {n} {read_new} tail past few long gave found so_far put = record {
-  bytes = so_far.bytes ++ take n (read_new ++ tail);
-  puts = puts_after so_far.puts put;
-  are = λ t. grind (arith, common_steps, next_bytes, so_far.are t);
-  read = rw (take-append-le n read_new tail (omega arith))
-      (rw (length-take-le n read_new (omega arith)) at (one_more (take n read_new) so_far.read found));
-}
+  -- one piece more was copied, or a beginning of it
+  pub copied_more : {at n : ℕ} {read_old read_new : List ℕ} {mid new : Moment} (tail : List ℕ) {over : Option Fault}
+      → from ≤ at → n ≤ length read_old → length read_new ≡ length read_old
+      → (see.told_in ≡ true → GaveFrom (open_contents see.snapshot known) at read_old read_new n)
+      → Found see.snapshot known.name (reads_as known.opened at (take n read_new))
+      → Copied see known from name old mid at None
+      → Puts see.told false mid.printer name (take n (read_new ++ tail)) mid.slots new.printer new.slots over
+      → Copied see known from name old new (at + n) over
+  copied_more {n} {read_new} tail past few long gave found so_far put = record {
+    bytes = so_far.bytes ++ take n (read_new ++ tail);
+    puts = puts_after so_far.puts put;
+    are = λ t. grind (arith, common_steps, next_bytes, so_far.are t);
+    read = rw (take-append-le n read_new tail (omega arith))
+        (rw (length-take-le n read_new (omega arith)) at (one_more (take n read_new) so_far.read found));
+  }
 
 -- How the outputs can be used after a call.
 
@@ -354,17 +351,15 @@ abbrev read_there : {snapshot : Snapshot} (known : Watched) {from : ℕ} (at : �
 read_there known {from} at read =
     record { file = known.opened; from = from; end = at; begins = (refl, refl); read = read }
 
-module _ {told_in told : Bool} {snapshot : Snapshot} {name : List ℕ} {from place : ℕ} {watched : List Watched}
-    {printer : PrinterState} {slots : List Slot} where
-  pub copies_all : (at : ℕ) {watched_new : List Watched} {after : PrinterState} {slots_new : List Slot}
-      → (told_in ≡ true → take (at - from) (drop from (open_contents snapshot (watched_at watched place)))
-      ≡ drop from (open_contents snapshot (watched_at watched place)))
-      → Copied told_in told snapshot (watched_at watched place) from name printer slots after slots_new at None
-      → (((len : ℕ) × Found snapshot (watched_at watched place).name (holds_many (watched_at watched place).opened len)
-      × (len ≤ at))
-      ⊎ Found snapshot (watched_at watched place).name (reads_as (watched_at watched place).opened at []))
-      → watched_new ≡ watched
-      → Copies told_in told snapshot from place name watched printer slots watched_new after slots_new None
+module _ {see : Sight} {name : List ℕ} {from place : ℕ} {old : Moment} where
+  pub copies_all : (at : ℕ) {mid : Moment} {watched : List Watched}
+      → (see.told_in ≡ true → take (at - from) (drop from (open_contents see.snapshot (watched_at old.watched place)))
+      ≡ drop from (open_contents see.snapshot (watched_at old.watched place)))
+      → Copied see (watched_at old.watched place) from name old mid at None
+      → (((len : ℕ) × Found see.snapshot (watched_at old.watched place).name
+      (holds_many (watched_at old.watched place).opened len) × (len ≤ at))
+      ⊎ Found see.snapshot (watched_at old.watched place).name (reads_as (watched_at old.watched place).opened at []))
+      → watched ≡ old.watched → Copies see from place name old (record mid { watched = watched }) None
   copies_all at all copied over same = record {
     at = at;
     ends = record {
@@ -372,7 +367,7 @@ module _ {told_in told : Bool} {snapshot : Snapshot} {name : List ℕ} {from pla
       are = λ t. ap (λ bytes. gives bytes ∷ []) (copied.puts.are ∙ copied.are t ∙ all t);
       found = found_all (
         record {
-          is = read_there (watched_at watched place) at (rw copied.puts.are copied.read);
+          is = read_there (watched_at old.watched place) at (rw copied.puts.are copied.read);
           ends = grind (arith, common_steps);
         },
         tt,
@@ -382,14 +377,12 @@ module _ {told_in told : Bool} {snapshot : Snapshot} {name : List ℕ} {from pla
     keeps = same;
   }
 
-  pub copies_part : (at : ℕ) {len : ℕ} {now watched_new : List Watched} {after : PrinterState} {slots_new : List Slot}
-      {why : Fault} → from ≤ at → at < len
-      → (told_in ≡ true → len ≡ length (open_contents snapshot (watched_at watched place)))
-      → Copied told_in told snapshot (watched_at watched place) from name printer slots after slots_new at None
-      → now ≡ watched → why ≡ fault.Read place → NameBreaks (λ file. Read file at) place now watched_new
-      → snapshot.breaks (watched_at watched place).name ≡ true
-      → Copies told_in told snapshot from place name watched printer slots watched_new after slots_new
-      (Some (Broke why))
+  pub copies_part : (at : ℕ) {len : ℕ} {mid : Moment} {now watched : List Watched} {why : Fault} → from ≤ at → at < len
+      → (see.told_in ≡ true → len ≡ length (open_contents see.snapshot (watched_at old.watched place)))
+      → Copied see (watched_at old.watched place) from name old mid at None
+      → now ≡ old.watched → why ≡ fault.Read place → NameBreaks (λ file. Read file at) place now watched
+      → see.snapshot.breaks (watched_at old.watched place).name ≡ true
+      → Copies see from place name old (record mid { watched = watched }) (Some (Broke why))
   copies_part at past below size copied same fault broken can = record {
     at = at;
     ends = record {
@@ -397,7 +390,7 @@ module _ {told_in told : Bool} {snapshot : Snapshot} {name : List ℕ} {from pla
       are = λ t. grind (arith, common_steps, length-drop, copied.puts.are, copied.are t);
       found = found_before can (
         record {
-          is = read_there (watched_at watched place) at (rw copied.puts.are copied.read);
+          is = read_there (watched_at old.watched place) at (rw copied.puts.are copied.read);
           ends = inr (inr refl);
         },
         tt,
@@ -407,17 +400,16 @@ module _ {told_in told : Bool} {snapshot : Snapshot} {name : List ℕ} {from pla
     keeps = (broke_at (λ file. Read file at) refl same fault broken, refl);
   }
 
-  pub copies_short : (at : ℕ) {watched_new : List Watched} {after : PrinterState} {slots_new : List Slot} {why : Fault}
-      → Copied told_in told snapshot (watched_at watched place) from name printer slots after slots_new at (Some why)
-      → watched_new ≡ watched → Copies told_in told snapshot from place name watched printer slots watched_new after
-      slots_new (Some (Over why))
+  pub copies_short : (at : ℕ) {new : Moment} {why : Fault}
+      → Copied see (watched_at old.watched place) from name old new at (Some why)
+      → new.watched ≡ old.watched → Copies see from place name old new (Some (Over why))
   copies_short at copied same = record {
     at = at;
     ends = record {
       events = gives copied.puts.bytes ∷ [];
       are = λ t. begins_bytes (longer copied.puts.bytes (at - from) copied.puts.are (copied.are t));
       found = found_begun (gives copied.bytes ∷ []) (begins_bytes copied.puts.are) (
-        read_there (watched_at watched place) at copied.read,
+        read_there (watched_at old.watched place) at copied.read,
         tt,
       );
       came = one_event copied.puts.came;

@@ -1,6 +1,6 @@
 -- Lemmas on what the outputs have after a look at a name.
 use Rattle.follow_core.specs.{
-  Standing.{StandsAt, CanVisit, IsFollowed, IsLong, IsLeft, Stands},
+  Standing.{CanVisit, NameState, IsFollowed, IsLong, IsLeft, Stands},
   declared.{
     notice.Notice.Notice,
     visitor.Stop.{Stop, TheVariants.{Broke, Over}},
@@ -9,28 +9,27 @@ use Rattle.follow_core.specs.{
   Reading.{AreAtLook, AreFound, IsFound, IsMissing, IsTold, LeftOpen, NoneBreaks, StartsIn, looks_more},
   Reading.{names_more, no_looks},
   Event.{Event, gives, lines_in},
-  Version.{Entry, entries_at_look, entries_led, held_at, open_after_later, open_after_look},
-  Gain.{last_from, last_of, gains_after},
+  Version.{entries_led, held_at, open_after_later, open_after_look},
+  Gain.gains_after,
   inner.{
     Giving.{Anywhere, BrokeAt, Came, Nothing, WereFound, GivesDue, Follows, IfBroke, Keeps, Shared, Starts, fault_by},
-    Giving.{found_all, found_before, found_begun, is_read, stop_in, text_under},
+    Giving.{found_all, found_before, found_begun, is_read, stop_in, text_under, Moment, Sight, moment},
     Visits.{Visits, TellsStop, Visited},
   },
   Look.{Fate, Look, Ways, can_meet, entries_in, failed_by, failed_in, fate_at, is_dropped, snapshots, sound},
   Look.{unopened, is_first},
   Notice.is_missing,
-  Share.{Due, Share, due_later, failure_line, failure_of, given_by, is_unopened, led_before, missing_share},
+  Share.{Due, Share, opened_in, due_later, failure_line, failure_of, given_by, is_unopened, led_before, missing_share},
   Share.{no_share, share_by},
   Printing.PrinterState,
   Telling.{Tells, failure_message, failure_text, tail_by},
 }
 use Rattle.follow_core.proofs.{
-  RunLemmas.last_from-append,
   CallLemmas.{came_none, failure_said, wrote_after, wrote_line},
   CallGivesLemmas.{if_so, broke_at, found_as, goes_after, held_many, if_broke, keeps_others, none_of, nothing_due},
   CallGivesLemmas.{opened_now, some_of},
-  CatchLemmas.{FromFrontOr, LooksAgain, long_by, ToldAgain, at_look},
-  LookLemmas.{last_file, entries_more, failed_more, failed_sound, broken_sound, broken_more, seeing, IsDue},
+  CatchLemmas.{FromFrontOr, LooksAgain, long_by, ToldAgain},
+  LookLemmas.{open_more, failed_more, failed_sound, broken_sound, broken_more, seeing, IsDue},
 }
 use Rattle.std.proofs.{
   lemmas.Grind.common_steps,
@@ -58,14 +57,14 @@ use Rattle.ports_core.{
 use Rattle.watch_core.specs.declared.watch.Broken.TheVariants as broken
 
 -- The outputs have what the look gives for the name, by its fate. If what looks see isn't visible, they have a share.
-pub record Looked (told_in told : Bool) (ways : Ways) (before : List Look) (snapshot : Snapshot) (name : List ℕ)
-    (printer : PrinterState)
-    (old : List Slot) (after : PrinterState) (new : List Slot) (has_failed : Bool) (fate : Fate) : Type 0 where
+pub record Looked (see : Sight) (ways : Ways) (before : List Look) (name : List ℕ) (old new : Moment)
+    (has_failed : Bool) (fate : Fate) : Type 0 where
   pub share : Share
-  pub is_share : told_in ≡ true → (fates : List Fate) → share ≡ share_by ways name before (seeing snapshot fates) fate
-  pub found : IsFound before snapshot name fate share ⊎ IsMissing before snapshot name fate share
+  pub is_share : see.told_in ≡ true → (fates : List Fate)
+      → share ≡ share_by ways name before (seeing see.snapshot fates) fate
+  pub found : IsFound before see.snapshot name fate share ⊎ IsMissing before see.snapshot name fate share
   pub failed : is_some share.failure ≡ has_failed
-  pub shared : Shared told printer share old after new None
+  pub shared : Shared see.told old.printer share old.slots new.printer new.slots None
 
 -- the message of a failure is written after what was given
 said_after : {told : Bool} {printer : PrinterState} {after : PrinterState} {opened : Bool} {name bytes line : List ℕ}
@@ -85,15 +84,14 @@ fault_line place name fate broke = grind (arith, common_steps)
 abbrev shared_as : (opened : Bool) → List ℕ → List Event → Option Fault → Share
 shared_as opened name events failure = record { name = name; is_opened = opened; events = events; failure = failure }
 
-module _ {told_in told : Bool} {ways : Ways} {before : List Look} {snapshot : Snapshot} {name : List ℕ} {due : Due}
-    {opened : Option ℕ} {printer : PrinterState} {after : PrinterState} {old mid : List Slot}
-    (dues : IsDue told_in ways before snapshot name due opened) where
+module _ {see : Sight} {ways : Ways} {before : List Look} {name : List ℕ} {due : Due} {opened : Option ℕ}
+    {old mid : Moment} (dues : IsDue see.told_in ways before see.snapshot name due opened) where
   -- all that is due was given
-  pub looked_whole : {none : List Event} {fate : Fate} → GivesDue told_in (WereFound (IsTold before snapshot name)
-      (StartsIn before name) snapshot name fate None) told (is_first before) printer name
-      (due.came ++ due.led) none old after mid None → (is_first before ≡ true
-      → (file : ℕ) × Found snapshot name (opens_as (Some file)))
-      → Looked told_in told ways before snapshot name printer old after mid false sound
+  pub looked_whole : {none : List Event} {fate : Fate} → GivesDue see.told_in (WereFound (IsTold before see.snapshot name)
+      (StartsIn before name) see.snapshot name fate None) see.told (is_first before) old.printer name
+      (due.came ++ due.led) none old.slots mid.printer mid.slots None
+      → (is_first before ≡ true → (file : ℕ) × Found see.snapshot name (opens_as (Some file)))
+      → Looked see ways before name old mid false sound
   looked_whole ends there = record {
     share = shared_as (is_first before) name ends.events None;
     found = inl (record {
@@ -110,17 +108,18 @@ module _ {told_in told : Bool} {ways : Ways} {before : List Look} {snapshot : Sn
   }
 
   -- a call failed: what comes before it was given, and the message follows
-  pub looked_broke : (place : ℕ) {new : List Slot} {why : Fault} (fate : Fate) → is_some (failed_by fate None) ≡ true
+  pub looked_broke : (place : ℕ) {slots : List Slot} {why : Fault} (fate : Fate) → is_some (failed_by fate None) ≡ true
       → why ≡ fault_by place fate
       → (not (is_unopened fate) && is_first before) ≡ is_first before
-      → GivesDue told_in
-      (WereFound (IsTold before snapshot name) (StartsIn before name) snapshot name fate (Some (Broke why))) told
-      (is_first before) printer name (due.came ++ due.led) (given_by due snapshot opened fate) old after mid
-      (Some (Broke why))
-      → (is_first before ≡ true → (file : ℕ) × Found snapshot name (opens_as (Some file)))
-      → ((reason : Reason) × SaysOn told (tail_by printer.calling) reason (failure_message why name) mid new)
-      → Looked told_in told ways before snapshot name printer old after new true fate
-  looked_broke place {new} {why} fate broke fault openly ends there says =
+      → GivesDue see.told_in
+      (WereFound (IsTold before see.snapshot name) (StartsIn before name) see.snapshot name fate (Some (Broke why)))
+      see.told (is_first before) old.printer name (due.came ++ due.led) (given_by due see.snapshot opened fate) old.slots
+      mid.printer mid.slots (Some (Broke why))
+      → (is_first before ≡ true → (file : ℕ) × Found see.snapshot name (opens_as (Some file)))
+      → ((reason : Reason)
+      × SaysOn see.told (tail_by old.printer.calling) reason (failure_message why name) mid.slots slots)
+      → Looked see ways before name old (record mid { slots = slots }) true fate
+  looked_broke place {why = why} fate broke fault openly ends there says =
       let line = fault_line place name fate broke in record {
         share = shared_as (is_first before) name ends.events (failure_of fate);
         is_share = λ t fates. share_is t fates line.1 ends.events (ends.are t);
@@ -137,10 +136,10 @@ module _ {told_in told : Bool} {ways : Ways} {before : List Look} {snapshot : Sn
         failed = line.1;
         shared = rw (← line.0) (said_after ends.came (failure_said (is_read fate) place name (rw fault at says.1)));
       } where
-        share_is : told_in ≡ true → (fates : List Fate) → is_some (failure_of fate) ≡ true → (events : List Event)
-            → events ≡ given_by due snapshot opened fate
+        share_is : see.told_in ≡ true → (fates : List Fate) → is_some (failure_of fate) ≡ true → (events : List Event)
+            → events ≡ given_by due see.snapshot opened fate
             → shared_as (is_first before) name events (failure_of fate)
-            ≡ share_by ways name before (seeing snapshot fates) fate
+            ≡ share_by ways name before (seeing see.snapshot fates) fate
         share_is t fates fails events are =
             let is = dues.is t fates in
             rw (fails, openly, are, is.1, is.2) refl
@@ -154,26 +153,22 @@ entries_first ways look is = append-nil _ ∙ ap (entries_led look.snapshot None
 
 -- A later look.
 
-abbrev pub last_in : Ways → List ℕ → Look → List Look → Entry
-last_in ways name before looks = last_of (entries_in ways name (before ∷ looks))
-
 -- What is due of a name at the look after these was given, without the message about a call that failed. If no call
 -- failed, the file to which the name leads was seen up to its length.
-pub record Gave (told_in told : Bool) (ways : Ways) (looks : List Look) (snapshot : Snapshot) (place : ℕ)
-    (name : List ℕ) (led : Option ℕ)
-    (printer : PrinterState) (slots : List Slot) (after : PrinterState) (slots_new : List Slot) (fate : Fate)
-    (result : Result ℕ Stop) : Type 0 where
+pub record Gave (see : Sight) (ways : Ways) (looks : List Look) (place : ℕ) (name : List ℕ) (led : Option ℕ)
+    (old new : Moment) (fate : Fate) (result : Result ℕ Stop) : Type 0 where
   pub kept : is_dropped place looks ≡ false
   pub due : Due
   pub opened : Option ℕ
-  pub is_due : IsDue told_in ways looks snapshot name due opened
-  pub ends : GivesDue told_in
-      (WereFound (IsTold looks snapshot name) (StartsIn looks name) snapshot name fate (stop_in result)) told
-      (is_first looks) printer name (due.came ++ due.led) (given_by due snapshot opened fate) slots after slots_new
-      (stop_in result)
-  pub there : is_first looks ≡ true → (file : ℕ) × Found snapshot name (opens_as (Some file))
-  pub last : IfOk result (λ len. told_in ≡ true → (ways.by_name ≡ false → is_some led ≡ true)
-      × ((fates : List Fate) → StandsAt (last_of (entries_in ways name (looks ++ seeing snapshot fates ∷ []))) led len))
+  pub is_due : IsDue see.told_in ways looks see.snapshot name due opened
+  pub ends : GivesDue see.told_in
+      (WereFound (IsTold looks see.snapshot name) (StartsIn looks name) see.snapshot name fate (stop_in result)) see.told
+      (is_first looks) old.printer name (due.came ++ due.led) (given_by due see.snapshot opened fate) old.slots new.printer
+      new.slots (stop_in result)
+  pub there : is_first looks ≡ true → (file : ℕ) × Found see.snapshot name (opens_as (Some file))
+  pub last : IfOk result (λ len. see.told_in ≡ true → (ways.by_name ≡ false → is_some led ≡ true)
+      × ((fates : List Fate) → led ≡ opened_in ways name (looks ++ seeing see.snapshot fates ∷ []))
+      × (len ≡ length (held_at see.snapshot led)))
   pub met : IfBroke (stop_in result) (can_meet (is_first looks) ways.by_name ways.seeks fate ≡ true)
   pub openly : IfBroke (stop_in result) ((not (is_unopened fate) && is_first looks) ≡ is_first looks)
 
@@ -186,25 +181,24 @@ kept_more : (place : ℕ) (looks : List Look) (look : Look) {fate : Fate} → is
     → fate_at place look ≡ fate → is_dropped place (looks ++ look ∷ []) ≡ is_some (failed_by fate None)
 kept_more place looks look kept at = ap is_some (failed_more place looks look (none_of (failed_in place looks) kept) at)
 
--- a name on which no call failed at the last look stands at its last entry
+-- a name on which no call failed at the last look is looked at again
 through_stands : {told : Bool} {ways : Ways} (looks : List Look) (look : Look) {place : ℕ} {name : List ℕ}
     {file led : Option ℕ} {len : ℕ}
     (watched : Watched) → watched.name ≡ name → is_none watched.failed ≡ true → is_dropped place looks ≡ false
     → fate_at place look ≡ sound → (told ≡ true → file ≡ led)
-    → (told ≡ true → (ways.by_name ≡ false → is_some led ≡ true) × StandsAt
-    (last_of (entries_in ways name (looks ++ look ∷ []))) led len) → IsLong ways.by_name look.snapshot name file len
+    → (told ≡ true → (ways.by_name ≡ false → is_some led ≡ true) × (led ≡ opened_in ways name (looks ++ look ∷ []))
+    × (len ≡ length (held_at look.snapshot led))) → IsLong ways.by_name look.snapshot name file len
     → IsFollowed told ways (looks ++ look ∷ []) place name (record watched { opened = file }) len
 through_stands looks look watched named can kept at leads last long = grind
     (arith, common_steps, none_of, not-true, kept_more, begun_more, map-append, latest-last)
 
 -- what a look gave, and how the name stands after it
-looked_visited : {told_in told : Bool} {ways : Ways} {looks : List Look} {snapshot : Snapshot} {place : ℕ}
-    {name : List ℕ} {printer after : PrinterState} {slots slots_new : List Slot} {watched : Watched}
+looked_visited : {see : Sight} {ways : Ways} {looks : List Look} {place : ℕ} {name : List ℕ} {old new : Moment}
     {has_failed : Bool} {standing : Standing} (fate : Fate) → is_dropped place looks ≡ false
-    → Looked told_in told ways looks snapshot name printer slots after slots_new has_failed fate
-    → ((fates : List Fate) → fate_at place (seeing snapshot fates) ≡ fate
-    → Stands told_in ways (looks ++ seeing snapshot fates ∷ []) place name watched standing)
-    → Visited told_in told ways looks snapshot place name printer slots after slots_new watched standing has_failed
+    → Looked see ways looks name old new has_failed fate
+    → ((fates : List Fate) → fate_at place (seeing see.snapshot fates) ≡ fate
+    → Stands see.told_in ways (looks ++ seeing see.snapshot fates ∷ []) place name (watched_at new.watched place) standing)
+    → Visited see ways looks place (record { text = name; standing = standing }) old new has_failed
 looked_visited fate kept looked stands = record {
   fate = fate;
   share = looked.share;
@@ -217,77 +211,73 @@ looked_visited fate kept looked stands = record {
   stands = stands;
 }
 
-module _ {told_in told : Bool} {ways : Ways} {snapshot : Snapshot} {place : ℕ} {name : List ℕ} {standing : Standing}
-    {old new : List Watched} {printer after : PrinterState} {slots slots_new : List Slot} where
-  visits_by : (now : Standing) {failed : Bool} (change : Watched → Watched) → new ≡ changed_at place change old
-      → IsTrue (is_watchable old place)
-      → CanVisit (record { text = name; standing = now }) (change (watched_at old place))
-      → ((looks : List Look) → Stands told_in ways looks place name (watched_at old place) standing
-      → Visited told_in told ways looks snapshot place name printer slots after slots_new
-      (change (watched_at old place)) now failed)
-      → Visits told_in told ways snapshot place name standing old printer slots now new after slots_new (Ok failed)
+module _ {see : Sight} {ways : Ways} {place : ℕ} {one : NameState} {old new : Moment} where
+  visits_by : (now : Standing) {failed : Bool} (change : Watched → Watched)
+      → new.watched ≡ changed_at place change old.watched → IsTrue (is_watchable old.watched place)
+      → CanVisit (record one { standing = now }) (change (watched_at old.watched place))
+      → (watched_at new.watched place ≡ change (watched_at old.watched place) → (looks : List Look)
+      → Stands see.told_in ways looks place one.text (watched_at old.watched place) one.standing
+      → Visited see ways looks place (record one { standing = now }) old new failed)
+      → Visits see ways place one old now new (Ok failed)
   visits_by now change is can ready visited = record {
-    visited = rw there visited;
+    visited = visited there;
     stopped = tt;
     ready = subst (CanVisit _) (sym there) ready;
     others = keeps_others change is;
     halts = tt;
   } where
-    there : watched_at new place ≡ change (watched_at old place)
-    there = rw is (changed_there no_name place change old (watchable_within old place can))
+    there : watched_at new.watched place ≡ change (watched_at old.watched place)
+    there = rw is (changed_there no_name place change old.watched (watchable_within old.watched place can))
 
   -- the name broke
-  drops : (fate : Fate) (why : Fault) → (watched_at old place).name ≡ name → IsTrue (is_watchable old place)
-      → BrokeAt place old new fate why
-      → ((looks : List Look) → Stands told_in ways looks place name (watched_at old place) standing
-      → (is_dropped place looks ≡ false)
-      × Looked told_in told ways looks snapshot name printer slots after slots_new true fate
+  drops : (fate : Fate) (why : Fault) → (watched_at old.watched place).name ≡ one.text
+      → IsTrue (is_watchable old.watched place) → BrokeAt place old.watched new.watched fate why
+      → ((looks : List Look) → Stands see.told_in ways looks place one.text (watched_at old.watched place) one.standing
+      → (is_dropped place looks ≡ false) × Looked see ways looks one.text old new true fate
       × (can_meet (is_first looks) ways.by_name ways.seeks fate ≡ true))
-      → Visits told_in told ways snapshot place name standing old printer slots Left new after slots_new (Ok true)
-  drops fate why named can broke gave = visits_by Left _ broke.names can tt (λ looks stands.
+      → Visits see ways place one old Left new (Ok true)
+  drops fate why named can broke gave = visits_by Left _ broke.names can tt (λ there looks stands.
       let (kept, looked, met) = gave looks stands in
-      looked_visited fate kept looked (λ fates at. record {
-        begun = begun_more looks (seeing snapshot fates);
+      looked_visited fate kept looked (λ fates at. rw there (record {
+        begun = begun_more looks (seeing see.snapshot fates);
         named = named;
         why = inl (kept_more place looks _ kept at ∙ broke.broke, broken_more looks _ refl kept at met, refl);
-      }))
+      })))
 
   -- no call on the name failed
-  pub gave_through : {led : Option ℕ} {len : ℕ} (fate : Fate) → (watched_at old place).name ≡ name
-      → IsTrue (is_watchable old place) → Follows told_in led place old new fate None
-      → ((looks : List Look) → Stands told_in ways looks place name (watched_at old place) standing
-      → Gave told_in told ways looks snapshot place name led printer slots after slots_new fate (Ok len))
-      → IsLong ways.by_name snapshot (watched_at new place).name (watched_at new place).opened len
-      → Visits told_in told ways snapshot place name standing old printer slots (Followed len) new after slots_new
-      (Ok false)
-  gave_through {len} fate named can (file, is, leads) gave long =
-      visits_by (Followed len) (opens file) is can (named, none_of (watched_at old place).failed (not-true _ can))
-      (λ looks stands.
+  pub gave_through : {led : Option ℕ} {len : ℕ} (fate : Fate) → (watched_at old.watched place).name ≡ one.text
+      → IsTrue (is_watchable old.watched place) → Follows see.told_in led place old.watched new.watched fate None
+      → ((looks : List Look) → Stands see.told_in ways looks place one.text (watched_at old.watched place) one.standing
+      → Gave see ways looks place one.text led old new fate (Ok len))
+      → IsLong ways.by_name see.snapshot (watched_at new.watched place).name (watched_at new.watched place).opened len
+      → Visits see ways place one old (Followed len) new (Ok false)
+  gave_through {len = len} fate named can (file, is, leads) gave long =
+      visits_by (Followed len) (opens file) is can (named, none_of (watched_at old.watched place).failed (not-true _ can))
+      (λ there looks stands.
       let made = gave looks stands in looked_visited sound made.kept (looked_whole made.is_due made.ends made.there)
-      (λ fates at. through_stands looks (seeing snapshot fates) (watched_at old place) named can made.kept at leads
-      (λ t. ((made.last t).0, (made.last t).1 fates)) (rw (opened_now place old is can, named) at long)))
+      (λ fates at. rw there (through_stands looks (seeing see.snapshot fates) (watched_at old.watched place) named can made.kept at
+      leads (λ t. let (some, opened, long) = made.last t in (some, opened fates, long)) (rw (opened_now place old.watched is can, named) at long))))
 
-  pub gave_fails : {led : Option ℕ} {mid : List Slot} (fate : Fate) (stop : Stop) {now : Standing}
-      {result : Result Bool Fault} → (watched_at old place).name ≡ name
-      → IsTrue (is_watchable old place) → Follows told_in led place old new fate (Some stop)
-      → ((looks : List Look) → Stands told_in ways looks place name (watched_at old place) standing
-      → Gave told_in told ways looks snapshot place name led printer slots after mid fate (Err stop))
-      → TellsStop told after.calling name mid now slots_new stop result
-      → Visits told_in told ways snapshot place name standing old printer slots now new after slots_new result
-  gave_fails {mid} fate (Broke why) named can broke gave (tells, left, says) = rw (tells, left) (drops fate why named can broke (λ looks stands.
+  pub gave_fails : {led : Option ℕ} {slots : List Slot} (fate : Fate) (stop : Stop) {now : Standing}
+      {result : Result Bool Fault} → (watched_at old.watched place).name ≡ one.text
+      → IsTrue (is_watchable old.watched place) → Follows see.told_in led place old.watched new.watched fate (Some stop)
+      → ((looks : List Look) → Stands see.told_in ways looks place one.text (watched_at old.watched place) one.standing
+      → Gave see ways looks place one.text led old (record new { slots = slots }) fate (Err stop))
+      → TellsStop see.told new.printer.calling one.text slots now new.slots stop result
+      → Visits see ways place one old now new result
+  gave_fails {slots = slots} fate (Broke why) named can broke gave (tells, left, says) = rw (tells, left) (drops fate why named can broke (λ looks stands.
       let made = gave looks stands in (
         made.kept,
-        looked_broke made.is_due place fate broke.broke broke.fault_is made.openly made.ends made.there
+        looked_broke {mid = record new { slots = slots }} made.is_due place fate broke.broke broke.fault_is made.openly made.ends made.there
             (says.0, rw (made.ends.came.printer_is refl) at says.1),
         made.met,
       )))
-  gave_fails fate (Over why) named can follows gave (tells, same) = rw (tells, same) (record {
+  gave_fails fate (Over why) named can follows gave (tells, same) = rw tells (record {
     visited = tt;
     stopped = λ looks stands. let made = gave looks stands in (
       made.kept,
       record {
-        share = shared_as (is_first looks) name made.ends.events None;
-        after = after;
+        share = shared_as (is_first looks) one.text made.ends.events None;
         begins = λ t fates. let is = made.is_due.is t fates in rw (is.0, ← is.1)
             (record { name = refl; opened = refl; events = made.ends.are t; unfailed = refl });
         found = elim made.ends.found [
@@ -300,7 +290,7 @@ module _ {told_in told : Bool} {ways : Ways} {snapshot : Snapshot} {place : ℕ}
             events = found;
           }
         ];
-        short = rw (append-nil (lines_in name made.ends.events)) made.ends.came;
+        short = rw (append-nil (lines_in one.text made.ends.events), same) made.ends.came;
       },
     );
     ready = tt;
@@ -310,26 +300,26 @@ module _ {told_in told : Bool} {ways : Ways} {snapshot : Snapshot} {place : ℕ}
 
 -- How the first look ends.
 
-pub first_missing : {told_in told : Bool} {ways : Ways} {snapshot : Snapshot} {place : ℕ} {name : List ℕ}
-    {printer : PrinterState} {slots slots_new : List Slot} {old new : List Watched} {is_there : Bool} {reason : Reason}
-    → Reopens told_in snapshot old new place is_there → is_there ≡ false → (watched_at old place).name ≡ name
-    → IsTrue (is_watchable old place) → SaysOn told (tail_by printer.calling) reason
-    (failure_message (Open place) name) slots slots_new
-    → Visits told_in told ways snapshot place name New old printer slots
-    (if ways.by_name then Followed 0 else Left) new printer slots_new (Ok true)
-first_missing {told_in} {told} {ways} {snapshot} {place} {name} {printer} {slots} {slots_new} {old} {new} reopens gone named can says =
-    visits_by _ (opens None) (rw none at reopens.names) can (ready ways.by_name)
-    (λ looks fresh. rw fresh.0 (looked_visited sound refl looked (λ fates at. stands fates at ways.by_name refl))) where
+pub first_missing : {see : Sight} {ways : Ways} {place : ℕ} {name : List ℕ} {old : Moment} {watched : List Watched}
+    {slots : List Slot} {is_there : Bool} {reason : Reason}
+    → Reopens see.told_in see.snapshot old.watched watched place is_there → is_there ≡ false
+    → (watched_at old.watched place).name ≡ name → IsTrue (is_watchable old.watched place)
+    → SaysOn see.told (tail_by old.printer.calling) reason (failure_message (Open place) name) old.slots slots
+    → Visits see ways place (record { text = name; standing = New }) old (if ways.by_name then Followed 0 else Left)
+    (moment watched old.printer slots) (Ok true)
+first_missing {see} {ways} {place} {name} {old} {watched} {slots} reopens gone named can says =
+    visits_by _ (opens None) (rw none at reopens.names) can (ready ways.by_name) (λ there looks fresh. rw fresh.0
+    (looked_visited sound refl looked (λ fates at. rw there (stands fates at ways.by_name refl)))) where
       none : reopens.file ≡ None
       none = none_of reopens.file (reopens.found ∙ gone)
 
-      nowhere : told_in ≡ true → snapshot.leads name ≡ None
-      nowhere t = sym (reopens.leads t ∙ ap snapshot.leads named) ∙ none
+      nowhere : see.told_in ≡ true → see.snapshot.leads name ≡ None
+      nowhere t = sym (reopens.leads t ∙ ap see.snapshot.leads named) ∙ none
 
-      lost : Found snapshot name (opens_as None)
+      lost : Found see.snapshot name (opens_as None)
       lost = rw (none, named) at reopens.opens
 
-      looked : Looked told_in told ways [] snapshot name printer slots printer slots_new true sound
+      looked : Looked see ways [] name old (moment watched old.printer slots) true sound
       looked = record {
         share = missing_share name;
         is_share = λ is fates. grind (arith, common_steps, entries_first);
@@ -338,23 +328,24 @@ first_missing {told_in} {told} {ways} {snapshot} {place} {name} {printer} {slots
         shared = said_after came_none (failure_said false place name says);
       }
 
-      unbroken : (watched_at old place).failed ≡ None
-      unbroken = none_of (watched_at old place).failed (not-true _ can)
+      unbroken : (watched_at old.watched place).failed ≡ None
+      unbroken = none_of (watched_at old.watched place).failed (not-true _ can)
 
       ready : (by_name : Bool)
           → CanVisit (record { text = name; standing = if by_name then Followed 0 else Left })
-          (opens None (watched_at old place))
+          (opens None (watched_at old.watched place))
       ready true = (named, unbroken)
       ready false = tt
 
-      stands : (fates : List Fate) → fate_at place (seeing snapshot fates) ≡ sound → (by_name : Bool)
+      stands : (fates : List Fate) → fate_at place (seeing see.snapshot fates) ≡ sound → (by_name : Bool)
           → ways.by_name ≡ by_name
-          → Stands told_in ways (seeing snapshot fates ∷ []) place name (opens None (watched_at old place))
+          → Stands see.told_in ways (seeing see.snapshot fates ∷ []) place name (opens None (watched_at old.watched place))
           (if by_name then Followed 0 else Left)
-      stands fates at true way = through_stands [] (seeing snapshot fates) (watched_at old place) named can refl at
+      stands fates at true way = through_stands [] (seeing see.snapshot fates) (watched_at old.watched place) named can refl at
           (λ t. refl) (λ t. (
             λ other. absurd (false≢true (sym other ∙ way)),
-            rw (nowhere t) (record { file = refl; seen = refl }),
+            sym (nowhere t),
+            refl,
           )) (λ by. inr lost)
       stands fates at false way = record {
         begun = refl;
@@ -362,21 +353,20 @@ first_missing {told_in} {told} {ways} {snapshot} {place} {name} {printer} {slots
         why = inr (record {
           way = way;
           unbroken = unbroken;
-          kept = kept_more place [] (seeing snapshot fates) refl at;
+          kept = kept_more place [] (seeing see.snapshot fates) refl at;
           closed = refl;
           unopened = nowhere;
         });
       }
 
-pub first_unopened : {told_in told : Bool} {ways : Ways} {snapshot : Snapshot} {place : ℕ} {name : List ℕ}
-    {printer : PrinterState}
-    {slots slots_new : List Slot} {old new : List Watched} {why : Fault} {now : Standing} {result : Result Bool Fault}
-    → (watched_at old place).name ≡ name → IsTrue (is_watchable old place)
-    → why ≡ Open place → NameBreaks (λ file. broken.Open) place old new
-    → snapshot.breaks (watched_at old place).name ≡ true
-    → TellsStop told printer.calling name slots now slots_new (Broke why) result
-    → Visits told_in told ways snapshot place name New old printer slots now new printer slots_new result
-first_unopened {place} {name} {old} {why} named can is broke fails (tells, left, says) =
+pub first_unopened : {see : Sight} {ways : Ways} {place : ℕ} {name : List ℕ} {old : Moment} {watched : List Watched}
+    {slots : List Slot} {why : Fault} {now : Standing} {result : Result Bool Fault}
+    → (watched_at old.watched place).name ≡ name → IsTrue (is_watchable old.watched place)
+    → why ≡ Open place → NameBreaks (λ file. broken.Open) place old.watched watched
+    → see.snapshot.breaks (watched_at old.watched place).name ≡ true
+    → TellsStop see.told old.printer.calling name old.slots now slots (Broke why) result
+    → Visits see ways place (record { text = name; standing = New }) old now (moment watched old.printer slots) result
+first_unopened {place = place} {name} {why = why} named can is broke fails (tells, left, says) =
     rw (tells, left) (drops unopened why named can (broke_at (λ file. broken.Open) refl refl is broke)
     (λ looks fresh. rw fresh.0 (
       refl,
@@ -389,8 +379,7 @@ first_unopened {place} {name} {old} {why} named can is broke fails (tells, left,
           failed = refl;
           events = tt;
           broke = inr (rw named at fails);
-          there = λ opened. absurd
-              (false≢true opened);
+          there = λ opened. absurd (false≢true opened);
         });
         failed = refl;
         shared = said_after came_none (failure_said false place name (rw is at says.1));
@@ -401,32 +390,34 @@ first_unopened {place} {name} {old} {why} named can is broke fails (tells, left,
 -- A call on the file that was just opened failed.
 
 -- the file was opened; its start part was given under its header, or what comes before a call that failed
-pub first_gave : {told_in told : Bool} {ways : Ways} {snapshot : Snapshot} {place : ℕ}
-    {name contents : List ℕ} {printer inside after : PrinterState} {slots slots_new : List Slot}
-    {old mid : List Watched} (new : List Watched) {is_there : Bool} {fate : Fate} {result : Result ℕ Stop}
-    → inside ≡ printer → Reopens told_in snapshot old mid place is_there → is_there ≡ true
-    → (watched_at old place).name ≡ name → (told_in ≡ true → contents ≡ held_at snapshot (snapshot.leads name))
-    → Keeps place mid new fate (stop_in result)
+pub first_gave : {see : Sight} {ways : Ways} {place : ℕ} {name contents : List ℕ} {inside : PrinterState}
+    {old new : Moment} {mid : List Watched} {is_there : Bool} {fate : Fate} {result : Result ℕ Stop}
+    → inside ≡ old.printer → Reopens see.told_in see.snapshot old.watched mid place is_there → is_there ≡ true
+    → (watched_at old.watched place).name ≡ name
+    → (see.told_in ≡ true → contents ≡ held_at see.snapshot (see.snapshot.leads name))
+    → Keeps place mid new.watched fate (stop_in result)
     → IfBroke (stop_in result) (can_meet true ways.by_name ways.seeks fate ≡ true)
-    → IfOk result (λ len. told_in ≡ true → len ≡ length contents)
-    → GivesDue told_in (WereFound Nothing Anywhere snapshot name fate (stop_in result)) told true inside name
-    (gives (ways.start contents) ∷ []) (led_before snapshot fate (gives (ways.start contents) ∷ [])) slots after
-    slots_new (stop_in result) → (looks : List Look) → Stands told_in ways looks place name (watched_at old place) New
-    → Gave told_in told ways looks snapshot place name (snapshot.leads name) printer slots after slots_new fate result
-first_gave {told_in} {told} {ways} {snapshot} {place} {name} {contents} {after} {slots} {slots_new} {mid} new {fate}
-    {result} viewed reopens there named same keeps met long ends looks fresh =
+    → IfOk result (λ len. see.told_in ≡ true → len ≡ length contents)
+    → GivesDue see.told_in (WereFound Nothing Anywhere see.snapshot name fate (stop_in result)) see.told true inside name
+    (gives (ways.start contents) ∷ []) (led_before see.snapshot fate (gives (ways.start contents) ∷ [])) old.slots
+    new.printer new.slots (stop_in result)
+    → (looks : List Look) → Stands see.told_in ways looks place name (watched_at old.watched place) New
+    → Gave see ways looks place name (see.snapshot.leads name) old new fate result
+first_gave {see} {ways} {place} {name} {contents} {new = new} {mid} {fate = fate} {result} viewed reopens there named same
+    keeps met long ends looks fresh =
     rw (← viewed, fresh.0) (record {
       kept = refl;
       due = record { came = []; led = gives (ways.start contents) ∷ [] };
       opened = None;
       is_due = record {
         is = λ is fates.
-            let look = seeing snapshot fates in
+            let look = seeing see.snapshot fates in
             let (id, leads) = found is in
             let entries = entries_first ways look leads in (
               ap is_missing entries,
               ap (λ those. record { came = []; led = gives those ∷ [] })
-                  (ap ways.start (same is ∙ ap (held_at snapshot) leads) ∙ sym (ap (gains_after ways.start []) entries ∙ append-nil _)),
+                  (ap ways.start (same is ∙ ap (held_at see.snapshot) leads)
+                  ∙ sym (ap (gains_after ways.start []) entries ∙ append-nil _)),
               refl,
             );
       };
@@ -436,10 +427,10 @@ first_gave {told_in} {told} {ways} {snapshot} {place} {name} {contents} {after} 
       met = met;
       openly = opens_so result keeps;
     }) where
-      found : told_in ≡ true → (id : ℕ) × (snapshot.leads name ≡ Some id)
-      found t = some_of (snapshot.leads name) (ap is_some (sym (reopens.leads t ∙ ap snapshot.leads named)) ∙ reopens.found ∙ there)
+      found : see.told_in ≡ true → (id : ℕ) × (see.snapshot.leads name ≡ Some id)
+      found t = some_of (see.snapshot.leads name) (ap is_some (sym (reopens.leads t ∙ ap see.snapshot.leads named)) ∙ reopens.found ∙ there)
 
-      opens_so : (result : Result ℕ Stop) → Keeps place mid new fate (stop_in result)
+      opens_so : (result : Result ℕ Stop) → Keeps place mid new.watched fate (stop_in result)
           → IfBroke (stop_in result) ((not (is_unopened fate) && true) ≡ true)
       opens_so result keeps = grind (arith, common_steps)
 
@@ -450,61 +441,56 @@ pub first_long : {told_in : Bool} {snapshot : Snapshot} {place : ℕ} {old mid n
     → IsLong by_name seen (watched_at new place).name (watched_at new place).opened len
 first_long {place} {old} {mid} seen len by_name reopens there can same long = grind (arith, common_steps, long_by, opened_now)
 
-pub first_started : {told_in told : Bool} {ways : Ways} {snapshot : Snapshot} {now : Snapshot} {place : ℕ}
-    {name : List ℕ} {printer inside middle after : PrinterState} {slots slots_mid slots_new : List Slot}
-    {old mid : List Watched} (new : List Watched)
-    {is_there : Bool} {none : List Event} {result : Result ℕ Stop} → inside ≡ printer
-    → Reopens told_in snapshot old mid place is_there → is_there ≡ true
-    → (watched_at old place).name ≡ name → IsTrue (is_watchable old place) → now ≡ snapshot
+pub first_started : {see : Sight} {ways : Ways} {now : Snapshot} {place : ℕ} {name : List ℕ} {inside : PrinterState}
+    {old mid new : Moment} {is_there : Bool} {none : List Event} {result : Result ℕ Stop} → inside ≡ old.printer
+    → Reopens see.told_in see.snapshot old.watched mid.watched place is_there → is_there ≡ true
+    → (watched_at old.watched place).name ≡ name → IsTrue (is_watchable old.watched place) → now ≡ see.snapshot
     → ((Is : List Event → Type 0) → Is []
-    → GivesDue told_in Is told true inside name [] none slots middle slots_mid None)
-    → (starts : Starts told_in told ways.seeks now ways.start place name mid middle slots_mid new after slots_new
-    (stop_in result)) → IfOk result (λ len. told_in ≡ true → len ≡ length (open_contents now (watched_at mid place)))
-    → (looks : List Look) → Stands told_in ways looks place name (watched_at old place) New
-    → Gave told_in told ways looks snapshot place name
-    (snapshot.leads name) printer slots after slots_new starts.fate result
-first_started {told_in} {told} {ways} {snapshot} {now} {place} {name} {inside} {after} {slots} {slots_new} {old} {mid} new
-    {result} viewed reopens there named can same header starts long =
-    let contents = held_at now (watched_at mid place).opened in
-    first_gave new viewed reopens there named
-    (λ t. rw (opened_now place old reopens.names can, same) (ap (held_at snapshot) (reopens.leads t ∙ ap snapshot.leads named))) starts.keeps
+    → GivesDue see.told_in Is see.told true inside name [] none old.slots mid.printer mid.slots None)
+    → (starts : Starts (record see { snapshot = now }) ways.seeks ways.start place name mid new (stop_in result))
+    → IfOk result (λ len. see.told_in ≡ true → len ≡ length (open_contents now (watched_at mid.watched place)))
+    → (looks : List Look) → Stands see.told_in ways looks place name (watched_at old.watched place) New
+    → Gave see ways looks place name (see.snapshot.leads name) old new starts.fate result
+first_started {see} {ways} {now} {place} {name} {old = old} {mid} {result = result} viewed reopens there named can same header
+    starts long =
+    first_gave viewed reopens there named
+    (λ t. rw (opened_now place old.watched reopens.names can, same) (ap (held_at see.snapshot) (reopens.leads t ∙ ap see.snapshot.leads named))) starts.keeps
     (if_broke (stop_in result) (λ met. met ways.by_name) starts.met)
     long
     (rw (← same) (goes_after (header (WereFound Nothing Anywhere now name sound None) (found_all tt))
     (rw known at starts.ends))) where
-      known : (watched_at mid place).name ≡ name
-      known = rw (opened_now place old reopens.names can) named
+      known : (watched_at mid.watched place).name ≡ name
+      known = rw (opened_now place old.watched reopens.names can) named
 
 -- a later look at a name whose file was seen up to some place
-pub later_gave : {told_in told : Bool} {ways : Ways} {snapshot : Snapshot} {place : ℕ} {name : List ℕ} {position : ℕ}
-    {printer after : PrinterState} {slots slots_new : List Slot} {old new : List Watched} {result : Result ℕ Stop}
-    → (again : LooksAgain told_in told ways.by_name snapshot place
-    name position old printer slots new after slots_new result) → (looks : List Look)
-    → Stands told_in ways looks place name (watched_at old place) (Followed position)
-    → Gave told_in told ways looks snapshot place name (open_after_look ways.by_name name
-    (watched_at old place).opened snapshot) printer slots after slots_new again.fate result
+pub later_gave : {see : Sight} {ways : Ways} {place : ℕ} {name : List ℕ} {position : ℕ} {old new : Moment}
+    {result : Result ℕ Stop} → (again : LooksAgain see ways.by_name place name position old new result)
+    → (looks : List Look) → Stands see.told_in ways looks place name (watched_at old.watched place) (Followed position)
+    → Gave see ways looks place name (open_after_look ways.by_name name (watched_at old.watched place).opened see.snapshot)
+    old new again.fate result
 later_gave again [] followed = absurd (false≢true (sym followed.begun))
-later_gave {told_in} {ways} {snapshot} {place} {name} {position} {old} {result} again (before ∷ looks) followed = record {
+later_gave {see} {ways} {place} {name} {position} {old} {result = result} again (before ∷ looks) followed = record {
   kept = followed.kept;
-  due = due_later ways.by_name name opened (last_in ways name before looks) snapshot;
+  due = due_later ways.by_name name opened position see.snapshot;
   opened = opened;
-  is_due = grind (arith, common_steps, last_file, followed.stands);
-  ends = found_as tells begins (rw followed.named at (again.ends (last_in ways name before looks) followed.stands));
+  is_due = record {
+    is = λ t fates. let (file, seen) = followed.stands t in
+        (refl, (λ i. due_later ways.by_name name (file i) (seen i) see.snapshot), file);
+  };
+  ends = found_as tells begins (rw followed.named at again.ends);
   there = λ first. absurd (false≢true first);
   last = IfOk-weaker result _ _ (λ n is t. (
-    λ way. ap (λ by_name. is_some (open_after_look by_name name opened snapshot)) way ∙ followed.there t way,
-    λ fates. rw (at_last t fates) (is t (last_in ways name before looks) (followed.stands t)),
-  )) again.stands;
+    λ way. ap (λ by_name. is_some (open_after_look by_name name opened see.snapshot)) way ∙ followed.there t way,
+    λ fates. let (file, seen) = followed.stands t in ap (λ those. open_after_look ways.by_name name those see.snapshot) file
+        ∙ sym (open_more ways name before looks (seeing see.snapshot fates)),
+    is t (λ none. let (file, seen) = followed.stands t in
+        seen ∙ ap (λ those. length (held_at (latest (snapshots (before ∷ looks))) those)) (sym file ∙ none)),
+  )) again.len;
   met = if_broke (stop_in result) (λ met. met ways.seeks) again.met;
   openly = if_so (stop_in result) (and-false (not (is_unopened again.fate)));
 } where
   opened : Option ℕ
-  opened = (watched_at old place).opened
-
-  at_last : told_in ≡ true → (fates : List Fate)
-      → last_of (entries_in ways name ((before ∷ looks) ++ seeing snapshot fates ∷ []))
-      ≡ last_from (last_in ways name before looks) (entries_at_look ways.by_name name opened snapshot)
-  at_last t fates = grind (arith, common_steps, entries_more, last_from-append, last_file, followed.stands t)
+  opened = (watched_at old.watched place).opened
 
   begins : (file : Option ℕ) (from : ℕ) → FromFrontOr opened position file from
       → StartsIn (before ∷ looks) name file from
@@ -518,8 +504,8 @@ later_gave {told_in} {ways} {snapshot} {place} {name} {position} {old} {result} 
   left_open None by_name can long = long (can refl)
   left_open (Some file) by_name can long = long
 
-  tells : (notice : Notice) → ToldAgain ways.by_name snapshot (watched_at old place) position notice
-      → IsTold (before ∷ looks) snapshot name notice
+  tells : (notice : Notice) → ToldAgain ways.by_name see.snapshot (watched_at old.watched place) position notice
+      → IsTold (before ∷ looks) see.snapshot name notice
   tells notice (can, seen) = (
     refl,
     opened,
@@ -559,25 +545,24 @@ still_left {ways} (before ∷ looks) look {place} {name} {watched} fine left = r
   ];
 }
 
-pub left_visited : {told_in told : Bool} {ways : Ways} {snapshot : Snapshot} {place : ℕ} {name : List ℕ}
-    {printer : PrinterState} {slots : List Slot} {watched : Watched} (looks : List Look)
-    → IsLeft told_in ways looks place name watched
-    → Visited told_in told ways looks snapshot place name printer slots printer slots watched Left false
-left_visited {told_in} {ways} {snapshot} {place} {name} looks left = elim left.why [
+pub left_visited : {see : Sight} {ways : Ways} {place : ℕ} {name : List ℕ} {now : Moment} (looks : List Look)
+    → IsLeft see.told_in ways looks place name (watched_at now.watched place)
+    → Visited see ways looks place (record { text = name; standing = Left }) now now false
+left_visited {see} {ways} {place} {name} looks left = elim left.why [
   | inl dropped ↦ record {
     fate = sound;
     share = no_share name;
     found = λ fates at. record { is = λ t. rw dropped.0 refl; found = inl (dropped.0, refl) };
     is_failed = refl;
     shared = came_none;
-    stands = λ fates at. still_left looks (seeing snapshot fates) at left;
+    stands = λ fates at. still_left looks (seeing see.snapshot fates) at left;
   }
   -- if no file is open and names aren't followed, nothing is due
-  | inr missed ↦ let dues : IsDue told_in ways looks snapshot name (record { came = []; led = [] }) None
-      = grind (arith, common_steps, last_file, left.begun) in
+  | inr missed ↦ let dues : IsDue see.told_in ways looks see.snapshot name (record { came = []; led = [] }) None
+      = grind (arith, common_steps, left.begun) in
       looked_visited sound missed.kept (looked_whole dues {none = []} {fate = sound}
       (rw left.begun (nothing_due (found_all tt))) (λ first. absurd (false≢true (sym left.begun ∙ first))))
-      (λ fates at. still_left looks (seeing snapshot fates) at left)
+      (λ fates at. still_left looks (seeing see.snapshot fates) at left)
 ]
 
 -- Names on which no call can fail.

@@ -12,12 +12,12 @@ use Rattle.std.proofs.{
 use Rattle.ports_core.specs.{Slot.{Slot, adds}, declared.{fault.Fault.Fault, calling.Calling.Calling}}
 use Rattle.follow_core.specs.{
   FollowState.{AllReady, CanLook, FollowState, Holds, IsCause, IsOther, LooksOn, StandsIn, goes_on_at, is_alive},
-  FollowState.{is_alive_from, new_state, nothing, lacks_memory, output_broke, opened_follow, Asked, Point, asked_so, point},
+  FollowState.{is_alive_from, new_state, nothing, lacks_memory, output_broke, opened_follow, Asked, Point, asked_so},
+  FollowState.point,
   Look.{Look, Ways, snapshots, ways_of},
-  Printing.PrinterState,
   inner.{
     Visits.{StandFrom, VisitedTo, VisitsAll, any_goes_on, goes_on_as, AddsSome, BeginsLook, MakesLook, LookedAll},
-    Giving.{IsFront, HasStopped},
+    Giving.{IsFront, HasStopped, Moment, Sight, moment},
   },
   Reading.{looks_more, no_looks},
   Sharing.CanPrint,
@@ -28,7 +28,6 @@ use Rattle.follow_core.specs.{
 }
 use Rattle.follow_core.proofs.{
   CallLemmas.no_memory,
-  LookLemmas.last_file,
   RunLemmas.failed-append,
   FollowLemmas.{nothing_shared, all_both, length_texts, text_there, same_length, unbroken_watched, watched_there},
 }
@@ -42,7 +41,7 @@ use Rattle.ports_core.specs.declared.fault.Fault.TheVariants as fault
 -- following has as many names as were given
 length_names : (follow : FollowState) {names : List (List ℕ)} → texts follow.names ≡ names
     → length follow.names ≡ length names
-length_names follow same = rw (← same) (sym (length_texts follow.names follow.names refl))
+length_names follow same = rw (← same) (sym (length_texts follow.names))
 
 -- Names that were added.
 
@@ -94,7 +93,7 @@ added_begins {told_in} {old} {mid} {watched} {watched_mid} is = record {
 pub goes_on_there : (ways : Ways) (looks : List Look) (place : ℕ) (name : List ℕ) (watched : Watched)
     (standing : Standing) → Stands true ways looks place name watched standing
     → goes_on_as ways.by_name standing ≡ goes_on_at ways looks place name
-goes_on_there ways looks place name watched standing stands = grind (arith, common_steps, or_none, last_file, and_none)
+goes_on_there ways looks place name watched standing stands = grind (arith, common_steps, or_none, and_none)
 
 pub alive_from : (ways : Ways) (looks : List Look) (from : ℕ) (names : List NameState)
     → ((place : ℕ) → place < length names
@@ -114,7 +113,7 @@ alive_from ways looks from (name ∷ names) all =
 new_there : {names : List NameState} {place : ℕ} → place < length names → names ≡ map new_state (texts names)
     → (state_at names place).standing ≡ New
 new_there {names} {place} within new =
-    let inside : place < length (texts names) = rw (length_texts names names refl) within in
+    let inside : place < length (texts names) = rw (length_texts names) within in
     ap (λ (those : List NameState). (state_at those place).standing) new
     ∙ ap (λ (n : NameState). n.standing) (get_or-map new_state (texts names) place [] no_state inside)
 
@@ -191,7 +190,7 @@ module _ {told_in told : Bool} {asked : Asked} {looks : List Look} {follow : Fol
           (λ above. many),
           λ place within.
               let inside : place < length follow.names = (let as_many = stand.1 in omega arith) in
-              rw (← holds.same, text_there follow.names follow.names refl inside)
+              rw (← holds.same, text_there follow.names inside)
               (watched_there told_in _ (watched_at watched (asked.ways.first + place)) (state_at follow.names place).standing
               (stand.0 place inside)),
         )
@@ -258,46 +257,45 @@ module _ {told_in told : Bool} {snapshot : Snapshot} {seen seen_new : List Snaps
       (λ number other. rw added_now (begins.others number other).1)
 
 -- the names were looked at, after they were watched and the watch began a look
-pub makes_look : {told_in told : Bool} {snapshot : Snapshot} {seen seen_new : List Snapshot} {old mid : FollowState}
-    {names_new : List NameState} {watched watched_mid watched_new : List Watched} {printer : PrinterState}
-    {slots slots_new : List Slot} {result : Result Bool Fault} → (old.phase ≡ Over → ⊥)
-    → CanLook old watched slots → BeginsLook told_in old watched mid watched_mid → seen_new ≡ seen ++ snapshot ∷ []
-    → VisitsAll told_in told snapshot mid.by_name mid.start mid.first mid.names watched_mid mid.printer slots names_new
-    watched_new printer slots_new result → MakesLook told_in told snapshot seen (point old watched slots) seen_new
-    (point (record mid { names = names_new; printer = printer }) watched_new slots_new) result
-makes_look {told_in} {told} {snapshot} {seen} {seen_new} {old} {mid} {names_new} {watched} {watched_mid} {watched_new}
-    {printer} {slots} {slots_new} {result} live can begins saw = by result where
+pub makes_look : {see : Sight} {seen seen_new : List Snapshot} {old mid : FollowState} {watched watched_mid : List Watched}
+    {slots : List Slot} {names : List NameState} {new : Moment} {result : Result Bool Fault} → (old.phase ≡ Over → ⊥)
+    → CanLook old watched slots → BeginsLook see.told_in old watched mid watched_mid → seen_new ≡ seen ++ see.snapshot ∷ []
+    → VisitsAll see (λ from. ways_of from mid.by_name mid.start) mid.first mid.names (moment watched_mid mid.printer slots)
+    names new result
+    → MakesLook see.told_in see.told see.snapshot seen (point old watched slots) seen_new
+    (point (record mid { names = names; printer = new.printer }) new.watched new.slots) result
+makes_look {see} {seen} {seen_new} {old} {mid} {watched} {watched_mid} {slots} {names} {new} {result} live can begins saw =
+    by result where
       others : {those : Result Bool Fault}
-          → VisitsAll told_in told snapshot mid.by_name mid.start mid.first mid.names watched_mid
-          mid.printer slots names_new watched_new printer slots_new those → (number : ℕ) → IsOther old watched number
-          → watched_at watched_new number ≡ watched_at watched number
+          → VisitsAll see (λ from. ways_of from mid.by_name mid.start) mid.first mid.names
+          (moment watched_mid mid.printer slots) names new those → (number : ℕ) → IsOther old watched number
+          → watched_at new.watched number ≡ watched_at watched number
       others visits number other =
           let (others, same) = begins.others number other in
           visits.others number (subst (λ phase. IsOther (record mid { phase = phase }) watched_mid number) begins.phase others) ∙ same
 
       by : (result : Result Bool Fault)
-          → VisitsAll told_in told snapshot mid.by_name mid.start mid.first mid.names watched_mid mid.printer slots
-          names_new watched_new printer slots_new result
-          → MakesLook told_in told snapshot seen (point old watched slots) seen_new
-          (point (record mid { names = names_new; printer = printer }) watched_new slots_new) result
+          → VisitsAll see (λ from. ways_of from mid.by_name mid.start) mid.first mid.names
+          (moment watched_mid mid.printer slots) names new result
+          → MakesLook see.told_in see.told see.snapshot seen (point old watched slots) seen_new
+          (point (record mid { names = names; printer = new.printer }) new.watched new.slots) result
       by (Ok failed) visits = record {
         looked = λ asked looks before.
-            let holds = begins.holds told asked looks slots before in
+            let holds = begins.holds see.told asked looks slots before in
             let stood = stand_from holds begins.phase in
-            let visited : VisitedTo told_in told asked.ways looks snapshot (length mid.names) mid.names mid.printer slots printer
-            slots_new watched_new names_new failed = rw holds.way (visits.visited asked.ways.first looks stood) in
-            let look : Look = record { snapshot = snapshot; fates = visited.fates } in
+            let visited : VisitedTo see asked.ways looks (length mid.names) names (moment watched_mid mid.printer slots) new failed =
+            rw holds.way (visits.visited asked.ways.first looks stood) in
+            let look : Look = record { snapshot = see.snapshot; fates = visited.fates } in
             let front : IsFront visited.fates visited.fates = ([], sym (append-nil visited.fates)) in
-            let many = same_length mid.names names_new visited.same in
-            let taken : take (length mid.names) (texts mid.names) ≡ asked.names =
-            (let size = length_texts mid.names mid.names refl in
-            take_all (length mid.names) (texts mid.names) (omega arith) ∙ holds.same) in (
+            let many = same_length mid.names names visits.same in
+            let taken : take (length mid.names) (texts names) ≡ asked.names = (let size = length_texts names in
+            take_all (length mid.names) (texts names) (omega arith) ∙ visits.same ∙ holds.same) in (
               visited.fates,
               record {
                 way = holds.way;
-                same = visited.same ∙ holds.same;
+                same = visits.same ∙ holds.same;
                 numbered = holds.numbered;
-                stand = subst (StandsIn told_in asked.ways (looks ++ look ∷ []) names_new watched_new) (sym begins.phase) (
+                stand = subst (StandsIn see.told_in asked.ways (looks ++ look ∷ []) names new.watched) (sym begins.phase) (
                   (λ place within. visited.done visited.fates front place (omega (arith, within, many))),
                   rw (← many) (visits.count ∙ stood.many),
                 );
@@ -320,7 +318,7 @@ makes_look {told_in} {told} {snapshot} {seen} {seen_new} {old} {mid} {names_new}
       by (Err why) visits = record {
         looked = tt;
         stopped = λ asked looks before.
-            let holds = begins.holds told asked looks slots before in
+            let holds = begins.holds see.told asked looks slots before in
             let (whole, part, begun, printer, reached, shared, short) =
             visits.stopped asked.ways.first looks (stand_from holds begins.phase) in record {
               shares = holds.shares;

@@ -1,9 +1,10 @@
 -- Lemmas on names that are followed as long as they lead to a file: a name that leads nowhere at a look is dropped.
 use Rattle.std.proofs.{
-  Common.{◌≡◌, ◌⊎◌, inl, inr, ℕ, ◌+◌, ◌-◌, ◌≤◌, ◌<◌, zero, suc, Bool, true, false, List, [], ◌∷◌, ◌++◌, Option, Some, None},
-  Common.{refl, sym, ◌∙◌, ap, subst, arith, length, length-append, get_or, is_some, not, ◌&&◌, drop, take},
-  lemmas.{Bool.{cases_lt, false≢true}, Grind.common_steps},
-  Math.{Bool.and-false, Seq.drop-append_seam as drop_front},
+  Common.{◌≡◌, ◌⊎◌, inl, inr, ℕ, ◌+◌, ◌≤◌, ◌<◌, zero, suc, Bool, true, false, List, [], ◌∷◌, ◌++◌, Option, Some},
+  Common.None,
+  Common.{refl, sym, ◌∙◌, ap, arith, length, get_or, is_some},
+  lemmas.{Bool.{cases_lt, false≢true}},
+  Math.{Bool.and-false},
 }
 use Rattle.watch_core.specs.{
   Snapshot.{Snapshot, Finding, Found, clinging, first_led, forgiving, is_nowhere, leads_to, opens_as, or_else},
@@ -14,7 +15,7 @@ use Rattle.follow_core.specs.{
   Event.{Event, gives, notes},
   Look.{Fate, Look, Ways, fate_at, failed_by, failed_in, is_dropped, snapshots, sound, unled, unopened, unmeasured},
   Look.{unsought, unread},
-  Reading.{AllGive, AllInsist, AreAtLook, AreFound, IsFound, IsGiven, LeadsNowhere, looks_more, names_more, no_looks, no_names},
+  Reading.{AllGive, AllInsist, AreAtLook, AreFound, IsFound, IsGiven, LeadsNowhere, looks_more, names_more, no_looks},
   Share.{Share, opened_in, share_of},
   Version.open_after_later,
 }

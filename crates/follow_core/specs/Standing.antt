@@ -10,10 +10,10 @@ use Rattle.watch_core.specs.{
 }
 use Rattle.follow_core.specs.{
   declared.name.Standing.{Standing, TheVariants.{New, Followed, Left}},
-  Gain.{file_of, last_of, seen_length},
-  Look.{Look, Ways, are_met, entries_in, failed_in, is_dropped, is_first, snapshots},
+  Look.{Look, Ways, are_met, failed_in, is_dropped, is_first, snapshots},
   Reading.LeftOpen,
-  Version.{Entry, open_after},
+  Share.{opened_in, seen_in},
+  Version.open_after,
 }
 
 pub record NameState : Type 0 where
@@ -37,11 +37,6 @@ CanVisit name watched = elim name.standing [
   | Followed position ↦ (watched.name ≡ name.text) × (watched.failed ≡ None)
   | Left ↦ Unit {0}
 ]
-
--- a name stands at this entry: the file of the entry is open, and `position` bytes of it were seen
-pub record StandsAt (last : Entry) (opened : Option ℕ) (position : ℕ) : Type 0 where
-  pub file : opened ≡ file_of last
-  pub seen : position ≡ seen_length last
 
 -- The name of this number broke exactly if these looks say so. Each look can meet the fate that it has for the name.
 pub record BrokeIn (ways : Ways) (looks : List Look) (place : ℕ) (failed : Option Broken) : Type 0 where
@@ -67,14 +62,14 @@ abbrev pub IsLong : (by_name : Bool) → Snapshot → List ℕ → Option ℕ �
 IsLong by_name snapshot name None held = by_name ≡ true → LeftOpen snapshot name None held
 IsLong by_name snapshot name (Some file) held = LeftOpen snapshot name (Some file) held
 
--- The name is looked at again. The file of its last entry is open, and `position` bytes of it were seen.
+-- The name is looked at again. The file is open that the looks left open, and `position` bytes of it were seen.
 pub record IsFollowed (told : Bool) (ways : Ways) (looks : List Look) (place : ℕ) (name : List ℕ) (watched : Watched)
     (position : ℕ) : Type 0 where
   pub named : watched.name ≡ name
   pub unbroken : watched.failed ≡ None
   pub kept : is_dropped place looks ≡ false
   pub begun : is_first looks ≡ false
-  pub stands : told ≡ true → StandsAt (last_of (entries_in ways name looks)) watched.opened position
+  pub stands : told ≡ true → (watched.opened ≡ opened_in ways name looks) × (position ≡ seen_in ways name looks)
   pub there : told ≡ true → ways.by_name ≡ false → is_some watched.opened ≡ true
   pub long : IsLong ways.by_name (latest (snapshots looks)) name watched.opened position
 

@@ -1,26 +1,22 @@
 -- What a look gives for one name, call by call: bytes on standard output, under headers, and lines on standard error.
 -- Of each call on a name: what it owes, and what is due of it.
 use Rattle.std.specs.{
-  Prelude.{◌≡◌, ◌<◌, ◌-◌, Bool, true, false, ℕ, List, Option, Some, None, Result, Ok, Err, ◌⊎◌, nat_lt, [], ◌∷◌},
+  Prelude.{◌≡◌, ◌<◌, ◌-◌, Bool, true, false, ℕ, List, Option, Some, None, Result, Ok, Err, ◌⊎◌, [], ◌∷◌},
   Prelude.{◌++◌, drop, length, if◌then◌else◌, IfOk, is_some},
 }
 use Rattle.ports_core.specs.{declared.{reason.Reason.Reason, fault.Fault.Fault}, Slot.{Slot, changed_at, slot_at}}
 use Rattle.watch_core.specs.{Snapshot.Snapshot, Watched.{NameBreaks, Watched, open_contents, opens, watched_at}}
 use Rattle.follow_core.specs.{
-  declared.{
-    notice.Notice.{Notice, TheVariants.{Truncated, Replaced, Inaccessible, Appeared}},
-    visitor.Stop.{Stop, TheVariants.{Broke, Over}},
-  },
-  Event.{Begins, Event, all_but, bytes_in, events_later, gives, lines_in, notes},
+  declared.{notice.Notice.{Notice, TheVariants.{Truncated}}, visitor.Stop.{Stop, TheVariants.{Broke, Over}}},
+  Event.{Begins, Event, after_change, all_but, all_held, bytes_in, came_of, change_between, gives, lines_in},
   Followed.{last_with, text_with},
-  Gain.last_from,
   Look.{Fate, sound, unmeasured, unsought, unread, can_meet, failed_by},
   Printing.PrinterState,
   Reading.{AllGive, IsRead, IsSeen, IsWhole},
   Share.{Share, bytes_of, came_before, is_kept, led_before, lines_of},
   Sharing.{WroteBy, CanPrint, HasError},
-  Standing.{IsLong, StandsAt},
-  Version.{Entry, entries_led, entries_open, held_at, is_file},
+  Standing.IsLong,
+  Version.{held_at, open_after_look},
 }
 use Rattle.ports_core.specs.declared.fault.Fault.TheVariants as fault
 use Rattle.watch_core.specs.declared.watch.Broken.TheVariants as broken
@@ -193,87 +189,92 @@ pub data ReadsOf (opened : Option ℕ) : Fate → Type 0 where
   measures : is_some opened ≡ true → ReadsOf opened (unmeasured opened)
   reads_on : {from : ℕ} → is_some opened ≡ true → ReadsOf opened (unread opened from)
 
+-- what a look sees, and whether that and the outputs are visible
+pub record Sight : Type 0 where
+  pub told_in : Bool
+  pub told : Bool
+  pub snapshot : Snapshot
+
+abbrev pub sight : (told_in told : Bool) → Snapshot → Sight
+sight told_in told snapshot = record { told_in = told_in; told = told; snapshot = snapshot }
+
+-- the watched names, the printer and the outputs between two calls
+pub record Moment : Type 0 where
+  pub watched : List Watched
+  pub printer : PrinterState
+  pub slots : List Slot
+
+abbrev pub moment : List Watched → PrinterState → List Slot → Moment
+moment watched printer slots = record { watched = watched; printer = printer; slots = slots }
+
 -- Bytes of the open file were written from the place `from` on. If a read failed, it was the read at the place `at`.
-pub record Copies (told_in told : Bool) (snapshot : Snapshot) (from : ℕ) (place : ℕ) (name : List ℕ)
-    (watched : List Watched) (printer : PrinterState) (slots : List Slot) (watched_new : List Watched)
-    (after : PrinterState) (slots_new : List Slot) (stop : Option Stop) : Type 0 where
+pub record Copies (see : Sight) (from place : ℕ) (name : List ℕ) (old new : Moment) (stop : Option Stop)
+    : Type 0 where
   pub at : ℕ
-  pub ends : let opened = watched_at watched place in let contents = open_contents snapshot opened in
-      GivesDue told_in
-      (WereFound Nothing (FromThere opened.opened from) snapshot opened.name (unread opened.opened at) stop)
-      told false printer name (gives (drop from contents) ∷ [])
-      (all_but (length contents - at) (gives (drop from contents) ∷ [])) slots after slots_new stop
-  pub keeps : Keeps place watched watched_new (unread (watched_at watched place).opened at) stop
+  pub ends : let opened = watched_at old.watched place in let contents = open_contents see.snapshot opened in
+      GivesDue see.told_in
+      (WereFound Nothing (FromThere opened.opened from) see.snapshot opened.name (unread opened.opened at) stop)
+      see.told false old.printer name (gives (drop from contents) ∷ [])
+      (all_but (length contents - at) (gives (drop from contents) ∷ [])) old.slots new.printer new.slots stop
+  pub keeps : Keeps place old.watched new.watched (unread (watched_at old.watched place).opened at) stop
 
 -- reads begin anywhere
 abbrev pub Anywhere : Option ℕ → ℕ → Type 0
 Anywhere file from = Unit {0}
 
 -- The first look wrote its part of the open file. Before that it sought where this part begins, if `seeks` says so.
-pub record Starts (told_in told seeks : Bool) (snapshot : Snapshot) (start : List ℕ → List ℕ) (place : ℕ)
-    (name : List ℕ)
-    (watched : List Watched) (printer : PrinterState) (slots : List Slot) (watched_new : List Watched)
-    (after : PrinterState) (slots_new : List Slot) (stop : Option Stop) : Type 0 where
+pub record Starts (see : Sight) (seeks : Bool) (start : List ℕ → List ℕ) (place : ℕ) (name : List ℕ)
+    (old new : Moment) (stop : Option Stop) : Type 0 where
   pub fate : Fate
-  pub ends : let due = gives (start (held_at snapshot (watched_at watched place).opened)) ∷ [] in
-      GivesDue told_in
-      (WereFound Nothing Anywhere snapshot (watched_at watched place).name fate stop) told false printer name due
-      (led_before snapshot fate due) slots after slots_new stop
-  pub keeps : Keeps place watched watched_new fate stop
+  pub ends : let opened = watched_at old.watched place in
+      let due = gives (start (held_at see.snapshot opened.opened)) ∷ [] in
+      GivesDue see.told_in (WereFound Nothing Anywhere see.snapshot opened.name fate stop) see.told false old.printer name
+      due (led_before see.snapshot fate due) old.slots new.printer new.slots stop
+  pub keeps : Keeps place old.watched new.watched fate stop
   pub met : IfBroke stop ((by_name : Bool) → can_meet true by_name seeks fate ≡ true)
 
 -- the line reports that an open file is shorter than what was seen of it, and it is
 abbrev pub IsPast : ℕ → ℕ → Notice → Type 0
 IsPast position len notice = (notice ≡ Truncated) × (len < position)
 
--- the line that an open file is shorter than what was seen of it, if it is
-abbrev pub notes_past : ℕ → ℕ → List Event
-notes_past position len = if nat_lt len position then notes Truncated ∷ [] else []
-
--- what changed, if the first file is open and the name leads to the second
-abbrev pub change_between : Option ℕ → Option ℕ → Option Notice
-change_between None None = None
-change_between (Some opened) None = Some Inaccessible
-change_between opened (Some file) = if is_file file opened then None
-    else Some (if is_some opened then Replaced else Appeared)
-
--- A call gave what the open file adds to a name. Before the call the name stood at its last entry, with this file open
--- and `position` bytes of it seen. After the call it stands at its new last entry.
-pub record Adds (told_in told : Bool) (snapshot : Snapshot) (place : ℕ) (name : List ℕ) (position : ℕ)
-    (watched : List Watched) (printer : PrinterState) (slots : List Slot) (watched_new : List Watched)
-    (after : PrinterState) (slots_new : List Slot) (result : Result ℕ Stop) : Type 0 where
+-- A call gave what the open file adds to a name. Before the call `position` bytes of it were seen, and after it all.
+pub record Adds (see : Sight) (place : ℕ) (name : List ℕ) (position : ℕ) (old new : Moment)
+    (result : Result ℕ Stop) : Type 0 where
   pub fate : Fate
-  pub ends : let known = watched_at watched place in (last : Entry)
-      → (told_in ≡ true → StandsAt last known.opened position)
-      → let due = events_later last (entries_open snapshot known.opened) in
-      GivesDue told_in
-      (WereFound (ToldShort snapshot known position) (FromEither known.opened position) snapshot known.name fate
-      (stop_in result)) told false printer name due (came_before snapshot fate due) slots after slots_new
-      (stop_in result)
-  pub stands : let opened = (watched_at watched place).opened in IfOk result (λ len. told_in ≡ true → (last : Entry)
-      → StandsAt last opened position → StandsAt (last_from last (entries_open snapshot opened)) opened len)
-  pub long : IfOk result (HoldsMany snapshot (watched_at watched place))
-  pub keeps : Keeps place watched watched_new fate (stop_in result)
-  pub reads : IfBroke (stop_in result) (ReadsOf (watched_at watched place).opened fate)
+  pub ends : let known = watched_at old.watched place in let due = came_of see.snapshot known.opened position in
+      GivesDue see.told_in
+      (WereFound (ToldShort see.snapshot known position) (FromEither known.opened position) see.snapshot known.name fate
+      (stop_in result)) see.told false old.printer name due (came_before see.snapshot fate due) old.slots new.printer
+      new.slots (stop_in result)
+  pub len : IfOk result (λ len. see.told_in ≡ true → ((watched_at old.watched place).opened ≡ None → position ≡ 0)
+      → len ≡ length (held_at see.snapshot (watched_at old.watched place).opened))
+  pub long : IfOk result (HoldsMany see.snapshot (watched_at old.watched place))
+  pub keeps : Keeps place old.watched new.watched fate (stop_in result)
+  pub reads : IfBroke (stop_in result) (ReadsOf (watched_at old.watched place).opened fate)
 
 -- reads begin at the front
 abbrev pub FromFront : Option ℕ → ℕ → Type 0
 FromFront file from = from ≡ 0
 
--- a call gave what the file adds to which the name leads, and followed the name to this file, or to none
-pub record Leads (told_in told by_name : Bool) (snapshot : Snapshot) (led : Option ℕ) (place : ℕ) (name : List ℕ)
-    (position : ℕ) (watched : List Watched) (printer : PrinterState) (slots : List Slot) (watched_new : List Watched)
-    (after : PrinterState) (slots_new : List Slot) (result : Result ℕ Stop) : Type 0 where
+-- A call gave what the file adds to which the name leads, and followed the name to this file, or to none. If names
+-- aren't followed, it is as if the name led to the open file.
+pub record Leads (see : Sight) (by_name : Bool) (place : ℕ) (name : List ℕ) (position : ℕ) (old new : Moment)
+    (result : Result ℕ Stop) : Type 0 where
   pub fate : Fate
-  pub ends : let known = watched_at watched place in (last : Entry)
-      → (told_in ≡ true → StandsAt last known.opened position)
-      → let due = events_later last (entries_led snapshot known.opened led) in
-      GivesDue told_in (WereFound (ToldLed by_name snapshot known) FromFront snapshot known.name fate (stop_in result))
-      told false printer name due (led_before snapshot fate due) slots after slots_new (stop_in result)
-  pub stands : let opened = (watched_at watched place).opened in IfOk result (λ len. told_in ≡ true → (last : Entry)
-      → StandsAt last opened position → StandsAt (last_from last (entries_led snapshot opened led)) led len)
-  pub long : HoldsMany snapshot (watched_at watched place) position → let now = watched_at watched_new place in
-      IfOk result (IsLong by_name snapshot now.name now.opened)
-  pub follows : Follows told_in led place watched watched_new fate (stop_in result)
-  pub other : IfBroke (stop_in result) (told_in ≡ true → is_kept (watched_at watched place).opened fate ≡ false)
+  pub ends : let known = watched_at old.watched place in
+      let led = open_after_look by_name name known.opened see.snapshot in
+      let due = after_change (change_between known.opened led) (all_held see.snapshot led) in
+      GivesDue see.told_in
+      (WereFound (ToldLed by_name see.snapshot known) FromFront see.snapshot known.name fate (stop_in result))
+      see.told false old.printer name due (led_before see.snapshot fate due) old.slots new.printer new.slots
+      (stop_in result)
+  pub len : let opened = (watched_at old.watched place).opened in IfOk result (λ len. see.told_in ≡ true
+      → position ≡ length (held_at see.snapshot opened)
+      → len ≡ length (held_at see.snapshot (open_after_look by_name name opened see.snapshot)))
+  pub long : HoldsMany see.snapshot (watched_at old.watched place) position
+      → let now = watched_at new.watched place in IfOk result (IsLong by_name see.snapshot now.name now.opened)
+  pub follows : Follows see.told_in (open_after_look by_name name (watched_at old.watched place).opened see.snapshot)
+      place old.watched new.watched fate (stop_in result)
+  pub other : IfBroke (stop_in result)
+      (see.told_in ≡ true → is_kept (watched_at old.watched place).opened fate ≡ false)
   pub met : IfBroke (stop_in result) ((seeks : Bool) → can_meet false true seeks fate ≡ true)

@@ -7,17 +7,16 @@ use Rattle.follow_core.specs.{
   declared.{
     name.Standing.{Standing, TheVariants.{New, Followed, Left}},
     visitor.Stop.{Stop, TheVariants.{Broke, Over}},
-    start.Start.Start,
     follow.Phase.TheVariants.{Fresh, Looking, Over},
     run.{End.{End, TheVariants.{Looked, Unread}}, Limits.Limits},
   },
   Standing.{NameState, NoneGoesOn, AllStand, CanVisit, Stands, StandsAmong, texts},
   Telling.{failure_message, tail_by},
   Share.{BeginsShare, Share, share_by},
-  Look.{Fate, Look, Ways, sound, fate_at, is_dropped, ways_of, snapshots},
+  Look.{Fate, Look, Ways, sound, fate_at, is_dropped, snapshots},
   Printing.PrinterState,
   Reading.{AreAtLook, IsBegun, IsGiven},
-  inner.Giving.{IsFront, Shared, HasStopped},
+  inner.Giving.{IsFront, HasStopped, Moment, Shared, Sight},
   Followed.any_failed,
   FollowState.{AllReady, Asked, Begun, FollowState, Holds, IsCause, IsOther, LooksOn, Point, SawOrNot, StopsOn},
   FollowState.{is_alive, point},
@@ -43,14 +42,13 @@ any_goes_on by_name [] = false
 any_goes_on by_name (name ∷ names) = goes_on_as by_name name.standing || any_goes_on by_name names
 
 -- the look at the name was stopped: the outputs have a beginning of what it gives
-pub record Stopped (told_in told : Bool) (ways : Ways) (before : List Look) (snapshot : Snapshot) (name : List ℕ)
-    (printer : PrinterState) (old new : List Slot) (why : Fault) : Type 0 where
+pub record Stopped (see : Sight) (ways : Ways) (before : List Look) (name : List ℕ) (old new : Moment) (why : Fault)
+    : Type 0 where
   pub share : Share
-  pub after : PrinterState
-  pub begins : told_in ≡ true → (fates : List Fate)
-      → BeginsShare share (share_by ways name before (record { snapshot = snapshot; fates = fates }) sound)
-  pub found : IsBegun before snapshot name share
-  pub short : Shared told printer share old after new (Some why)
+  pub begins : see.told_in ≡ true → (fates : List Fate)
+      → BeginsShare share (share_by ways name before (record { snapshot = see.snapshot; fates = fates }) sound)
+  pub found : IsBegun before see.snapshot name share
+  pub short : Shared see.told old.printer share old.slots new.printer new.slots (Some why)
 
 -- A call on the name failed: that is reported, and the name is dropped. Or following ends: nothing more is reported.
 abbrev pub TellsStop : Bool → Calling → List ℕ → List Slot → Standing → List Slot → Stop → Result Bool Fault → Type 0
@@ -67,55 +65,51 @@ pub record KeepsOthers (place : ℕ) (old new : List Watched) : Type 0 where
   pub count : length new ≡ length old
   pub others : (other : ℕ) → (other ≡ place → ⊥) → watched_at new other ≡ watched_at old other
 
--- The outputs have what the look gives for the name at this place by its fate, and the name stands as after that look.
-pub record Visited (told_in told : Bool) (ways : Ways) (looks : List Look) (snapshot : Snapshot) (place : ℕ)
-    (name : List ℕ) (printer : PrinterState) (old : List Slot) (after : PrinterState) (new : List Slot)
-    (watched : Watched) (standing : Standing) (failed : Bool) : Type 0 where
+-- The outputs have what the look gives for the name of this number by its fate, and the name stands as after that look.
+pub record Visited (see : Sight) (ways : Ways) (looks : List Look) (place : ℕ) (now : NameState) (old new : Moment)
+    (failed : Bool) : Type 0 where
   pub fate : Fate
   pub share : Share
-  pub found : (fates : List Fate) → fate_at place (record { snapshot = snapshot; fates = fates }) ≡ fate
-      → IsGiven told_in ways looks (record { snapshot = snapshot; fates = fates }) place name share
+  pub found : (fates : List Fate) → fate_at place (record { snapshot = see.snapshot; fates = fates }) ≡ fate
+      → IsGiven see.told_in ways looks (record { snapshot = see.snapshot; fates = fates }) place now.text share
   pub is_failed : is_some share.failure ≡ failed
-  pub shared : Shared told printer share old after new None
-  pub stands : (fates : List Fate) → fate_at place (record { snapshot = snapshot; fates = fates }) ≡ fate
-      → Stands told_in ways (looks ++ record { snapshot = snapshot; fates = fates } ∷ []) place name watched standing
+  pub shared : Shared see.told old.printer share old.slots new.printer new.slots None
+  pub stands : (fates : List Fate) → fate_at place (record { snapshot = see.snapshot; fates = fates }) ≡ fate
+      → Stands see.told_in ways (looks ++ record { snapshot = see.snapshot; fates = fates } ∷ []) place now.text
+      (watched_at new.watched place) now.standing
 
 -- What a look leaves at one name, by how the name stood, whatever looks were made before. The outputs have what the
 -- look gives for the name; or the look was stopped. If it wasn't, the name can be looked at again, or is looked at no
 -- more.
-pub record Visits (told_in told : Bool) (ways : Ways) (snapshot : Snapshot) (place : ℕ) (name : List ℕ)
-    (standing : Standing) (watched : List Watched) (printer : PrinterState) (slots : List Slot)
-    (standing_new : Standing) (watched_new : List Watched) (printer_new : PrinterState) (slots_new : List Slot)
-    (result : Result Bool Fault) : Type 0 where
+pub record Visits (see : Sight) (ways : Ways) (place : ℕ) (one : NameState) (old : Moment) (standing : Standing)
+    (new : Moment) (result : Result Bool Fault) : Type 0 where
   pub visited : IfOk result (λ failed. (looks : List Look)
-      → Stands told_in ways looks place name (watched_at watched place) standing
-      → Visited told_in told ways looks snapshot place name printer slots printer_new slots_new
-      (watched_at watched_new place) standing_new failed)
+      → Stands see.told_in ways looks place one.text (watched_at old.watched place) one.standing
+      → Visited see ways looks place (record one { standing = standing }) old new failed)
   pub stopped : IfErr result (λ why. (looks : List Look)
-      → Stands told_in ways looks place name (watched_at watched place) standing
-      → (is_dropped place looks ≡ false) × Stopped told_in told ways looks snapshot name printer slots slots_new why)
-  pub ready : OnOk result (CanVisit (record { text = name; standing = standing_new }) (watched_at watched_new place))
-  pub others : OnOk result (KeepsOthers place watched watched_new)
-  pub halts : IfErr result (λ why. Opened place watched watched_new)
+      → Stands see.told_in ways looks place one.text (watched_at old.watched place) one.standing
+      → (is_dropped place looks ≡ false) × Stopped see ways looks one.text old new why)
+  pub ready : OnOk result (CanVisit (record one { standing = standing }) (watched_at new.watched place))
+  pub others : OnOk result (KeepsOthers place old.watched new.watched)
+  pub halts : IfErr result (λ why. Opened place old.watched new.watched)
 
 -- The outputs have what the look gives for the names before this place, whatever fates the other names have. The names
 -- before this place stand as after that look, and the others as before it.
-pub record VisitedTo (told_in told : Bool) (ways : Ways) (looks : List Look) (snapshot : Snapshot) (place : ℕ)
-    (names : List NameState) (printer : PrinterState) (old : List Slot) (after : PrinterState) (new : List Slot)
-    (watched : List Watched) (names_now : List NameState) (failed : Bool) : Type 0 where
+pub record VisitedTo (see : Sight) (ways : Ways) (looks : List Look) (place : ℕ) (names : List NameState)
+    (old new : Moment) (failed : Bool) : Type 0 where
   pub fates : List Fate
   pub shares : List Share
   pub count : length fates ≡ ways.first + place
   pub found : (all : List Fate) → IsFront fates all
-      → AreAtLook told_in ways looks (record { snapshot = snapshot; fates = all }) ways.first (take place (texts names))
-      shares
+      → AreAtLook see.told_in ways looks (record { snapshot = see.snapshot; fates = all }) ways.first
+      (take place (texts names)) shares
   pub is_failed : any_failed shares ≡ failed
-  pub shared : AllShared told printer shares old after new
-  pub same : texts names_now ≡ texts names
+  pub shared : AllShared see.told old.printer shares old.slots new.printer new.slots
   pub done : (all : List Fate) → IsFront fates all → (other : ℕ) → other < place
-      → StandsAmong told_in ways (looks ++ record { snapshot = snapshot; fates = all } ∷ []) names_now watched other
-  pub rest : (other : ℕ) → place ≤ other → other < length names_now
-      → StandsAmong told_in ways looks names_now watched other
+      → StandsAmong see.told_in ways (looks ++ record { snapshot = see.snapshot; fates = all } ∷ []) names new.watched
+      other
+  pub rest : (other : ℕ) → place ≤ other → other < length names
+      → StandsAmong see.told_in ways looks names new.watched other
 
 -- the names stand as after these looks, and the first of them has this number
 pub record StandFrom (told_in : Bool) (ways : Ways) (looks : List Look) (first : ℕ) (names : List NameState)
@@ -125,26 +119,23 @@ pub record StandFrom (told_in : Bool) (ways : Ways) (looks : List Look) (first :
   pub many : length watched ≡ ways.first + length names
 
 -- What a look at all these names leaves, whatever looks were made before. The first name has this number.
-pub record VisitsAll (told_in told : Bool) (snapshot : Snapshot) (by_name : Bool) (start : Start) (first : ℕ)
-    (names : List NameState) (watched : List Watched) (printer : PrinterState) (slots : List Slot)
-    (names_new : List NameState) (watched_new : List Watched) (printer_new : PrinterState) (slots_new : List Slot)
-    (result : Result Bool Fault) : Type 0 where
+pub record VisitsAll (see : Sight) (ways : ℕ → Ways) (first : ℕ) (names : List NameState) (old : Moment)
+    (names_new : List NameState) (new : Moment) (result : Result Bool Fault) : Type 0 where
+  pub same : OnOk result (texts names_new ≡ texts names)
   pub visited : IfOk result (λ failed. (from : ℕ) (looks : List Look)
-      → StandFrom told_in (ways_of from by_name start) looks first names watched
-      → VisitedTo told_in told (ways_of from by_name start) looks snapshot (length names) names printer slots
-      printer_new slots_new watched_new names_new failed)
+      → StandFrom see.told_in (ways from) looks first names old.watched
+      → VisitedTo see (ways from) looks (length names) names_new old new failed)
   pub stopped : IfErr result (λ why. (from : ℕ) (looks : List Look)
-      → StandFrom told_in (ways_of from by_name start) looks first names watched
-      → (whole part : List Share)
-      × Begun told_in (ways_of from by_name start) (texts names) looks snapshot watched_new whole part
-      × (mid : PrinterState) × (reached : List Slot) × AllShared told printer whole slots mid reached
-      × AllShort told mid part reached slots_new why)
-  pub ready : OnOk result (AllReady names_new first watched_new)
-  pub count : length watched_new ≡ length watched
+      → StandFrom see.told_in (ways from) looks first names old.watched → (whole part : List Share)
+      × Begun see.told_in (ways from) (texts names) looks see.snapshot new.watched whole part
+      × (mid : PrinterState) × (reached : List Slot)
+      × AllShared see.told old.printer whole old.slots mid reached × AllShort see.told mid part reached new.slots why)
+  pub ready : OnOk result (AllReady names_new first new.watched)
+  pub count : length new.watched ≡ length old.watched
   pub others : (number : ℕ) → ((place : ℕ) → place < length names → number ≡ first + place → ⊥)
-      → watched_at watched_new number ≡ watched_at watched number
-  pub can : OnOk result (CanPrint slots_new)
-  pub error : IfErr result (λ why. HasStopped why slots_new)
+      → watched_at new.watched number ≡ watched_at old.watched number
+  pub can : OnOk result (CanPrint new.slots)
+  pub error : IfErr result (λ why. HasStopped why new.slots)
 
 -- some of these names, from the first on, were added to the watched names
 pub record AddsSome (names : List (List ℕ)) (old new : List Watched) : Type 0 where

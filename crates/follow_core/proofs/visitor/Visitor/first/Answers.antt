@@ -33,7 +33,7 @@ returns-in-Err-clause-visits g c first = first_unopened c.requires.name c.requir
 pub returns-in-Err-put-clause-visits : goal.returns-in-Err-put-clause-visits
 returns-in-Err-put-clause-visits g c first = gave_fails sound (Over c.in-Err-put.fault) c.requires.name c.requires.watchable
     (c.in-Ok-true.ensures.ok.file, c.in-Ok-true.ensures.ok.names)
-    (first_gave _ c.self.view_is c.in-Ok-true.ensures.ok c.in-Ok-true.field-0-test c.requires.name (λ t. refl)
+    (first_gave c.self.view_is c.in-Ok-true.ensures.ok c.in-Ok-true.field-0-test c.requires.name (λ t. refl)
     refl tt tt (stops_early _ (header_only {before = _} (Some c.in-Err-put.fault) (found_begun [] begins_none tt)
     c.in-Err-put.ensures.puts)))
     (refl, refl)
@@ -50,7 +50,7 @@ returns-in-Ok-clause-visits g c first = gave_through c.in-Ok.ensures.starts.fate
     (follows_from _ _ _ c.in-Ok.ensures.starts.fate None c.in-Ok-true.ensures.ok.names
     (λ none t. c.in-Ok-true.ensures.ok.leads t ∙ ap
     (latest (g.W.Watch.seen c.args.watch.now)).leads c.requires.name) c.in-Ok.ensures.starts.keeps)
-    (first_started _ c.self.view_is c.in-Ok-true.ensures.ok c.in-Ok-true.field-0-test c.requires.name c.requires.watchable
+    (first_started c.self.view_is c.in-Ok-true.ensures.ok c.in-Ok-true.field-0-test c.requires.name c.requires.watchable
     (ap latest c.reopen.ensures.seen)
     (λ Is found. header_only {Is = Is} {before = []} None found c.in_default.ensures.puts) c.in-Ok.ensures.starts c.in-Ok.ensures.len)
     (first_long (latest (g.W.Watch.seen c.args.watch.now)) c.in-Ok.len c.args.by_name c.in-Ok-true.ensures.ok c.in-Ok-true.field-0-test
@@ -62,7 +62,7 @@ returns-in-Err-write_start-clause-visits g c first = gave_fails c.in-Err-write_s
     (follows_from {told = g.W.Watch.told} {led = (latest (g.W.Watch.seen c.args.watch.now)).leads c.args.name.now} _ _ _
     c.in-Err-write_start.ensures.starts.fate (Some c.in-Err-write_start.stop) c.in-Ok-true.ensures.ok.names
     (λ none. absurd (cc)) c.in-Err-write_start.ensures.starts.keeps)
-    (first_started _ c.self.view_is c.in-Ok-true.ensures.ok c.in-Ok-true.field-0-test c.requires.name c.requires.watchable
+    (first_started c.self.view_is c.in-Ok-true.ensures.ok c.in-Ok-true.field-0-test c.requires.name c.requires.watchable
     (ap latest c.reopen.ensures.seen)
     (λ Is found. header_only {Is = Is} {before = []} None found c.in_default.ensures.puts) c.in-Err-write_start.ensures.starts tt)
     c.stop-in-Err-write_start.ensures.tells

@@ -3,17 +3,17 @@ use Rattle.watch_core.specs.{declared.watch.Broken.TheVariants.{Look, Open}, Sna
 use Rattle.follow_core.{
   proofs.{
     CallGivesLemmas.{broke_at, broke_first, due_by, goes_after, noted_found, opened_there, opens_same, stops_early},
-    CatchLemmas.{all_held, change_led, change_seen, held_notes, leads_opened, leads_same},
+    CatchLemmas.{change_seen, held_notes, leads_opened, leads_same},
   },
-  specs.{inner.Giving.found_before, Look.{sound, unled, unopened}, Event.notes_in},
+  specs.{inner.Giving.found_before, Look.{sound, unled, unopened}, Event.{after_change, all_held, notes_in}},
 }
 use Rattle.follow_core.proofs.visitor.Visitor.follow_name.Goals as goal
 
 pub returns-in-Err-clause-leads : goal.returns-in-Err-clause-leads
 returns-in-Err-clause-leads g c = record {
   fate = unled;
-  ends = λ last stands. broke_first (found_before c.in-Err.ensures.breaks tt);
-  stands = tt;
+  ends = broke_first (found_before c.in-Err.ensures.breaks tt);
+  len = tt;
   long = λ known. tt;
   follows = broke_at (λ file. Look) refl refl c.in-Err.ensures.err.0 c.in-Err.ensures.err.1;
   other = λ t. refl;
@@ -34,11 +34,11 @@ returns-in-Err-tell-clause-leads g c =
     let (changed, told, lost) = change_seen seen c.args.place c.change_of.ensures c.open_id.ensures c.in-Ok.ensures.same c.requires.name
     c.in-Ok.ensures.ok c.in-Ok.ensures.found in record {
       fate = sound;
-      ends = λ last stands. due_by (λ t. (sym (change_led seen last _ (stands t).file (changed t ∙ c.in-Some.is)).0, tt))
-          (stops_early (all_held seen _) (noted_found (Some c.in-Err-tell.fault)
+      ends = due_by (λ t. (sym (ap (λ those. after_change those (all_held seen (seen.leads c.args.name.now))) (changed t ∙ c.in-Some.is)), tt))
+          (stops_early (all_held seen (seen.leads c.args.name.now)) (noted_found (Some c.in-Err-tell.fault)
           (λ notice is. rw is (told _ c.in-Some.is))
           (c.in-Err-tell.ensures.ends g.W.Watch.told c.args.self.now)));
-      stands = tt;
+      len = tt;
       long = λ known. tt;
       follows = (_, c.in-Ok.ensures.same ∙ sym (opens_same _ c.args.place));
       other = tt;
@@ -52,14 +52,14 @@ returns-in-Err-reopen-clause-leads g c =
     let (changed, told, lost) = change_seen seen c.args.place c.change_of.ensures c.open_id.ensures c.in-Ok.ensures.same c.requires.name
     c.in-Ok.ensures.ok c.in-Ok.ensures.found in record {
       fate = unopened;
-      ends = λ last stands. due_by (λ t.
-          let due = (change_led seen last _ (stands t).file (changed t ∙ c.in-Some.is)).0 in
-          (sym due, sym (ap notes_in due ∙ held_notes seen _ _)))
+      ends = due_by (λ t.
+          let due = ap (λ those. after_change those (all_held seen (seen.leads c.args.name.now))) (changed t ∙ c.in-Some.is) in
+          (sym due, sym (ap notes_in due ∙ held_notes seen (seen.leads c.args.name.now) _)))
           (goes_after (noted_found None
           (λ notice is. rw is (told _ c.in-Some.is))
           (c.in_default-tell.ensures.ends g.W.Watch.told c.args.self.now))
-          (broke_first {due = all_held seen _} (found_before (rw (c.look.ensures.seen, c.in-Ok.ensures.same) at c.in-Err-reopen.ensures.breaks) tt)));
-      stands = tt;
+          (broke_first {due = all_held seen (seen.leads c.args.name.now)} (found_before (rw (c.look.ensures.seen, c.in-Ok.ensures.same) at c.in-Err-reopen.ensures.breaks) tt)));
+      len = tt;
       long = λ known. tt;
       follows = broke_at (λ file. Open) refl c.in-Ok.ensures.same c.in-Err-reopen.ensures.err.0 c.in-Err-reopen.ensures.err.1;
       other = λ t. refl;
