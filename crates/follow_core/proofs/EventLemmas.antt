@@ -36,3 +36,11 @@ begins_after (event ∷ front) begins = begins_on (begins_after front begins)
 
 pub begins_bytes : {bytes due : List ℕ} → IsFront bytes due → Begins (gives bytes ∷ []) (gives due ∷ [])
 begins_bytes front = begins_within (front.0, front.1)
+
+pub begins_trans : {one two all : List Event} → Begins one two → Begins two all → Begins one all
+begins_trans begins_none second = begins_none
+begins_trans (begins_within (rest, is)) (begins_within (more, also)) =
+    begins_within (rest ++ more, rw (also, is) (append_assoc _ rest more))
+begins_trans (begins_within bytes) (begins_on second) = begins_within bytes
+begins_trans (begins_on first) (begins_on second) = begins_on (begins_trans first second)
+begins_trans (begins_on begins_none) (begins_within (more, is)) = begins_within (more, is)

@@ -1,48 +1,51 @@
 -- Lemmas on what the outputs have after a look at a name.
 use Rattle.follow_core.specs.{
-  Standing.{CanVisit, NameState, IsFollowed, IsLong, IsLeft, Stands},
+  Standing.{CanVisit, NameState, IsFollowed, IsLeft, Stands},
   declared.{
-    notice.Notice.Notice,
     visitor.Stop.{Stop, TheVariants.{Broke, Over}},
     name.Standing.{Standing, TheVariants.{New, Followed, Left}},
   },
-  Reading.{AreAtLook, AreFound, IsFound, IsMissing, IsTold, LeftOpen, NoneBreaks, StartsIn, looks_more},
-  Reading.{names_more, no_looks},
-  Event.{Event, gives, lines_in},
+  Reading.{AreAtLook, AreFound, Caught, First, IsFound, IsLong, IsMissing, LedTo, LookGives, NoneBreaks, ReadOn, Saw},
+  Reading.{at_first, at_later, begun, came_all, came_early, first_unmeasured, first_unsought, looks_more, measured},
+  Reading.names_more,
+  Reading.{no_looks, not_asked, not_begun, not_led, not_measured, not_open, not_opened, not_told, opened_there},
+  Reading.read_all,
+  Reading.{read_none, read_part, read_some, unchanged},
+  Event.{Begins, Event, came_of, gives, lines_in},
   Version.{entries_led, held_at, open_after_later, open_after_look},
   Gain.gains_after,
   inner.{
-    Giving.{Anywhere, BrokeAt, Came, Nothing, WereFound, GivesDue, Follows, IfBroke, Keeps, Shared, Starts, fault_by},
-    Giving.{found_all, found_before, found_begun, is_read, stop_in, text_under, Moment, Sight, moment},
+    Giving.{Are, BrokeAt, ByStop, Came, Follows, Gives, Moment, Shared, Sight, Starts, fault_by, is_read, moment},
+    Giving.{stop_in, text_under},
     Visits.{Visits, TellsStop, Visited},
   },
   Look.{Fate, Look, Ways, can_meet, entries_in, failed_by, failed_in, fate_at, is_dropped, snapshots, sound},
   Look.{unopened, is_first},
   Notice.is_missing,
-  Share.{Due, Share, opened_in, due_later, failure_line, failure_of, given_by, is_unopened, led_before, missing_share},
+  Share.{Due, Share, opened_in, due_later, failure_line, failure_of, given_by, is_unopened, missing_share},
   Share.{no_share, share_by},
   Printing.PrinterState,
   Telling.{Tells, failure_message, failure_text, tail_by},
 }
 use Rattle.follow_core.proofs.{
   CallLemmas.{came_none, failure_said, wrote_after, wrote_line},
-  CallGivesLemmas.{if_so, broke_at, found_as, goes_after, held_many, if_broke, keeps_others, none_of, nothing_due},
-  CallGivesLemmas.{opened_now, some_of},
-  CatchLemmas.{FromFrontOr, LooksAgain, long_by, ToldAgain},
+  CallGivesLemmas.{broke_at, gives_both, gives_none, gives_so, keeps_others, none_of, opened_now, some_of},
+  CatchLemmas.{LooksAgain, long_by},
+  EventLemmas.begins_trans,
+  ShownLemmas.{AreBy, first_are, later_are},
   LookLemmas.{open_more, failed_more, failed_sound, broken_sound, broken_more, seeing, IsDue},
 }
 use Rattle.std.proofs.{
   lemmas.Grind.common_steps,
   Common.{◌⊎◌, ◌≡◌, ◌<◌, ◌+◌, arith, zero, suc, ℕ, Bool, true, false, not, List, [], ◌∷◌, ◌++◌, length, Option, Some},
-  Common.{None, refl, sym, ◌∙◌, ap, if◌then◌else◌, subst, inl, inr, ◌&&◌, Result, Ok, Err, IsTrue, IfOk, is_none},
+  Common.{None, refl, sym, ◌∙◌, ap, if◌then◌else◌, subst, inl, inr, ◌&&◌, Result, Ok, Err, IsTrue, is_none},
   Common.{get_or, is_some},
-  lemmas.{List.{append-nil, map-append}, Bool.{false≢true, not-true}, Result.IfOk-weaker},
-  Math.Bool.and-false,
+  lemmas.{List.{append-nil, map-append}, Bool.{false≢true, not-true}},
 }
 use Rattle.watch_core.{
   specs.{
-    Snapshot.{Snapshot, Found, latest, opens_as},
-    Watched.{NameBreaks, Reopens, Watched, is_watchable, no_name, open_contents, opens, watched_at},
+    Snapshot.{Snapshot, latest, opens_as},
+    Watched.{NameBreaks, Reopens, Watched, is_watchable, no_name, opens, watched_at},
   },
   proofs.NameLemmas.{latest-last, watchable_within},
 }
@@ -62,7 +65,8 @@ pub record Looked (see : Sight) (ways : Ways) (before : List Look) (name : List 
   pub share : Share
   pub is_share : see.told_in ≡ true → (fates : List Fate)
       → share ≡ share_by ways name before (seeing see.snapshot fates) fate
-  pub found : IsFound before see.snapshot name fate share ⊎ IsMissing before see.snapshot name fate share
+  pub found : IsFound see.told_in ways before see.snapshot name fate share
+      ⊎ IsMissing see.told_in before see.snapshot name fate share
   pub failed : is_some share.failure ≡ has_failed
   pub shared : Shared see.told old.printer share old.slots new.printer new.slots None
 
@@ -81,28 +85,83 @@ fault_line : (place : ℕ) (name : List ℕ) (fate : Fate) → is_some (failed_b
     × (is_some (failure_of fate) ≡ true)
 fault_line place name fate broke = grind (arith, common_steps)
 
+-- what a call that failed has to fit: the look, whether it opened the file, and whether calls can fail
+abbrev Fits : (first by_name seeks can : Bool) → Option Fate → Type 0
+Fits first by_name seeks can None = Unit {0}
+Fits first by_name seeks can (Some fate) = (can_meet first by_name seeks fate ≡ true)
+    × ((not (is_unopened fate) && first) ≡ first) × ((fate ≡ sound) ⊎ (can ≡ true))
+
+read_fits : {told : Bool} {snapshot : Snapshot} {name : List ℕ} {file : Option ℕ} {from len : ℕ} {reach : Option Fate}
+    {events : List Event} (first by_name seeks : Bool) → ReadOn told snapshot name file from len reach events
+    → Fits first by_name seeks (snapshot.breaks name) reach
+read_fits first by_name seeks (read_all read over) = (refl, refl, inl refl)
+read_fits first by_name seeks (read_part read below can) = (refl, refl, inr can)
+read_fits first by_name seeks read_none = tt
+read_fits first by_name seeks (read_some read) = tt
+
+caught_fits : {told : Bool} {snapshot : Snapshot} {name : List ℕ} {file : Option ℕ} {seen : ℕ} {reach : Option Fate}
+    {events : List Event} (by_name seeks : Bool) → Caught told snapshot name file seen reach events
+    → Fits false by_name seeks (snapshot.breaks name) reach
+caught_fits by_name seeks (not_open none) = (refl, refl, inl refl)
+caught_fits by_name seeks (not_measured some can) = (refl, refl, inr can)
+caught_fits by_name seeks (measured some saw read) = read_fits false by_name seeks read
+
+led_fits : {told by_name : Bool} {snapshot : Snapshot} {name : List ℕ} {opened : Option ℕ} {reach : Option Fate}
+    {events : List Event} (seeks : Bool) → LedTo told by_name snapshot name opened reach events
+    → Fits false by_name seeks (snapshot.breaks name) reach
+led_fits seeks (not_asked by) = (refl, refl, inl refl)
+led_fits seeks (not_led by can) = (by, refl, inr can)
+led_fits seeks (unchanged by saw none) = (refl, refl, inl refl)
+led_fits seeks (not_told by changed) = tt
+led_fits seeks (not_opened by changed can) = (by, refl, inr can)
+led_fits {by_name = by_name} seeks (opened_there by changed saw caught) = caught_fits by_name seeks caught
+
+look_fits : {told : Bool} {ways : Ways} {snapshot : Snapshot} {name : List ℕ} {reach : Option Fate} {events : List Event}
+    (looks : List Look) → LookGives told ways looks snapshot name reach events
+    → Fits (is_first looks) ways.by_name ways.seeks (snapshot.breaks name) reach
+look_fits [] (at_first not_begun) = tt
+look_fits [] (at_first (first_unmeasured can)) = (refl, refl, inr can)
+look_fits [] (at_first (first_unsought seeks can)) = (seeks, refl, inr can)
+look_fits {ways = ways} [] (at_first (begun leads saw part read)) = read_fits true ways.by_name ways.seeks read
+look_fits {ways = ways} (first ∷ looks) (at_later opened seen long (came_early early caught)) =
+    caught_fits ways.by_name ways.seeks caught
+look_fits {ways = ways} (first ∷ looks) (at_later opened seen long (came_all came led)) = led_fits ways.seeks led
+
+-- what is due was given; if a call on the name failed, what comes before it; if following ended, a beginning
+abbrev pub AreGiven : Option Stop → List Event → (due before : List Event) → Type 0
+AreGiven None events due before = events ≡ due
+AreGiven (Some (Broke why)) events due before = events ≡ before
+AreGiven (Some (Over why)) events due before = Begins events due
+
+are_by : {Is : Option Fate → List Event → Type 0} {due : List Event} (fate : Fate) (before : Fate → List Event)
+    (stop : Option Stop) (events : List Event) → before sound ≡ due
+    → ((reach : Option Fate) (events : List Event) → Is reach events → AreBy before due reach events)
+    → ByStop Is fate stop events → AreGiven stop events due (before fate)
+are_by fate before None events whole so given = so (Some sound) events given ∙ whole
+are_by fate before (Some (Broke why)) events whole so given = so (Some fate) events given
+are_by fate before (Some (Over why)) events whole so (all, is, begins) = begins_trans begins (so None all is)
+
 abbrev shared_as : (opened : Bool) → List ℕ → List Event → Option Fault → Share
 shared_as opened name events failure = record { name = name; is_opened = opened; events = events; failure = failure }
 
 module _ {see : Sight} {ways : Ways} {before : List Look} {name : List ℕ} {due : Due} {opened : Option ℕ}
     {old mid : Moment} (dues : IsDue see.told_in ways before see.snapshot name due opened) where
   -- all that is due was given
-  pub looked_whole : {none : List Event} {fate : Fate} → GivesDue see.told_in (WereFound (IsTold before see.snapshot name)
-      (StartsIn before name) see.snapshot name fate None) see.told (is_first before) old.printer name
-      (due.came ++ due.led) none old.slots mid.printer mid.slots None
-      → (is_first before ≡ true → (file : ℕ) × Found see.snapshot name (opens_as (Some file)))
+  pub looked_whole : {fate : Fate} (ends : Gives see.told (LookGives see.told_in ways before see.snapshot name) fate
+      (is_first before) name old mid None) → (see.told_in ≡ true → ends.events ≡ due.came ++ due.led)
+      → (is_first before ≡ true → (file : ℕ) × Saw see.told_in see.snapshot name (opens_as (Some file)))
       → Looked see ways before name old mid false sound
-  looked_whole ends there = record {
+  looked_whole ends are there = record {
     share = shared_as (is_first before) name ends.events None;
     found = inl (record {
       named = refl;
       opened = refl;
       failed = refl;
-      events = elim ends.found [ found_all all ↦ all ];
+      events = inr ends.given;
       broke = inl refl;
       there = there;
     });
-    is_share = λ t fates. let is = dues.is t fates in rw (ends.are t, is.0, is.1) refl;
+    is_share = λ t fates. let is = dues.is t fates in rw (are t, is.0, is.1) refl;
     failed = refl;
     shared = rw (append-nil (lines_in name ends.events)) ends.came;
   }
@@ -110,39 +169,27 @@ module _ {see : Sight} {ways : Ways} {before : List Look} {name : List ℕ} {due
   -- a call failed: what comes before it was given, and the message follows
   pub looked_broke : (place : ℕ) {slots : List Slot} {why : Fault} (fate : Fate) → is_some (failed_by fate None) ≡ true
       → why ≡ fault_by place fate
-      → (not (is_unopened fate) && is_first before) ≡ is_first before
-      → GivesDue see.told_in
-      (WereFound (IsTold before see.snapshot name) (StartsIn before name) see.snapshot name fate (Some (Broke why)))
-      see.told (is_first before) old.printer name (due.came ++ due.led) (given_by due see.snapshot opened fate) old.slots
-      mid.printer mid.slots (Some (Broke why))
-      → (is_first before ≡ true → (file : ℕ) × Found see.snapshot name (opens_as (Some file)))
+      → (ends : Gives see.told (LookGives see.told_in ways before see.snapshot name) fate (is_first before) name old mid
+      (Some (Broke why))) → (see.told_in ≡ true → ends.events ≡ given_by due see.snapshot opened fate)
+      → (is_first before ≡ true → (file : ℕ) × Saw see.told_in see.snapshot name (opens_as (Some file)))
       → ((reason : Reason)
       × SaysOn see.told (tail_by old.printer.calling) reason (failure_message why name) mid.slots slots)
       → Looked see ways before name old (record mid { slots = slots }) true fate
-  looked_broke place {why = why} fate broke fault openly ends there says =
-      let line = fault_line place name fate broke in record {
+  looked_broke place fate broke fault ends are there says =
+      let line = fault_line place name fate broke in let (met, openly, can) = look_fits before ends.given in record {
         share = shared_as (is_first before) name ends.events (failure_of fate);
-        is_share = λ t fates. share_is t fates line.1 ends.events (ends.are t);
-        found = inl (elim ends.found [
-          | found_before can all ↦ record {
-            named = refl;
-            opened = sym openly;
-            failed = refl;
-            events = all;
-            broke = inr can;
-            there = there;
-          }
-        ]);
+        is_share = λ t fates. let is = dues.is t fates in rw (line.1, openly, are t, is.1, is.2) refl;
+        found = inl (record {
+          named = refl;
+          opened = sym openly;
+          failed = refl;
+          events = inr ends.given;
+          broke = can;
+          there = there;
+        });
         failed = line.1;
         shared = rw (← line.0) (said_after ends.came (failure_said (is_read fate) place name (rw fault at says.1)));
-      } where
-        share_is : see.told_in ≡ true → (fates : List Fate) → is_some (failure_of fate) ≡ true → (events : List Event)
-            → events ≡ given_by due see.snapshot opened fate
-            → shared_as (is_first before) name events (failure_of fate)
-            ≡ share_by ways name before (seeing see.snapshot fates) fate
-        share_is t fates fails events are =
-            let is = dues.is t fates in
-            rw (fails, openly, are, is.1, is.2) refl
+      }
 
 -- The first look.
 
@@ -161,16 +208,13 @@ pub record Gave (see : Sight) (ways : Ways) (looks : List Look) (place : ℕ) (n
   pub due : Due
   pub opened : Option ℕ
   pub is_due : IsDue see.told_in ways looks see.snapshot name due opened
-  pub ends : GivesDue see.told_in
-      (WereFound (IsTold looks see.snapshot name) (StartsIn looks name) see.snapshot name fate (stop_in result)) see.told
-      (is_first looks) old.printer name (due.came ++ due.led) (given_by due see.snapshot opened fate) old.slots new.printer
-      new.slots (stop_in result)
-  pub there : is_first looks ≡ true → (file : ℕ) × Found see.snapshot name (opens_as (Some file))
-  pub last : IfOk result (λ len. see.told_in ≡ true → (ways.by_name ≡ false → is_some led ≡ true)
+  pub ends : Gives see.told (LookGives see.told_in ways looks see.snapshot name) fate (is_first looks) name old new
+      (stop_in result)
+  pub are : see.told_in ≡ true
+      → AreGiven (stop_in result) ends.events (due.came ++ due.led) (given_by due see.snapshot opened fate)
+  pub there : is_first looks ≡ true → (file : ℕ) × Saw see.told_in see.snapshot name (opens_as (Some file))
+  pub last : see.told_in ≡ true → (ways.by_name ≡ false → is_some led ≡ true)
       × ((fates : List Fate) → led ≡ opened_in ways name (looks ++ seeing see.snapshot fates ∷ []))
-      × (len ≡ length (held_at see.snapshot led)))
-  pub met : IfBroke (stop_in result) (can_meet (is_first looks) ways.by_name ways.seeks fate ≡ true)
-  pub openly : IfBroke (stop_in result) ((not (is_unopened fate) && is_first looks) ≡ is_first looks)
 
 -- One look more.
 begun_more : (looks : List Look) (look : Look) → is_first (looks ++ look ∷ []) ≡ false
@@ -186,8 +230,8 @@ through_stands : {told : Bool} {ways : Ways} (looks : List Look) (look : Look) {
     {file led : Option ℕ} {len : ℕ}
     (watched : Watched) → watched.name ≡ name → is_none watched.failed ≡ true → is_dropped place looks ≡ false
     → fate_at place look ≡ sound → (told ≡ true → file ≡ led)
-    → (told ≡ true → (ways.by_name ≡ false → is_some led ≡ true) × (led ≡ opened_in ways name (looks ++ look ∷ []))
-    × (len ≡ length (held_at look.snapshot led))) → IsLong ways.by_name look.snapshot name file len
+    → (told ≡ true → (ways.by_name ≡ false → is_some led ≡ true) × (led ≡ opened_in ways name (looks ++ look ∷ [])))
+    → IsLong told ways.by_name look.snapshot name file len
     → IsFollowed told ways (looks ++ look ∷ []) place name (record watched { opened = file }) len
 through_stands looks look watched named can kept at leads last long = grind
     (arith, common_steps, none_of, not-true, kept_more, begun_more, map-append, latest-last)
@@ -249,14 +293,14 @@ module _ {see : Sight} {ways : Ways} {place : ℕ} {one : NameState} {old new : 
       → IsTrue (is_watchable old.watched place) → Follows see.told_in led place old.watched new.watched fate None
       → ((looks : List Look) → Stands see.told_in ways looks place one.text (watched_at old.watched place) one.standing
       → Gave see ways looks place one.text led old new fate (Ok len))
-      → IsLong ways.by_name see.snapshot (watched_at new.watched place).name (watched_at new.watched place).opened len
+      → (let now = watched_at new.watched place in IsLong see.told_in ways.by_name see.snapshot now.name now.opened len)
       → Visits see ways place one old (Followed len) new (Ok false)
   gave_through {len = len} fate named can (file, is, leads) gave long =
       visits_by (Followed len) (opens file) is can (named, none_of (watched_at old.watched place).failed (not-true _ can))
       (λ there looks stands.
-      let made = gave looks stands in looked_visited sound made.kept (looked_whole made.is_due made.ends made.there)
+      let made = gave looks stands in looked_visited sound made.kept (looked_whole made.is_due made.ends made.are made.there)
       (λ fates at. rw there (through_stands looks (seeing see.snapshot fates) (watched_at old.watched place) named can made.kept at
-      leads (λ t. let (some, opened, long) = made.last t in (some, opened fates, long)) (rw (opened_now place old.watched is can, named) at long))))
+      leads (λ t. let (some, opened) = made.last t in (some, opened fates)) (rw (opened_now place old.watched is can, named) at long))))
 
   pub gave_fails : {led : Option ℕ} {slots : List Slot} (fate : Fate) (stop : Stop) {now : Standing}
       {result : Result Bool Fault} → (watched_at old.watched place).name ≡ one.text
@@ -268,9 +312,9 @@ module _ {see : Sight} {ways : Ways} {place : ℕ} {one : NameState} {old new : 
   gave_fails {slots = slots} fate (Broke why) named can broke gave (tells, left, says) = rw (tells, left) (drops fate why named can broke (λ looks stands.
       let made = gave looks stands in (
         made.kept,
-        looked_broke {mid = record new { slots = slots }} made.is_due place fate broke.broke broke.fault_is made.openly made.ends made.there
+        looked_broke {mid = record new { slots = slots }} made.is_due place fate broke.broke broke.fault_is made.ends made.are made.there
             (says.0, rw (made.ends.came.printer_is refl) at says.1),
-        made.met,
+        (look_fits looks made.ends.given).0,
       )))
   gave_fails fate (Over why) named can follows gave (tells, same) = rw tells (record {
     visited = tt;
@@ -279,17 +323,15 @@ module _ {see : Sight} {ways : Ways} {place : ℕ} {one : NameState} {old new : 
       record {
         share = shared_as (is_first looks) one.text made.ends.events None;
         begins = λ t fates. let is = made.is_due.is t fates in rw (is.0, ← is.1)
-            (record { name = refl; opened = refl; events = made.ends.are t; unfailed = refl });
-        found = elim made.ends.found [
-          | found_begun all begins found ↦ record {
-            named = refl;
-            opened = refl;
-            unfailed = refl;
-            all = all;
-            begins = begins;
-            events = found;
-          }
-        ];
+            (record { name = refl; opened = refl; events = made.are t; unfailed = refl });
+        found = record {
+          named = refl;
+          opened = refl;
+          unfailed = refl;
+          all = made.ends.given.0;
+          begins = made.ends.given.2;
+          events = made.ends.given.1;
+        };
         short = rw (append-nil (lines_in one.text made.ends.events), same) made.ends.came;
       },
     );
@@ -316,8 +358,8 @@ first_missing {see} {ways} {place} {name} {old} {watched} {slots} reopens gone n
       nowhere : see.told_in ≡ true → see.snapshot.leads name ≡ None
       nowhere t = sym (reopens.leads t ∙ ap see.snapshot.leads named) ∙ none
 
-      lost : Found see.snapshot name (opens_as None)
-      lost = rw (none, named) at reopens.opens
+      lost : Saw see.told_in see.snapshot name (opens_as None)
+      lost = (rw (none, named) at reopens.opens, λ t. sym (nowhere t))
 
       looked : Looked see ways [] name old (moment watched old.printer slots) true sound
       looked = record {
@@ -345,7 +387,6 @@ first_missing {see} {ways} {place} {name} {old} {watched} {slots} reopens gone n
           (λ t. refl) (λ t. (
             λ other. absurd (false≢true (sym other ∙ way)),
             sym (nowhere t),
-            refl,
           )) (λ by. inr lost)
       stands fates at false way = record {
         begun = refl;
@@ -377,7 +418,7 @@ first_unopened {place = place} {name} {why = why} named can is broke fails (tell
           named = refl;
           opened = refl;
           failed = refl;
-          events = tt;
+          events = inl (refl, refl, refl);
           broke = inr (rw named at fails);
           there = λ opened. absurd (false≢true opened);
         });
@@ -390,77 +431,75 @@ first_unopened {place = place} {name} {why = why} named can is broke fails (tell
 -- A call on the file that was just opened failed.
 
 -- the file was opened; its start part was given under its header, or what comes before a call that failed
-pub first_gave : {see : Sight} {ways : Ways} {place : ℕ} {name contents : List ℕ} {inside : PrinterState}
-    {old new : Moment} {mid : List Watched} {is_there : Bool} {fate : Fate} {result : Result ℕ Stop}
+pub first_gave : {see : Sight} {ways : Ways} {place : ℕ} {name : List ℕ} {inside : PrinterState} {old new : Moment}
+    {mid : List Watched} {is_there : Bool} {fate : Fate} {result : Result ℕ Stop}
     → inside ≡ old.printer → Reopens see.told_in see.snapshot old.watched mid place is_there → is_there ≡ true
     → (watched_at old.watched place).name ≡ name
-    → (see.told_in ≡ true → contents ≡ held_at see.snapshot (see.snapshot.leads name))
-    → Keeps place mid new.watched fate (stop_in result)
-    → IfBroke (stop_in result) (can_meet true ways.by_name ways.seeks fate ≡ true)
-    → IfOk result (λ len. see.told_in ≡ true → len ≡ length contents)
-    → GivesDue see.told_in (WereFound Nothing Anywhere see.snapshot name fate (stop_in result)) see.told true inside name
-    (gives (ways.start contents) ∷ []) (led_before see.snapshot fate (gives (ways.start contents) ∷ [])) old.slots
-    new.printer new.slots (stop_in result)
+    → Gives see.told (First see.told_in see.snapshot name ways.seeks ways.start) fate true name
+    (record old { printer = inside }) new (stop_in result)
     → (looks : List Look) → Stands see.told_in ways looks place name (watched_at old.watched place) New
     → Gave see ways looks place name (see.snapshot.leads name) old new fate result
-first_gave {see} {ways} {place} {name} {contents} {new = new} {mid} {fate = fate} {result} viewed reopens there named same
-    keeps met long ends looks fresh =
-    rw (← viewed, fresh.0) (record {
+first_gave {see} {ways} {name = name} {old = old} {new} {fate = fate} {result} viewed reopens there named gave looks fresh =
+    let ends = rw viewed at gave in rw fresh.0 (record {
       kept = refl;
-      due = record { came = []; led = gives (ways.start contents) ∷ [] };
+      due = due;
       opened = None;
       is_due = record {
-        is = λ is fates.
+        is = λ t fates.
             let look = seeing see.snapshot fates in
-            let (id, leads) = found is in
+            let (id, leads) = found t in
             let entries = entries_first ways look leads in (
               ap is_missing entries,
               ap (λ those. record { came = []; led = gives those ∷ [] })
-                  (ap ways.start (same is ∙ ap (held_at see.snapshot) leads)
+                  (ap (λ those. ways.start (held_at see.snapshot those)) leads
                   ∙ sym (ap (gains_after ways.start []) entries ∙ append-nil _)),
               refl,
             );
       };
-      ends = grind (arith, common_steps, found_as);
-      there = λ first. let (id, is) = some_of reopens.file (reopens.found ∙ there) in (id, rw (is, named) at reopens.opens);
-      last = grind (arith, common_steps);
-      met = met;
-      openly = opens_so result keeps;
+      ends = gives_so (λ reach events. at_first) ends;
+      are = λ t. are_by fate (given_by due see.snapshot None) (stop_in result) ends.events refl
+          (λ reach events first. first_are {snapshot = see.snapshot} {name = name} {seeks = ways.seeks}
+          {start = ways.start} first) (rw t at ends.given);
+      there = λ first. let (id, is) = some_of reopens.file (reopens.found ∙ there) in (
+        id,
+        (rw (is, named) at reopens.opens, λ t. rw (is, named) at (reopens.leads t)),
+      );
+      last = λ t. (λ way. ap is_some (found t).1, λ fates. refl);
     }) where
+      due : Due
+      due = record { came = []; led = gives (ways.start (held_at see.snapshot (see.snapshot.leads name))) ∷ [] }
+
       found : see.told_in ≡ true → (id : ℕ) × (see.snapshot.leads name ≡ Some id)
       found t = some_of (see.snapshot.leads name) (ap is_some (sym (reopens.leads t ∙ ap see.snapshot.leads named)) ∙ reopens.found ∙ there)
 
-      opens_so : (result : Result ℕ Stop) → Keeps place mid new.watched fate (stop_in result)
-          → IfBroke (stop_in result) ((not (is_unopened fate) && true) ≡ true)
-      opens_so result keeps = grind (arith, common_steps)
-
-pub first_long : {told_in : Bool} {snapshot : Snapshot} {place : ℕ} {old mid new : List Watched} {is_there : Bool}
-    (seen : Snapshot) (len : ℕ) (by_name : Bool) → Reopens told_in snapshot old mid place is_there → is_there ≡ true
+pub first_long : {told_in : Bool} {snapshot : Snapshot} (told by_name : Bool) (seen : Snapshot) {place : ℕ} (len : ℕ)
+    {old mid new : List Watched} {is_there : Bool} → Reopens told_in snapshot old mid place is_there → is_there ≡ true
     → IsTrue (is_watchable old place) → new ≡ mid
-    → IsLong false seen (watched_at mid place).name (watched_at mid place).opened len
-    → IsLong by_name seen (watched_at new place).name (watched_at new place).opened len
-first_long {place} {old} {mid} seen len by_name reopens there can same long = grind (arith, common_steps, long_by, opened_now)
+    → IsLong told false seen (watched_at mid place).name (watched_at mid place).opened len
+    → IsLong told by_name seen (watched_at new place).name (watched_at new place).opened len
+first_long told by_name seen {place} len {old} reopens there can same long = rw same (long_by seen len _
+    (λ none is. absurd (false≢true (ap is_some (sym none ∙ ap (λ (w : Watched). w.opened)
+    (opened_now place old reopens.names can)) ∙ reopens.found ∙ there))) long)
 
 pub first_started : {see : Sight} {ways : Ways} {now : Snapshot} {place : ℕ} {name : List ℕ} {inside : PrinterState}
-    {old mid new : Moment} {is_there : Bool} {none : List Event} {result : Result ℕ Stop} → inside ≡ old.printer
+    {old mid new : Moment} {is_there : Bool} {result : Result ℕ Stop} → inside ≡ old.printer
     → Reopens see.told_in see.snapshot old.watched mid.watched place is_there → is_there ≡ true
     → (watched_at old.watched place).name ≡ name → IsTrue (is_watchable old.watched place) → now ≡ see.snapshot
-    → ((Is : List Event → Type 0) → Is []
-    → GivesDue see.told_in Is see.told true inside name [] none old.slots mid.printer mid.slots None)
+    → Gives see.told (Are []) sound true name (record old { printer = inside }) mid None
     → (starts : Starts (record see { snapshot = now }) ways.seeks ways.start place name mid new (stop_in result))
-    → IfOk result (λ len. see.told_in ≡ true → len ≡ length (open_contents now (watched_at mid.watched place)))
     → (looks : List Look) → Stands see.told_in ways looks place name (watched_at old.watched place) New
     → Gave see ways looks place name (see.snapshot.leads name) old new starts.fate result
-first_started {see} {ways} {now} {place} {name} {old = old} {mid} {result = result} viewed reopens there named can same header
-    starts long =
-    first_gave viewed reopens there named
-    (λ t. rw (opened_now place old.watched reopens.names can, same) (ap (held_at see.snapshot) (reopens.leads t ∙ ap see.snapshot.leads named))) starts.keeps
-    (if_broke (stop_in result) (λ met. met ways.by_name) starts.met)
-    long
-    (rw (← same) (goes_after (header (WereFound Nothing Anywhere now name sound None) (found_all tt))
-    (rw known at starts.ends))) where
+first_started {see} {now = now} {place} {name} {old = old} {mid} viewed reopens there named can same header starts =
+    first_gave viewed reopens there named (gives_both (λ reach events more are first. rw are first) header
+    (rw (known, same) at (starts.ends (λ t. leads t)))) where
+      is : watched_at mid.watched place ≡ record (watched_at old.watched place) { opened = reopens.file }
+      is = opened_now place old.watched reopens.names can
+
       known : (watched_at mid.watched place).name ≡ name
-      known = rw (opened_now place old.watched reopens.names can) named
+      known = ap (λ (w : Watched). w.name) is ∙ named
+
+      leads : see.told_in ≡ true → (watched_at mid.watched place).opened ≡ now.leads (watched_at mid.watched place).name
+      leads t = rw (same, known) (ap (λ (w : Watched). w.opened) is ∙ reopens.leads t ∙ ap see.snapshot.leads named)
 
 -- a later look at a name whose file was seen up to some place
 pub later_gave : {see : Sight} {ways : Ways} {place : ℕ} {name : List ℕ} {position : ℕ} {old new : Moment}
@@ -469,50 +508,42 @@ pub later_gave : {see : Sight} {ways : Ways} {place : ℕ} {name : List ℕ} {po
     → Gave see ways looks place name (open_after_look ways.by_name name (watched_at old.watched place).opened see.snapshot)
     old new again.fate result
 later_gave again [] followed = absurd (false≢true (sym followed.begun))
-later_gave {see} {ways} {place} {name} {position} {old} {result = result} again (before ∷ looks) followed = record {
-  kept = followed.kept;
-  due = due_later ways.by_name name opened position see.snapshot;
-  opened = opened;
-  is_due = record {
-    is = λ t fates. let (file, seen) = followed.stands t in
-        (refl, (λ i. due_later ways.by_name name (file i) (seen i) see.snapshot), file);
-  };
-  ends = found_as tells begins (rw followed.named at again.ends);
-  there = λ first. absurd (false≢true first);
-  last = IfOk-weaker result _ _ (λ n is t. (
-    λ way. ap (λ by_name. is_some (open_after_look by_name name opened see.snapshot)) way ∙ followed.there t way,
-    λ fates. let (file, seen) = followed.stands t in ap (λ those. open_after_look ways.by_name name those see.snapshot) file
-        ∙ sym (open_more ways name before looks (seeing see.snapshot fates)),
-    is t (λ none. let (file, seen) = followed.stands t in
-        seen ∙ ap (λ those. length (held_at (latest (snapshots (before ∷ looks))) those)) (sym file ∙ none)),
-  )) again.len;
-  met = if_broke (stop_in result) (λ met. met ways.seeks) again.met;
-  openly = if_so (stop_in result) (and-false (not (is_unopened again.fate)));
-} where
-  opened : Option ℕ
-  opened = (watched_at old.watched place).opened
+later_gave {see} {ways} {place} {name} {position} {old} {result = result} again (before ∷ looks) followed =
+    let ends = rw followed.named at again.ends in record {
+      kept = followed.kept;
+      due = due;
+      opened = opened;
+      is_due = record {
+        is = λ t fates. (
+          refl,
+          ap (λ those. record { came = those; led = due.led }) (seen_same (latest (snapshots (before ∷ looks))) position
+              see.snapshot opened (rw t at followed.long))
+              ∙ (λ i. let file = followed.stands t i in
+              due_later ways.by_name name file (length (held_at (latest (snapshots (before ∷ looks))) file)) see.snapshot),
+          followed.stands t,
+        );
+      };
+      ends = gives_so (λ reach events. at_later opened position followed.long) ends;
+      are = λ t. are_by again.fate (given_by due see.snapshot opened) (stop_in result) ends.events refl
+          (λ reach events later. later_are {by_name = ways.by_name} {snapshot = see.snapshot} {name = name}
+          {opened = opened} {seen = position} later) (rw t at ends.given);
+      there = λ first. absurd (false≢true first);
+      last = λ t. (
+        λ way. ap (λ by_name. is_some (open_after_look by_name name opened see.snapshot)) way ∙ followed.there t way,
+        λ fates. ap (λ those. open_after_look ways.by_name name those see.snapshot) (followed.stands t)
+            ∙ sym (open_more ways name before looks (seeing see.snapshot fates)),
+      );
+    } where
+      opened : Option ℕ
+      opened = (watched_at old.watched place).opened
 
-  begins : (file : Option ℕ) (from : ℕ) → FromFrontOr opened position file from
-      → StartsIn (before ∷ looks) name file from
-  begins file from (inl front) = inr (inl front)
-  begins file from (inr (same, some, at)) = inr (inr (rw (same, at)
-      (held_many ways.by_name (latest (snapshots (before ∷ looks))) name position opened some followed.long)))
+      due : Due
+      due = due_later ways.by_name name opened position see.snapshot
 
-  left_open : (opened : Option ℕ) (by_name : Bool) → (opened ≡ None → by_name ≡ true)
-      → IsLong by_name (latest (snapshots (before ∷ looks))) name opened position
-      → LeftOpen (latest (snapshots (before ∷ looks))) name opened position
-  left_open None by_name can long = long (can refl)
-  left_open (Some file) by_name can long = long
-
-  tells : (notice : Notice) → ToldAgain ways.by_name see.snapshot (watched_at old.watched place) position notice
-      → IsTold (before ∷ looks) see.snapshot name notice
-  tells notice (can, seen) = (
-    refl,
-    opened,
-    position,
-    left_open opened ways.by_name can followed.long,
-    rw followed.named at seen,
-  )
+      seen_same : (last : Snapshot) (seen : ℕ) (snapshot : Snapshot) (file : Option ℕ)
+          → IsLong true ways.by_name last name file seen → came_of snapshot file seen ≡ came_of snapshot file (length (held_at last file))
+      seen_same last seen snapshot None long = refl
+      seen_same last seen snapshot (Some file) long = ap (came_of snapshot (Some file)) (long.1 refl)
 
 -- A name that is looked at no more.
 
@@ -548,21 +579,24 @@ still_left {ways} (before ∷ looks) look {place} {name} {watched} fine left = r
 pub left_visited : {see : Sight} {ways : Ways} {place : ℕ} {name : List ℕ} {now : Moment} (looks : List Look)
     → IsLeft see.told_in ways looks place name (watched_at now.watched place)
     → Visited see ways looks place (record { text = name; standing = Left }) now now false
-left_visited {see} {ways} {place} {name} looks left = elim left.why [
+left_visited [] left = absurd (false≢true (sym left.begun))
+left_visited {see} {ways} {place} {name} (first ∷ looks) left = elim left.why [
   | inl dropped ↦ record {
     fate = sound;
     share = no_share name;
     found = λ fates at. record { is = λ t. rw dropped.0 refl; found = inl (dropped.0, refl) };
     is_failed = refl;
     shared = came_none;
-    stands = λ fates at. still_left looks (seeing see.snapshot fates) at left;
+    stands = λ fates at. still_left (first ∷ looks) (seeing see.snapshot fates) at left;
   }
   -- if no file is open and names aren't followed, nothing is due
-  | inr missed ↦ let dues : IsDue see.told_in ways looks see.snapshot name (record { came = []; led = [] }) None
-      = grind (arith, common_steps, left.begun) in
-      looked_visited sound missed.kept (looked_whole dues {none = []} {fate = sound}
-      (rw left.begun (nothing_due (found_all tt))) (λ first. absurd (false≢true (sym left.begun ∙ first))))
-      (λ fates at. still_left looks (seeing see.snapshot fates) at left)
+  | inr missed ↦
+      let dues : IsDue see.told_in ways (first ∷ looks) see.snapshot name (record { came = []; led = [] }) None
+      = grind (arith, common_steps) in
+      looked_visited sound missed.kept (looked_whole dues (gives_none sound
+      (at_later None 0 (λ by. absurd (false≢true (sym missed.way ∙ by))) (came_all (not_open refl) (not_asked missed.way))))
+      (λ t. refl) (λ opened. absurd (false≢true opened)))
+      (λ fates at. still_left (first ∷ looks) (seeing see.snapshot fates) at left)
 ]
 
 -- Names on which no call can fail.

@@ -133,7 +133,7 @@ pub data Begun (told_in : Bool) (ways : Ways) (names : List (List ℕ)) (looks :
       → AreWatched ways (looks ++ record { snapshot = snapshot; fates = fates } ∷ []) names watched
       → AreAtLook told_in ways looks (record { snapshot = snapshot; fates = fates }) ways.first (take place names)
       shares
-      → IsBegun looks snapshot (slice_index_or names place []) share
+      → IsBegun told_in ways looks snapshot (slice_index_or names place []) share
       → (told_in ≡ true → BeginsShare share
       (share_of ways looks (record { snapshot = snapshot; fates = fates }) (ways.first + place)
       (slice_index_or names place [])))

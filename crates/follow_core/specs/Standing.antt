@@ -1,18 +1,14 @@
 -- How a name stands between two looks.
 use Rattle.std.specs.{
-  Prelude.{◌≡◌, ◌<◌, ◌≤◌, ◌+◌, ℕ, Bool, true, false, List, [], Option, Some, None, ◌⊎◌, length, map, slice_index_or},
+  Prelude.{◌≡◌, ◌<◌, ◌≤◌, ◌+◌, ℕ, Bool, true, false, List, [], Option, None, ◌⊎◌, length, map, slice_index_or},
   Prelude.is_some,
 }
-use Rattle.watch_core.specs.{
-  declared.watch.Broken.Broken,
-  Snapshot.{Snapshot, latest},
-  Watched.{Watched, added, watched_at},
-}
+use Rattle.watch_core.specs.{declared.watch.Broken.Broken, Snapshot.{latest}, Watched.{Watched, added, watched_at}}
 use Rattle.follow_core.specs.{
   declared.name.Standing.{Standing, TheVariants.{New, Followed, Left}},
   Look.{Look, Ways, are_met, failed_in, is_dropped, is_first, snapshots},
-  Reading.LeftOpen,
-  Share.{opened_in, seen_in},
+  Reading.IsLong,
+  Share.opened_in,
   Version.open_after,
 }
 
@@ -57,11 +53,6 @@ AreWatched ways looks names watched = (length watched ≤ ways.first + length na
     × ((place : ℕ) → ways.first + place < length watched → IsWatched ways looks (ways.first + place)
     (slice_index_or names place []) (watched_at watched (ways.first + place)))
 
--- the look found this open file to hold `held` bytes; that the name leads nowhere is known only if names are followed
-abbrev pub IsLong : (by_name : Bool) → Snapshot → List ℕ → Option ℕ → (held : ℕ) → Type 0
-IsLong by_name snapshot name None held = by_name ≡ true → LeftOpen snapshot name None held
-IsLong by_name snapshot name (Some file) held = LeftOpen snapshot name (Some file) held
-
 -- The name is looked at again. The file is open that the looks left open, and `position` bytes of it were seen.
 pub record IsFollowed (told : Bool) (ways : Ways) (looks : List Look) (place : ℕ) (name : List ℕ) (watched : Watched)
     (position : ℕ) : Type 0 where
@@ -69,9 +60,9 @@ pub record IsFollowed (told : Bool) (ways : Ways) (looks : List Look) (place : �
   pub unbroken : watched.failed ≡ None
   pub kept : is_dropped place looks ≡ false
   pub begun : is_first looks ≡ false
-  pub stands : told ≡ true → (watched.opened ≡ opened_in ways name looks) × (position ≡ seen_in ways name looks)
+  pub stands : told ≡ true → watched.opened ≡ opened_in ways name looks
   pub there : told ≡ true → ways.by_name ≡ false → is_some watched.opened ≡ true
-  pub long : IsLong ways.by_name (latest (snapshots looks)) name watched.opened position
+  pub long : IsLong told ways.by_name (latest (snapshots looks)) name watched.opened position
 
 -- the name was missing at the first look, and names aren't followed
 pub record IsMissed (told : Bool) (ways : Ways) (looks : List Look) (place : ℕ) (name : List ℕ)

@@ -47,7 +47,7 @@ pub record Stopped (see : Sight) (ways : Ways) (before : List Look) (name : List
   pub share : Share
   pub begins : see.told_in ≡ true → (fates : List Fate)
       → BeginsShare share (share_by ways name before (record { snapshot = see.snapshot; fates = fates }) sound)
-  pub found : IsBegun before see.snapshot name share
+  pub found : IsBegun see.told_in ways before see.snapshot name share
   pub short : Shared see.told old.printer share old.slots new.printer new.slots (Some why)
 
 -- A call on the name failed: that is reported, and the name is dropped. Or following ends: nothing more is reported.
