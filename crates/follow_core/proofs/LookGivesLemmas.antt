@@ -22,8 +22,8 @@ use Rattle.follow_core.specs.{
   Look.{Fate, Look, Ways, can_meet, entries_in, failed_by, failed_in, fate_at, is_dropped, snapshots, sound},
   Look.{unopened, is_first},
   Notice.is_missing,
-  Share.{Due, Share, opened_in, due_later, failure_line, failure_of, given_by, is_unopened, missing_share},
-  Share.{no_share, share_by},
+  Share.{Due, Share, due_at, due_later, events_at, failure_line, failure_of, given_by, is_unopened, missing_share},
+  Share.{no_share, opened_in, share_by},
   Printing.PrinterState,
   Telling.{Tells, failure_message, failure_text, tail_by},
 }
@@ -33,7 +33,7 @@ use Rattle.follow_core.proofs.{
   CatchLemmas.{LooksAgain, long_by},
   EventLemmas.begins_trans,
   ShownLemmas.{AreBy, first_are, later_are},
-  LookLemmas.{open_more, failed_more, failed_sound, broken_sound, broken_more, seeing, IsDue},
+  LookLemmas.{open_more, failed_more, failed_sound, broken_sound, broken_more, seeing},
 }
 use Rattle.std.proofs.{
   lemmas.Grind.common_steps,
@@ -119,10 +119,10 @@ led_fits {by_name = by_name} seeks (opened_there by changed saw caught) = caught
 look_fits : {told : Bool} {ways : Ways} {snapshot : Snapshot} {name : List ℕ} {reach : Option Fate} {events : List Event}
     (looks : List Look) → LookGives told ways looks snapshot name reach events
     → Fits (is_first looks) ways.by_name ways.seeks (snapshot.breaks name) reach
-look_fits [] (at_first not_begun) = tt
-look_fits [] (at_first (first_unmeasured can)) = (refl, refl, inr can)
-look_fits [] (at_first (first_unsought seeks can)) = (seeks, refl, inr can)
-look_fits {ways = ways} [] (at_first (begun leads saw part read)) = read_fits true ways.by_name ways.seeks read
+look_fits [] (at_first file saw not_begun) = tt
+look_fits [] (at_first file saw (first_unmeasured can)) = (refl, refl, inr can)
+look_fits [] (at_first file saw (first_unsought seeks can)) = (seeks, refl, inr can)
+look_fits {ways = ways} [] (at_first file saw (begun long part read)) = read_fits true ways.by_name ways.seeks read
 look_fits {ways = ways} (first ∷ looks) (at_later opened seen long (came_early early caught)) =
     caught_fits ways.by_name ways.seeks caught
 look_fits {ways = ways} (first ∷ looks) (at_later opened seen long (came_all came led)) = led_fits ways.seeks led
@@ -141,17 +141,23 @@ are_by fate before None events whole so given = so (Some sound) events given ∙
 are_by fate before (Some (Broke why)) events whole so given = so (Some fate) events given
 are_by fate before (Some (Over why)) events whole so (all, is, begins) = begins_trans begins (so None all is)
 
+-- the events are those of a look after these by the snapshot and by this fate, at which the name isn't missing
+abbrev IsShown : Ways → List Look → Snapshot → List ℕ → Fate → Option Stop → List Event → Type 0
+IsShown ways before snapshot name fate stop events = (fates : List Fate) → let look = seeing snapshot fates in
+    ((is_first before && is_missing (entries_in ways name (before ++ look ∷ []))) ≡ false)
+    × AreGiven stop events (events_at ways name before look)
+    (given_by (due_at ways name before look) snapshot (opened_in ways name before) fate)
+
 abbrev shared_as : (opened : Bool) → List ℕ → List Event → Option Fault → Share
 shared_as opened name events failure = record { name = name; is_opened = opened; events = events; failure = failure }
 
-module _ {see : Sight} {ways : Ways} {before : List Look} {name : List ℕ} {due : Due} {opened : Option ℕ}
-    {old mid : Moment} (dues : IsDue see.told_in ways before see.snapshot name due opened) where
+module _ {see : Sight} {ways : Ways} {before : List Look} {name : List ℕ} {old mid : Moment} where
   -- all that is due was given
   pub looked_whole : {fate : Fate} (ends : Gives see.told (LookGives see.told_in ways before see.snapshot name) fate
-      (is_first before) name old mid None) → (see.told_in ≡ true → ends.events ≡ due.came ++ due.led)
-      → (is_first before ≡ true → (file : ℕ) × Saw see.told_in see.snapshot name (opens_as (Some file)))
+      (is_first before) name old mid None)
+      → (see.told_in ≡ true → IsShown ways before see.snapshot name fate None ends.events)
       → Looked see ways before name old mid false sound
-  looked_whole ends are there = record {
+  looked_whole ends shown = record {
     share = shared_as (is_first before) name ends.events None;
     found = inl (record {
       named = refl;
@@ -159,9 +165,8 @@ module _ {see : Sight} {ways : Ways} {before : List Look} {name : List ℕ} {due
       failed = refl;
       events = inr ends.given;
       broke = inl refl;
-      there = there;
     });
-    is_share = λ t fates. let is = dues.is t fates in rw (are t, is.0, is.1) refl;
+    is_share = λ t fates. let (kept, are) = shown t fates in rw (are, kept) refl;
     failed = refl;
     shared = rw (append-nil (lines_in name ends.events)) ends.came;
   }
@@ -170,22 +175,21 @@ module _ {see : Sight} {ways : Ways} {before : List Look} {name : List ℕ} {due
   pub looked_broke : (place : ℕ) {slots : List Slot} {why : Fault} (fate : Fate) → is_some (failed_by fate None) ≡ true
       → why ≡ fault_by place fate
       → (ends : Gives see.told (LookGives see.told_in ways before see.snapshot name) fate (is_first before) name old mid
-      (Some (Broke why))) → (see.told_in ≡ true → ends.events ≡ given_by due see.snapshot opened fate)
-      → (is_first before ≡ true → (file : ℕ) × Saw see.told_in see.snapshot name (opens_as (Some file)))
+      (Some (Broke why)))
+      → (see.told_in ≡ true → IsShown ways before see.snapshot name fate (Some (Broke why)) ends.events)
       → ((reason : Reason)
       × SaysOn see.told (tail_by old.printer.calling) reason (failure_message why name) mid.slots slots)
       → Looked see ways before name old (record mid { slots = slots }) true fate
-  looked_broke place fate broke fault ends are there says =
+  looked_broke place fate broke fault ends shown says =
       let line = fault_line place name fate broke in let (met, openly, can) = look_fits before ends.given in record {
         share = shared_as (is_first before) name ends.events (failure_of fate);
-        is_share = λ t fates. let is = dues.is t fates in rw (line.1, openly, are t, is.1, is.2) refl;
+        is_share = λ t fates. let (kept, are) = shown t fates in rw (line.1, openly, are) refl;
         found = inl (record {
           named = refl;
           opened = sym openly;
           failed = refl;
           events = inr ends.given;
           broke = can;
-          there = there;
         });
         failed = line.1;
         shared = rw (← line.0) (said_after ends.came (failure_said (is_read fate) place name (rw fault at says.1)));
@@ -205,14 +209,9 @@ entries_first ways look is = append-nil _ ∙ ap (entries_led look.snapshot None
 pub record Gave (see : Sight) (ways : Ways) (looks : List Look) (place : ℕ) (name : List ℕ) (led : Option ℕ)
     (old new : Moment) (fate : Fate) (result : Result ℕ Stop) : Type 0 where
   pub kept : is_dropped place looks ≡ false
-  pub due : Due
-  pub opened : Option ℕ
-  pub is_due : IsDue see.told_in ways looks see.snapshot name due opened
   pub ends : Gives see.told (LookGives see.told_in ways looks see.snapshot name) fate (is_first looks) name old new
       (stop_in result)
-  pub are : see.told_in ≡ true
-      → AreGiven (stop_in result) ends.events (due.came ++ due.led) (given_by due see.snapshot opened fate)
-  pub there : is_first looks ≡ true → (file : ℕ) × Saw see.told_in see.snapshot name (opens_as (Some file))
+  pub shown : see.told_in ≡ true → IsShown ways looks see.snapshot name fate (stop_in result) ends.events
   pub last : see.told_in ≡ true → (ways.by_name ≡ false → is_some led ≡ true)
       × ((fates : List Fate) → led ≡ opened_in ways name (looks ++ seeing see.snapshot fates ∷ []))
 
@@ -298,7 +297,7 @@ module _ {see : Sight} {ways : Ways} {place : ℕ} {one : NameState} {old new : 
   gave_through {len = len} fate named can (file, is, leads) gave long =
       visits_by (Followed len) (opens file) is can (named, none_of (watched_at old.watched place).failed (not-true _ can))
       (λ there looks stands.
-      let made = gave looks stands in looked_visited sound made.kept (looked_whole made.is_due made.ends made.are made.there)
+      let made = gave looks stands in looked_visited sound made.kept (looked_whole made.ends made.shown)
       (λ fates at. rw there (through_stands looks (seeing see.snapshot fates) (watched_at old.watched place) named can made.kept at
       leads (λ t. let (some, opened) = made.last t in (some, opened fates)) (rw (opened_now place old.watched is can, named) at long))))
 
@@ -312,7 +311,7 @@ module _ {see : Sight} {ways : Ways} {place : ℕ} {one : NameState} {old new : 
   gave_fails {slots = slots} fate (Broke why) named can broke gave (tells, left, says) = rw (tells, left) (drops fate why named can broke (λ looks stands.
       let made = gave looks stands in (
         made.kept,
-        looked_broke {mid = record new { slots = slots }} made.is_due place fate broke.broke broke.fault_is made.ends made.are made.there
+        looked_broke {mid = record new { slots = slots }} place fate broke.broke broke.fault_is made.ends made.shown
             (says.0, rw (made.ends.came.printer_is refl) at says.1),
         (look_fits looks made.ends.given).0,
       )))
@@ -322,8 +321,8 @@ module _ {see : Sight} {ways : Ways} {place : ℕ} {one : NameState} {old new : 
       made.kept,
       record {
         share = shared_as (is_first looks) one.text made.ends.events None;
-        begins = λ t fates. let is = made.is_due.is t fates in rw (is.0, ← is.1)
-            (record { name = refl; opened = refl; events = made.are t; unfailed = refl });
+        begins = λ t fates. let (kept, are) = made.shown t fates in
+            rw kept (record { name = refl; opened = refl; events = are; unfailed = refl });
         found = record {
           named = refl;
           opened = refl;
@@ -420,7 +419,6 @@ first_unopened {place = place} {name} {why = why} named can is broke fails (tell
           failed = refl;
           events = inl (refl, refl, refl);
           broke = inr (rw named at fails);
-          there = λ opened. absurd (false≢true opened);
         });
         failed = refl;
         shared = said_after came_none (failure_said false place name (rw is at says.1));
@@ -433,44 +431,36 @@ first_unopened {place = place} {name} {why = why} named can is broke fails (tell
 -- the file was opened; its start part was given under its header, or what comes before a call that failed
 pub first_gave : {see : Sight} {ways : Ways} {place : ℕ} {name : List ℕ} {inside : PrinterState} {old new : Moment}
     {mid : List Watched} {is_there : Bool} {fate : Fate} {result : Result ℕ Stop}
-    → inside ≡ old.printer → Reopens see.told_in see.snapshot old.watched mid place is_there → is_there ≡ true
-    → (watched_at old.watched place).name ≡ name
-    → Gives see.told (First see.told_in see.snapshot name ways.seeks ways.start) fate true name
+    → inside ≡ old.printer → (reopens : Reopens see.told_in see.snapshot old.watched mid place is_there)
+    → is_there ≡ true → (watched_at old.watched place).name ≡ name
+    → Gives see.told (First see.told_in see.snapshot name reopens.file ways.seeks ways.start) fate true name
     (record old { printer = inside }) new (stop_in result)
     → (looks : List Look) → Stands see.told_in ways looks place name (watched_at old.watched place) New
     → Gave see ways looks place name (see.snapshot.leads name) old new fate result
 first_gave {see} {ways} {name = name} {old = old} {new} {fate = fate} {result} viewed reopens there named gave looks fresh =
-    let ends = rw viewed at gave in rw fresh.0 (record {
+    let (file, is) = some_of reopens.file (reopens.found ∙ there) in
+    let saw : Saw see.told_in see.snapshot name (opens_as (Some file))
+    = (rw (is, named) at reopens.opens, λ t. rw (is, named) at (reopens.leads t)) in
+    let ends = rw (viewed, is) at gave in rw fresh.0 (record {
       kept = refl;
-      due = due;
-      opened = None;
-      is_due = record {
-        is = λ t fates.
-            let look = seeing see.snapshot fates in
-            let (id, leads) = found t in
-            let entries = entries_first ways look leads in (
-              ap is_missing entries,
-              ap (λ those. record { came = []; led = gives those ∷ [] })
-                  (ap (λ those. ways.start (held_at see.snapshot those)) leads
-                  ∙ sym (ap (gains_after ways.start []) entries ∙ append-nil _)),
-              refl,
-            );
-      };
-      ends = gives_so (λ reach events. at_first) ends;
-      are = λ t. are_by fate (given_by due see.snapshot None) (stop_in result) ends.events refl
-          (λ reach events first. first_are {snapshot = see.snapshot} {name = name} {seeks = ways.seeks}
-          {start = ways.start} first) (rw t at ends.given);
-      there = λ first. let (id, is) = some_of reopens.file (reopens.found ∙ there) in (
-        id,
-        (rw (is, named) at reopens.opens, λ t. rw (is, named) at (reopens.leads t)),
-      );
-      last = λ t. (λ way. ap is_some (found t).1, λ fates. refl);
+      ends = gives_so (λ reach events. at_first file saw) ends;
+      shown = λ t fates.
+          let look = seeing see.snapshot fates in
+          let leads = sym (saw.1 t) in
+          let entries = entries_first ways look leads in
+          let same : due ≡ due_at ways name [] look = ap (λ those. record { came = []; led = gives those ∷ [] })
+          (ap (λ those. ways.start (held_at see.snapshot those)) leads
+          ∙ sym (ap (gains_after ways.start []) entries ∙ append-nil _)) in (
+            ap is_missing entries,
+            subst (λ those. AreGiven (stop_in result) ends.events (those.came ++ those.led) (given_by those see.snapshot None fate))
+                same (are_by fate (given_by due see.snapshot None) (stop_in result) ends.events refl
+                (λ reach events. first_are {snapshot = see.snapshot} {name = name} {file = Some file} {seeks = ways.seeks}
+                {start = ways.start} (saw.1 t)) (rw t at ends.given)),
+          );
+      last = λ t. (λ way. ap is_some (sym (saw.1 t)), λ fates. refl);
     }) where
       due : Due
       due = record { came = []; led = gives (ways.start (held_at see.snapshot (see.snapshot.leads name))) ∷ [] }
-
-      found : see.told_in ≡ true → (id : ℕ) × (see.snapshot.leads name ≡ Some id)
-      found t = some_of (see.snapshot.leads name) (ap is_some (sym (reopens.leads t ∙ ap see.snapshot.leads named)) ∙ reopens.found ∙ there)
 
 pub first_long : {told_in : Bool} {snapshot : Snapshot} (told by_name : Bool) (seen : Snapshot) {place : ℕ} (len : ℕ)
     {old mid new : List Watched} {is_there : Bool} → Reopens told_in snapshot old mid place is_there → is_there ≡ true
@@ -491,15 +481,15 @@ pub first_started : {see : Sight} {ways : Ways} {now : Snapshot} {place : ℕ} {
     → Gave see ways looks place name (see.snapshot.leads name) old new starts.fate result
 first_started {see} {now = now} {place} {name} {old = old} {mid} viewed reopens there named can same header starts =
     first_gave viewed reopens there named (gives_both (λ reach events more are first. rw are first) header
-    (rw (known, same) at (starts.ends (λ t. leads t)))) where
+    (rw (known, same, opened) at starts.ends)) where
       is : watched_at mid.watched place ≡ record (watched_at old.watched place) { opened = reopens.file }
       is = opened_now place old.watched reopens.names can
 
       known : (watched_at mid.watched place).name ≡ name
       known = ap (λ (w : Watched). w.name) is ∙ named
 
-      leads : see.told_in ≡ true → (watched_at mid.watched place).opened ≡ now.leads (watched_at mid.watched place).name
-      leads t = rw (same, known) (ap (λ (w : Watched). w.opened) is ∙ reopens.leads t ∙ ap see.snapshot.leads named)
+      opened : (watched_at mid.watched place).opened ≡ reopens.file
+      opened = ap (λ (w : Watched). w.opened) is
 
 -- a later look at a name whose file was seen up to some place
 pub later_gave : {see : Sight} {ways : Ways} {place : ℕ} {name : List ℕ} {position : ℕ} {old new : Moment}
@@ -511,23 +501,17 @@ later_gave again [] followed = absurd (false≢true (sym followed.begun))
 later_gave {see} {ways} {place} {name} {position} {old} {result = result} again (before ∷ looks) followed =
     let ends = rw followed.named at again.ends in record {
       kept = followed.kept;
-      due = due;
-      opened = opened;
-      is_due = record {
-        is = λ t fates. (
-          refl,
-          ap (λ those. record { came = those; led = due.led }) (seen_same (latest (snapshots (before ∷ looks))) position
-              see.snapshot opened (rw t at followed.long))
-              ∙ (λ i. let file = followed.stands t i in
-              due_later ways.by_name name file (length (held_at (latest (snapshots (before ∷ looks))) file)) see.snapshot),
-          followed.stands t,
-        );
-      };
       ends = gives_so (λ reach events. at_later opened position followed.long) ends;
-      are = λ t. are_by again.fate (given_by due see.snapshot opened) (stop_in result) ends.events refl
-          (λ reach events later. later_are {by_name = ways.by_name} {snapshot = see.snapshot} {name = name}
-          {opened = opened} {seen = position} later) (rw t at ends.given);
-      there = λ first. absurd (false≢true first);
+      shown = λ t fates. (
+        refl,
+        rw (
+          ← (followed.stands t),
+          ← (seen_same (latest (snapshots (before ∷ looks))) position see.snapshot opened
+              (rw t at followed.long)),
+        ) (are_by again.fate (given_by due see.snapshot opened) (stop_in result) ends.events refl
+            (λ reach events later. later_are {by_name = ways.by_name} {snapshot = see.snapshot} {name = name} {opened = opened}
+            {seen = position} later) (rw t at ends.given)),
+      );
       last = λ t. (
         λ way. ap (λ by_name. is_some (open_after_look by_name name opened see.snapshot)) way ∙ followed.there t way,
         λ fates. ap (λ those. open_after_look ways.by_name name those see.snapshot) (followed.stands t)
@@ -591,11 +575,9 @@ left_visited {see} {ways} {place} {name} (first ∷ looks) left = elim left.why 
   }
   -- if no file is open and names aren't followed, nothing is due
   | inr missed ↦
-      let dues : IsDue see.told_in ways (first ∷ looks) see.snapshot name (record { came = []; led = [] }) None
-      = grind (arith, common_steps) in
-      looked_visited sound missed.kept (looked_whole dues (gives_none sound
+      looked_visited sound missed.kept (looked_whole (gives_none sound
       (at_later None 0 (λ by. absurd (false≢true (sym missed.way ∙ by))) (came_all (not_open refl) (not_asked missed.way))))
-      (λ t. refl) (λ opened. absurd (false≢true opened)))
+      (λ t fates. (refl, grind (arith, common_steps, missed.unopened t, missed.way))))
       (λ fates at. still_left (first ∷ looks) (seeing see.snapshot fates) at left)
 ]
 

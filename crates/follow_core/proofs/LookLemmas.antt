@@ -206,10 +206,3 @@ broken_more {ways} looks look {place} {fate} broke kept at met = grind (arith, c
 
 abbrev pub seeing : Snapshot → List Fate → Look
 seeing snapshot fates = record { snapshot = snapshot; fates = fates }
-
--- what is due of a name at a look after these, if the name isn't missing at it; before it this file was open
-pub record IsDue (told_in : Bool) (ways : Ways) (before : List Look) (snapshot : Snapshot) (name : List ℕ) (due : Due)
-    (opened : Option ℕ) : Type 0 where
-  pub is : told_in ≡ true → (fates : List Fate)
-      → ((is_first before && is_missing (entries_in ways name (before ++ seeing snapshot fates ∷ []))) ≡ false)
-      × (due ≡ due_at ways name before (seeing snapshot fates)) × (opened ≡ opened_in ways name before)

@@ -43,21 +43,19 @@ led_told snapshot {name} (opened_there by_name changed saw caught) is by insists
     never_nowhere snapshot name (leads_to None) insists refl (rw (changed.saw.1 refl ∙ leads) at changed.saw.0)
 
 look_told : {ways : Ways} {before : List Look} (snapshot : Snapshot) {name : List ℕ} {reach : Option Fate}
-    {events : List Event} → LookGives true ways before snapshot name reach events → is_first before ≡ false
-    → reach ≡ Some sound → ways.by_name ≡ true → snapshot.insists ≡ true → snapshot.leads name ≡ None → ⊥
-look_told snapshot (at_first first) later is by insists leads = false≢true (sym later)
-look_told snapshot (at_later opened seen long (came_early early caught)) later is by insists leads = early is
-look_told snapshot (at_later opened seen long (came_all came led)) later is by insists leads =
+    {events : List Event} → LookGives true ways before snapshot name reach events → reach ≡ Some sound
+    → ways.by_name ≡ true → snapshot.insists ≡ true → snapshot.leads name ≡ None → ⊥
+look_told snapshot (at_first file saw first) is by insists leads = none-some file (sym leads ∙ sym (saw.1 refl))
+look_told snapshot (at_later opened seen long (came_early early caught)) is by insists leads = early is
+look_told snapshot (at_later opened seen long (came_all came led)) is by insists leads =
     led_told snapshot led is by insists leads
 
 found_sound : (ways : Ways) (before : List Look) (look : Look) (place : ℕ) {name : List ℕ} {share : Share}
     → IsFound true ways before look.snapshot name (fate_at place look) share → ways.by_name ≡ true
     → look.snapshot.insists ≡ true → look.snapshot.leads name ≡ None → fate_at place look ≡ sound → ⊥
-found_sound ways [] look place found by insists leads fine =
-    let (file, saw) = found.there (rw fine at found.opened) in none-some file (sym leads ∙ sym (saw.1 refl))
-found_sound ways (first ∷ looks) look place found by insists leads fine = elim found.events [
-  | inl (fresh, other, none) ↦ false≢true fresh
-  | inr shown ↦ look_told look.snapshot shown refl (ap Some fine) by insists leads
+found_sound ways before look place found by insists leads fine = elim found.events [
+  | inl (first, other, none) ↦ absurd (cc)
+  | inr shown ↦ look_told look.snapshot shown (ap Some fine) by insists leads
 ]
 
 -- A name that leads nowhere and wasn't dropped breaks at such a look.

@@ -211,14 +211,14 @@ same_none : (file : Option ℕ) → is_same file None ≡ false
 same_none None = refl
 same_none (Some file) = refl
 
-pub first_are : {snapshot : Snapshot} {name : List ℕ} {seeks : Bool} {start : List ℕ → List ℕ} {reach : Option Fate}
-    {events : List Event} → First true snapshot name seeks start reach events
+pub first_are : {snapshot : Snapshot} {name : List ℕ} {file : Option ℕ} {seeks : Bool} {start : List ℕ → List ℕ}
+    {reach : Option Fate} {events : List Event} → file ≡ snapshot.leads name
+    → First true snapshot name file seeks start reach events
     → let due : Due = record { came = []; led = gives (start (held_at snapshot (snapshot.leads name))) ∷ [] } in
     AreBy (given_by due snapshot None) due.led reach events
-first_are not_begun = begins_none
-first_are (first_unmeasured {file = file} can) = rw (same_none file) refl
-first_are (first_unsought seeks can) = refl
-first_are {snapshot} {name} {start = start} (begun {file = file} leads saw part read) =
-    noted_are [] _ (ap (λ those. gives those ∷ [])
-    (sym (part refl ∙ ap (λ those. start (held_at snapshot those)) (leads refl))))
+first_are leads not_begun = begins_none
+first_are {file = file} leads (first_unmeasured can) = rw (same_none file) refl
+first_are leads (first_unsought seeks can) = refl
+first_are {snapshot} {file = file} {start = start} leads (begun saw part read) =
+    noted_are [] _ (ap (λ those. gives those ∷ []) (ap (λ those. start (held_at snapshot those)) (sym leads) ∙ sym (part refl)))
     refl (λ at. rw (same_none file) refl) (λ left more. refl) (saw.1 refl) read

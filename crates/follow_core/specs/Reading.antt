@@ -92,18 +92,18 @@ pub data Later (told by_name : Bool) (snapshot : Snapshot) (name : List ℕ) (op
       → LedTo told by_name snapshot name opened reach led
       → Later told by_name snapshot name opened seen reach (came ++ led)
 
--- what the first look gives of the file that it opened: bytes from the place on at which the start part begins
-pub data First (told : Bool) (snapshot : Snapshot) (name : List ℕ) (seeks : Bool) (start : List ℕ → List ℕ)
-    : Option Fate → List Event → Type 0 where
-  not_begun : First told snapshot name seeks start None []
-  first_unmeasured : {file : Option ℕ} → snapshot.breaks name ≡ true
-      → First told snapshot name seeks start (Some (unmeasured file)) []
-  first_unsought : {file : Option ℕ} {from : ℕ} → seeks ≡ true → snapshot.breaks name ≡ true
-      → First told snapshot name seeks start (Some (unsought file from)) []
-  begun : {file : Option ℕ} {from len : ℕ} {reach : Option Fate} {events : List Event}
-      → (told ≡ true → file ≡ snapshot.leads name) → Saw told snapshot name (holds_many file len)
+-- what the first look gives of this file, which it opened: bytes from the place on at which the start part begins
+pub data First (told : Bool) (snapshot : Snapshot) (name : List ℕ) (file : Option ℕ) (seeks : Bool)
+    (start : List ℕ → List ℕ) : Option Fate → List Event → Type 0 where
+  not_begun : First told snapshot name file seeks start None []
+  first_unmeasured : snapshot.breaks name ≡ true
+      → First told snapshot name file seeks start (Some (unmeasured file)) []
+  first_unsought : {from : ℕ} → seeks ≡ true → snapshot.breaks name ≡ true
+      → First told snapshot name file seeks start (Some (unsought file from)) []
+  begun : {from len : ℕ} {reach : Option Fate} {events : List Event} → Saw told snapshot name (holds_many file len)
       → (told ≡ true → drop from (held_at snapshot file) ≡ start (held_at snapshot file))
-      → ReadOn told snapshot name file from len reach events → First told snapshot name seeks start reach events
+      → ReadOn told snapshot name file from len reach events
+      → First told snapshot name file seeks start reach events
 
 -- a look left this file open, and found `held` bytes in it; or it left none open, since the name leads nowhere
 abbrev pub LeftOpen : Bool → Snapshot → List ℕ → Option ℕ → (held : ℕ) → Type 0
@@ -117,8 +117,10 @@ IsLong told by_name snapshot name (Some file) held = LeftOpen told snapshot name
 
 -- what a look after these gives for a name, by what its calls found and by what the look before it left open
 pub data LookGives (told : Bool) (ways : Ways) : List Look → Snapshot → List ℕ → Option Fate → List Event → Type 0 where
-  at_first : {snapshot : Snapshot} {name : List ℕ} {reach : Option Fate} {events : List Event}
-      → First told snapshot name ways.seeks ways.start reach events → LookGives told ways [] snapshot name reach events
+  at_first : {snapshot : Snapshot} {name : List ℕ} {reach : Option Fate} {events : List Event} (file : ℕ)
+      → Saw told snapshot name (opens_as (Some file))
+      → First told snapshot name (Some file) ways.seeks ways.start reach events
+      → LookGives told ways [] snapshot name reach events
   at_later : {first : Look} {looks : List Look} {snapshot : Snapshot} {name : List ℕ} {reach : Option Fate}
       {events : List Event} (opened : Option ℕ) (seen : ℕ)
       → IsLong told ways.by_name (latest (snapshots (first ∷ looks))) name opened seen
@@ -136,8 +138,6 @@ pub record IsFound (told : Bool) (ways : Ways) (before : List Look) (snapshot : 
       ⊎ LookGives told ways before snapshot name (Some fate) share.events
   -- a call on the name failed only if a call on it can fail in this look
   pub broke : (fate ≡ sound) ⊎ (snapshot.breaks name ≡ true)
-  -- if a file was opened, the call that opens found a file
-  pub there : share.is_opened ≡ true → (file : ℕ) × Saw told snapshot name (opens_as (Some file))
 
 -- the name was found to lead nowhere at the first look, and the look gives the message about that
 pub record IsMissing (told : Bool) (before : List Look) (snapshot : Snapshot) (name : List ℕ) (fate : Fate)

@@ -171,8 +171,7 @@ pub record Starts (see : Sight) (seeks : Bool) (start : List ℕ → List ℕ) (
     (old new : Moment) (stop : Option Stop) : Type 0 where
   pub fate : Fate
   pub ends : let known = watched_at old.watched place in
-      (see.told_in ≡ true → known.opened ≡ see.snapshot.leads known.name)
-      → Gives see.told (First see.told_in see.snapshot known.name seeks start) fate false name old new stop
+      Gives see.told (First see.told_in see.snapshot known.name known.opened seeks start) fate false name old new stop
   pub keeps : Keeps place old.watched new.watched fate stop
 
 -- A call gave what the open file adds to a name. Before the call `position` bytes of it were seen, and after it all.

@@ -9,14 +9,14 @@ use Rattle.follow_core.proofs.visitor.Visitor.write_start.Goals as goal
 pub returns-in-Err-clause-starts : goal.returns-in-Err-clause-starts
 returns-in-Err-clause-starts g c = record {
   fate = unmeasured _;
-  ends = λ leads. gives_failed (unmeasured _) (first_unmeasured c.in-Err.ensures.breaks);
+  ends = gives_failed (unmeasured _) (first_unmeasured c.in-Err.ensures.breaks);
   keeps = (broke_at (λ file. Len file) refl refl c.in-Err.ensures.err.0 c.in-Err.ensures.err.1, refl);
 }
 
 pub returns-in-Err-find-clause-starts : goal.returns-in-Err-find-clause-starts
 returns-in-Err-find-clause-starts g c = let (from, broken) = c.in-Err-find.ensures.err.1 in rw c.self.view_is (record {
   fate = unsought _ from;
-  ends = λ leads. gives_failed (unsought _ from) (first_unsought c.in-Err-find.ensures.sought
+  ends = gives_failed (unsought _ from) (first_unsought c.in-Err-find.ensures.sought
       (rw (c.open_len.ensures.seen, c.in-Ok.ensures.same) at c.in-Err-find.ensures.breaks));
   keeps = (broke_at (λ file. Read file from) refl c.in-Ok.ensures.same c.in-Err-find.ensures.err.0 broken, refl);
 })
@@ -30,14 +30,15 @@ invariant_of-self-2 g c = grind (arith, common_steps)
 pub returns-clause-long : goal.returns-clause-long
 returns-clause-long g c = IfOk-weaker c.copy.result (λ n. n ≡ c.in-Ok.len) _ (λ n whole. rw whole
     (is_held false (latest (g.W.Watch.seen c.args.watch.now)) _
-    (watched_at (g.W.Watch.watched c.args.watch.now) c.args.place).opened (and_parts _ _ c.requires.readable).0 (c.in-Ok.ensures.found, c.in-Ok.ensures.ok))) c.copy.ensures.len
+    (watched_at (g.W.Watch.watched c.args.watch.now) c.args.place).opened
+    (and_parts _ _ c.requires.readable).0 (c.in-Ok.ensures.found, c.in-Ok.ensures.ok))) c.copy.ensures.len
 
 pub returns-clause-starts : goal.returns-clause-starts
 returns-clause-starts g c =
     let copies = rw (c.self.view_is, c.find.ensures.seen, c.open_len.ensures.seen, c.in-Ok-find.ensures.same, c.in-Ok.ensures.same) at
     c.copy.ensures.copies in record {
       fate = copies.fate;
-      ends = λ leads. gives_so (λ reach events. begun leads (c.in-Ok.ensures.found, c.in-Ok.ensures.ok)
+      ends = gives_so (λ reach events. begun (c.in-Ok.ensures.found, c.in-Ok.ensures.ok)
           (λ t. rw (c.open_len.ensures.seen, c.in-Ok.ensures.same) at (c.in-Ok-find.ensures.part t))) copies.ends;
       keeps = copies.keeps;
     }
