@@ -24,10 +24,10 @@ use Rattle.watch_core.{
 }
 use Rattle.follow_core.{
   specs.Version.{Version, Entry, version, gap, version_in, entries_led, entries_later, entries_at_look, entries_of},
-  specs.Gain.{file_of, gain_between, gains_later, last_from, gains_after},
+  specs.Gain.{gain_between, gains_later, last_from, gains_after},
   specs.Run.{AreKept, name_text},
   specs.Placing.{all_edits, IsUncut, AreSeen, AllSeen},
-  proofs.{RunLemmas.text_is_gains, LookLemmas.look_leaves},
+  proofs.{RunLemmas.text_is_gains, LookLemmas.{file_of, look_leaves}},
 }
 
 -- One look more changes no text.

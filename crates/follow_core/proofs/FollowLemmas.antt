@@ -13,8 +13,8 @@ use Rattle.ports_core.specs.{Slot.{Slot, changed_at}, declared.fault.Fault.Fault
 use Rattle.follow_core.specs.{
   FollowState.{AllReady, Begun, up_to},
   Look.{Fate, Look, Ways, failed_in, is_dropped, sound},
-  Share.{BeginsShare, Share, share_by, share_of, shares_at_look_from},
-  inner.{Visits.{KeepsOthers, Opened, Stopped, Visited, VisitedTo, Visits}, Giving.{IsFront}},
+  Share.{BeginsShare, Share, share_by, share_of},
+  inner.{Visits.{KeepsOthers, Opened, Stopped, Visited, VisitedTo, Visits}, Giving.{IsFront, Moment, Sight}},
   Printing.PrinterState,
   Reading.{AreAtLook, IsGiven, names_more, no_names},
   Sharing.{AllShared, AllShort},
@@ -27,7 +27,7 @@ use Rattle.follow_core.proofs.{
   LookLemmas.{broken_sound, met_none},
   RunLemmas.{failed-append, last-append, messages-append, text-append},
 }
-use Rattle.watch_core.specs.{Snapshot.Snapshot, Watched.{Watched, opens, watched_at}}
+use Rattle.watch_core.specs.Watched.{Watched, opens, watched_at}
 
 -- A look at one name after another.
 
@@ -48,14 +48,6 @@ all_both {printer} {shares} {more} all rest = record {
 
 -- One name more.
 
-shares_one : (ways : Ways) (looks : List Look) (look : Look) (from : ℕ) (names : List (List ℕ)) (name : List ℕ)
-    → shares_at_look_from ways looks look from (names ++ name ∷ [])
-    ≡ shares_at_look_from ways looks look from names ++ share_of ways looks look (from + length names) name ∷ []
-shares_one ways looks look from [] name = ap (λ place. share_of ways looks look place name ∷ []) (omega arith)
-shares_one ways looks look from (first ∷ names) name =
-    let place : (from + 1) + length names ≡ from + suc (length names) = omega arith in
-    rw (shares_one ways looks look (from + 1) names name, place) refl
-
 fate_there : (fates : List Fate) (fate : Fate) {all : List Fate} → IsFront (fates ++ fate ∷ []) all → {place : ℕ}
     → length fates ≡ place → slice_index_or all place sound ≡ fate
 fate_there fates fate (rest, is) count =
@@ -65,104 +57,78 @@ front_before : (fates : List Fate) (fate : Fate) {all : List Fate} → IsFront (
     → IsFront fates all
 front_before fates fate (rest, is) = (fate ∷ rest, is ∙ append_assoc fates (fate ∷ []) rest)
 
-pub text_there : (names now : List NameState) {place : ℕ} → texts now ≡ texts names → place < length now
-    → get_or (texts names) place [] ≡ (state_at now place).text
-text_there names now {place} same within = search (rules, get_or-map)
+pub text_there : (names : List NameState) {place : ℕ} → place < length names
+    → get_or (texts names) place [] ≡ (state_at names place).text
+text_there names {place} within = search (rules, get_or-map)
 
 pub texts_set : (names : List NameState) {place : ℕ} (default one : NameState) → place < length names
     → one.text ≡ (get_or names place default).text → texts (set names place one) ≡ texts names
 texts_set names {place} default one within same = map-set_same (λ (n : NameState). n.text) names place one default same
 
-pub length_texts : (names now : List NameState) → texts now ≡ texts names → length (texts names) ≡ length now
-length_texts names now same = ap length (sym same) ∙ length-map now (λ (n : NameState). n.text)
+pub length_texts : (names : List NameState) → length (texts names) ≡ length names
+length_texts names = length-map names (λ (n : NameState). n.text)
 
 pub same_length : (names now : List NameState) → texts now ≡ texts names → length names ≡ length now
-same_length names now same = sym (length-map names (λ (n : NameState). n.text)) ∙ length_texts names now same
+same_length names now same = sym (length_texts names) ∙ ap length (sym same) ∙ length_texts now
 
--- before a place there are as many names as it says
-count_taken : (names now : List NameState) {place : ℕ} → texts now ≡ texts names → place < length now
-    → length (take place (texts names)) ≡ place
-count_taken names now {place} same within =
-    length-take-le place (texts names) (rw (length_texts names now same) (omega arith))
-
-names_next : (names now : List NameState) {place : ℕ} → texts now ≡ texts names → place < length now
-    → take place (texts names) ++ (state_at now place).text ∷ [] ≡ take (place + 1) (texts names)
-names_next names now {place} same within = let next : place + 1 ≡ suc place = omega arith in
-    rw (
-      next,
-      take-suc (texts names) place [] (rw (length_texts names now same) within),
-      text_there names now same within,
-    )
-    refl
+names_next : (names : List NameState) {place : ℕ} → place < length names
+    → take place (texts names) ++ (state_at names place).text ∷ [] ≡ take (place + 1) (texts names)
+names_next names {place} within = let next : place + 1 ≡ suc place = omega arith in
+    rw (next, take-suc (texts names) place [] (rw (length_texts names) within), text_there names within) refl
 
 -- what a look gives for one name more
-one_given : (looks : List Look) (look : Look) (from : ℕ) (names : List (List ℕ)) (name : List ℕ) {shares : List Share}
-    {share : Share} → AreAtLook looks look from names shares → IsGiven looks look (from + length names) name share
-    → AreAtLook looks look from (names ++ name ∷ []) (shares ++ share ∷ [])
-one_given looks look from [] name {share} no_names given = let e : from + 0 ≡ from = omega arith in
-    names_more (rw e at given) no_names
-one_given looks look from (first ∷ names) name {share} (names_more is rest) given =
+one_given : {told : Bool} {ways : Ways} {looks : List Look} {look : Look} (from : ℕ) (names : List (List ℕ))
+    {name : List ℕ} {shares : List Share} {share : Share} → AreAtLook told ways looks look from names shares
+    → IsGiven told ways looks look (from + length names) name share
+    → AreAtLook told ways looks look from (names ++ name ∷ []) (shares ++ share ∷ [])
+one_given from [] no_names given = let e : from + 0 ≡ from = omega arith in names_more (rw e at given) no_names
+one_given from (first ∷ names) (names_more is rest) given =
     let e : from + suc (length names) ≡ (from + 1) + length names = omega arith in
-    names_more is (one_given looks look (from + 1) names name rest (rw e at given))
+    names_more is (one_given (from + 1) names rest (rw e at given))
 
-pub visited_more : {told_in told : Bool} {ways : Ways} {looks : List Look} {snapshot : Snapshot}
-    {names now : List NameState} {one : NameState} {place : ℕ}
-    {printer mid after : PrinterState} {old slots new : List Slot} {watched watched_new : List Watched}
-    {before failed : Bool} → place < length now
-    → Visits told_in told ways snapshot (ways.first + place) (state_at now place).text
-    (state_at now place).standing watched mid slots one.standing watched_new after new (Ok failed)
-    → one.text ≡ (state_at now place).text → VisitedTo told_in told ways looks snapshot place names printer old mid
-    slots watched now before → VisitedTo told_in told ways looks snapshot
-    (place + 1) names printer old after new watched_new (set now place one) (before || failed)
-visited_more {told_in} {told} {ways} {looks} {snapshot} {names} {now} {one} {place} {mid} {after} {slots} {new} {watched} {watched_new}
-    {before} {failed} within visits same sofar = record {
-      fates = sofar.fates ++ visited.fate ∷ [];
-      shares = sofar.shares ++ visited.share ∷ [];
-      count = length-append sofar.fates (visited.fate ∷ []) ∙ ap (λ n. n + 1) sofar.count ∙ omega arith;
-      are = λ t all front. let look : Look = record { snapshot = snapshot; fates = all } in
-          rw (
-            ← names_next names now sofar.same within,
-            shares_one ways looks look ways.first (take place (texts names)) _,
-            count_taken names now sofar.same within,
-          ) (λ i. sofar.are t all (front_before sofar.fates visited.fate front) i
-          ++ visited.is_share t all (fate_there sofar.fates visited.fate front sofar.count) i ∷ []);
-      found = λ all front. let look : Look = record { snapshot = snapshot; fates = all } in
-          rw (← names_next names now sofar.same within)
-          (one_given looks look ways.first (take place (texts names)) (state_at now place).text
-          (sofar.found all (front_before sofar.fates visited.fate front))
-          (rw (count_taken names now sofar.same within)
-          (visited.found all (fate_there sofar.fates visited.fate front sofar.count))));
-      is_failed = rw (failed-append sofar.shares (visited.share ∷ []), sofar.is_failed, visited.is_failed, or-false failed)
-          refl;
-      shared = all_both sofar.shared (record {
-        printer_is = visited.shared.printer_is refl;
-        slots = rw (append-nil, append-nil) visited.shared.slots;
-      });
-      same = texts_set now no_state one within same ∙ sofar.same;
-      done = λ all front other below. there all front other below (cases_eq other place);
-      rest = λ other above inside. grind (arith, common_steps, length-set, inside, sofar.rest);
-    } where
-      visited : Visited told_in told ways looks snapshot (ways.first + place)
-          (state_at now place).text mid slots after new
-          (watched_at watched_new (ways.first + place)) one.standing failed
-      visited = visits.visited looks (sofar.rest place (omega arith) within)
+pub visited_more : {see : Sight} {ways : Ways} {looks : List Look} {now : List NameState} {one : NameState} {place : ℕ}
+    {old mid new : Moment} {before failed : Bool} → place < length now
+    → Visits see ways (ways.first + place) (state_at now place) mid one.standing new (Ok failed)
+    → one.text ≡ (state_at now place).text → VisitedTo see ways looks place now old mid before
+    → VisitedTo see ways looks (place + 1) (set now place one) old new (before || failed)
+visited_more {see} {ways} {looks} {now} {one} {place} {mid = mid} {new} {failed = failed} within visits same sofar = record {
+  fates = sofar.fates ++ visited.fate ∷ [];
+  shares = sofar.shares ++ visited.share ∷ [];
+  count = length-append sofar.fates (visited.fate ∷ []) ∙ ap (λ n. n + 1) sofar.count ∙ omega arith;
+  found = λ all front. rw (texts_set now no_state one within same, ← names_next now within)
+      (one_given ways.first (take place (texts now)) (sofar.found all (front_before sofar.fates visited.fate front))
+      (rw (length-take-le place (texts now) (rw (length_texts now) (omega arith)))
+      (visited.found all (fate_there sofar.fates visited.fate front sofar.count))));
+  is_failed = rw (failed-append sofar.shares (visited.share ∷ []), sofar.is_failed, visited.is_failed, or-false failed)
+      refl;
+  shared = all_both sofar.shared (record {
+    printer_is = visited.shared.printer_is refl;
+    slots = rw (append-nil, append-nil) visited.shared.slots;
+  });
+  done = λ all front other below. there all front other below (cases_eq other place);
+  rest = λ other above inside. grind (arith, common_steps, length-set, inside, sofar.rest);
+} where
+  visited : Visited see ways looks (ways.first + place) (record (state_at now place) { standing = one.standing }) mid new
+      failed
+  visited = visits.visited looks (sofar.rest place (omega arith) within)
 
-      -- each other name stands as before
-      stays : (looks : List Look) (other : ℕ) → (other ≡ place → ⊥) → StandsAmong told_in ways looks now watched other
-          → StandsAmong told_in ways looks (set now place one) watched_new other
-      stays looks other elsewhere stands = rw (
-        get_or-set_other now place other one no_state elsewhere,
-        visits.others.others (ways.first + other) (λ at. elsewhere (omega arith)),
-      ) stands
+  -- each other name stands as before
+  stays : (looks : List Look) (other : ℕ) → (other ≡ place → ⊥)
+      → StandsAmong see.told_in ways looks now mid.watched other
+      → StandsAmong see.told_in ways looks (set now place one) new.watched other
+  stays looks other elsewhere stands = rw (
+    get_or-set_other now place other one no_state elsewhere,
+    visits.others.others (ways.first + other) (λ at. elsewhere (omega arith)),
+  ) stands
 
-      there : (all : List Fate) → IsFront (sofar.fates ++ visited.fate ∷ []) all → (other : ℕ) → other < place + 1
-          → (other ≡ place) ⊎ (other ≡ place → ⊥)
-          → StandsAmong told_in ways (looks ++ record { snapshot = snapshot; fates = all } ∷ [])
-          (set now place one) watched_new other
-      there all front other below (inr elsewhere) = stays (looks ++ record { snapshot = snapshot; fates = all } ∷ []) other elsewhere
-          (sofar.done all (front_before sofar.fates visited.fate front) other (omega arith))
-      there all front other below (inl at) = rw (at, get_or-set_same now place one no_state within, same)
-          (visited.stands all (fate_there sofar.fates visited.fate front sofar.count))
+  there : (all : List Fate) → IsFront (sofar.fates ++ visited.fate ∷ []) all → (other : ℕ) → other < place + 1
+      → (other ≡ place) ⊎ (other ≡ place → ⊥)
+      → StandsAmong see.told_in ways (looks ++ record { snapshot = see.snapshot; fates = all } ∷ []) (set now place one)
+      new.watched other
+  there all front other below (inr elsewhere) = stays (looks ++ record { snapshot = see.snapshot; fates = all } ∷ []) other elsewhere
+      (sofar.done all (front_before sofar.fates visited.fate front) other (omega arith))
+  there all front other below (inl at) = rw (at, get_or-set_same now place one no_state within, same)
+      (visited.stands all (fate_there sofar.fates visited.fate front sofar.count))
 
 -- a name that isn't broken is watched as the looks say
 pub unbroken_watched : {ways : Ways} {looks : List Look} {place : ℕ} {name : List ℕ} {watched : Watched}
@@ -192,86 +158,80 @@ opens_keeps Is (name ∷ names) (suc place) zero file is here = is
 opens_keeps Is (name ∷ names) (suc place) (suc other) file is here = opens_keeps Is names place other file is (λ same. here (ap suc same))
 
 -- a look that was stopped at a name
-pub visited_short : {told_in told : Bool} {ways : Ways} {looks : List Look} {snapshot : Snapshot}
-    {names now : List NameState} {standing : Standing} {place : ℕ}
-    {printer mid after : PrinterState} {old slots new : List Slot} {watched watched_new : List Watched}
-    {before : Bool} {why : Fault} → place < length now
-    → Visits told_in told ways snapshot (ways.first + place) (state_at now place).text
-    (state_at now place).standing watched mid slots standing watched_new after new (Err why)
-    → VisitedTo told_in told ways looks snapshot place names printer old mid slots watched now before
-    → length watched_new ≡ ways.first + length names
-    → (whole part : List Share) × Begun told_in ways (texts names) looks snapshot watched_new whole part
-    × (printed : PrinterState) × (reached : List Slot) × AllShared told printer whole old printed reached
-    × AllShort told printed part reached new why
-visited_short {told_in} {told} {ways} {looks} {snapshot} {names} {now} {place} {mid} {slots} {new} {watched} {watched_new}
-    {why} within visits sofar many = (
-      sofar.shares,
-      stopped.1.share ∷ [],
-      up_to sofar.fates place sofar.shares stopped.1.share sofar.count (omega (arith, within, size))
-          (omega (arith, many, size), λ above. omega (arith, many, size), λ other inside. still other (omega (arith, inside, many, size)))
-          (λ t. sofar.are t sofar.fates front) (sofar.found sofar.fates front) (rw (text_there names now sofar.same within) stopped.1.found)
-          (λ t. subst (BeginsShare stopped.1.share) (share_is t) (stopped.1.begins t sofar.fates)),
-      mid,
-      slots,
-      sofar.shared,
-      record { slots = rw (append-nil, append-nil) stopped.1.short.slots },
-    ) where
-      number : ℕ
-      number = ways.first + place
+pub visited_short : {see : Sight} {ways : Ways} {looks : List Look} {now : List NameState} {standing : Standing} {place : ℕ}
+    {old mid new : Moment} {before : Bool} {why : Fault} → place < length now
+    → Visits see ways (ways.first + place) (state_at now place) mid standing new (Err why)
+    → VisitedTo see ways looks place now old mid before → length new.watched ≡ ways.first + length now
+    → (whole part : List Share) × Begun see.told_in ways (texts now) looks see.snapshot new.watched whole part
+    × (printed : PrinterState) × (reached : List Slot)
+    × AllShared see.told old.printer whole old.slots printed reached × AllShort see.told printed part reached new.slots why
+visited_short {see} {ways} {looks} {now} {place = place} {mid = mid} {new} {why = why} within visits sofar many = (
+  sofar.shares,
+  stopped.1.share ∷ [],
+  up_to sofar.fates place sofar.shares stopped.1.share sofar.count (omega (arith, within, size))
+      (omega (arith, many, size), λ above. omega (arith, many, size), λ other inside. still other (omega (arith, inside, many, size)))
+      (sofar.found sofar.fates front) (rw (text_there now within) stopped.1.found)
+      (λ t. subst (BeginsShare stopped.1.share) (share_is t) (stopped.1.begins t sofar.fates)),
+  mid.printer,
+  mid.slots,
+  sofar.shared,
+  record { slots = rw (append-nil, append-nil) stopped.1.short.slots },
+) where
+  number : ℕ
+  number = ways.first + place
 
-      opened : Opened number watched watched_new
-      opened = visits.halts
+  opened : Opened number mid.watched new.watched
+  opened = visits.halts
 
-      size : (length (texts names) ≡ length now) × (length names ≡ length now)
-      size = (length_texts names now sofar.same, same_length names now sofar.same)
+  size : length (texts now) ≡ length now
+  size = length_texts now
 
-      front : IsFront sofar.fates sofar.fates
-      front = ([], sym (append-nil sofar.fates))
+  front : IsFront sofar.fates sofar.fates
+  front = ([], sym (append-nil sofar.fates))
 
-      stopped : (is_dropped number looks ≡ false)
-          × Stopped told_in told ways looks snapshot (state_at now place).text mid slots new why
-      stopped = visits.stopped looks (sofar.rest place (omega arith) within)
+  stopped : (is_dropped number looks ≡ false) × Stopped see ways looks (state_at now place).text mid new why
+  stopped = visits.stopped looks (sofar.rest place (omega arith) within)
 
-      look : Look
-      look = record { snapshot = snapshot; fates = sofar.fates }
+  look : Look
+  look = record { snapshot = see.snapshot; fates = sofar.fates }
 
-      share_is : told_in ≡ true
-          → share_by ways (state_at now place).text looks look sound
-          ≡ share_of ways looks look number (get_or (texts names) place [])
-      share_is t =
-          let count = sofar.count in
-          rw (text_there names now sofar.same within, stopped.0, get_or_past sofar.fates number sound (omega arith)) refl
+  share_is : see.told_in ≡ true
+      → share_by ways (state_at now place).text looks look sound
+      ≡ share_of ways looks look number (get_or (texts now) place [])
+  share_is t =
+      let count = sofar.count in
+      rw (text_there now within, stopped.0, get_or_past sofar.fates number sound (omega arith)) refl
 
-      watched_now : (other : ℕ) → other < length now → (other < place) ⊎ (place ≤ other)
-          → IsWatched ways (looks ++ look ∷ []) (ways.first + other) (state_at now other).text
-          (watched_at watched (ways.first + other))
-      watched_now other inside (inl less) = watched_there told_in _ _ (state_at now other).standing (sofar.done sofar.fates front other less)
-      watched_now other inside (inr more) =
-          let count = sofar.count in
-          let is = watched_there told_in _ _ (state_at now other).standing (sofar.rest other more inside) in record {
-            named = is.named;
-            broke = broken_sound looks look (get_or_past sofar.fates (ways.first + other) sound (omega arith)) is.broke;
-            closed = is.closed;
-          }
+  watched_now : (other : ℕ) → other < length now → (other < place) ⊎ (place ≤ other)
+      → IsWatched ways (looks ++ look ∷ []) (ways.first + other) (state_at now other).text
+      (watched_at mid.watched (ways.first + other))
+  watched_now other inside (inl less) = watched_there see.told_in _ _ (state_at now other).standing (sofar.done sofar.fates front other less)
+  watched_now other inside (inr more) =
+      let count = sofar.count in
+      let is = watched_there see.told_in _ _ (state_at now other).standing (sofar.rest other more inside) in record {
+        named = is.named;
+        broke = broken_sound looks look (get_or_past sofar.fates (ways.first + other) sound (omega arith)) is.broke;
+        closed = is.closed;
+      }
 
-      -- the name at which the look was stopped isn't broken
-      unbroken : (other : ℕ) → other ≡ place → (watched_at watched (ways.first + other)).failed ≡ None
-      unbroken other at = rw at ((watched_there told_in _ _ (state_at now place).standing (sofar.rest place (omega arith) within)).broke.call
-          ∙ none_of (failed_in number looks) stopped.0)
+  -- the name at which the look was stopped isn't broken
+  unbroken : (other : ℕ) → other ≡ place → (watched_at mid.watched (ways.first + other)).failed ≡ None
+  unbroken other at = rw at ((watched_there see.told_in _ _ (state_at now place).standing (sofar.rest place (omega arith) within)).broke.call
+      ∙ none_of (failed_in number looks) stopped.0)
 
-      still : (other : ℕ) → other < length now
-          → IsWatched ways (looks ++ look ∷ []) (ways.first + other) (slice_index_or (texts names) other [])
-          (watched_at watched_new (ways.first + other))
-      still other inside =
-          let now_is = watched_now other inside (cases_lt other place) in
-          rw (text_there names now sofar.same inside, opened.1) (opens_keeps
-          (IsWatched ways (looks ++ look ∷ []) (ways.first + other) (state_at now other).text) watched number
-          (ways.first + other) opened.0 now_is
-          (λ same. record {
-            named = now_is.named;
-            broke = now_is.broke;
-            closed = λ broken. grind (arith, common_steps);
-          }))
+  still : (other : ℕ) → other < length now
+      → IsWatched ways (looks ++ look ∷ []) (ways.first + other) (slice_index_or (texts now) other [])
+      (watched_at new.watched (ways.first + other))
+  still other inside =
+      let now_is = watched_now other inside (cases_lt other place) in
+      rw (text_there now inside, opened.1) (opens_keeps
+      (IsWatched ways (looks ++ look ∷ []) (ways.first + other) (state_at now other).text) mid.watched number
+      (ways.first + other) opened.0 now_is
+      (λ same. record {
+        named = now_is.named;
+        broke = now_is.broke;
+        closed = λ broken. grind (arith, common_steps);
+      }))
 
 pub next_ready : (first : ℕ) (names : List NameState) (one : NameState) {place : ℕ} {watched watched_new : List Watched}
     → place < length names → AllReady names first watched → KeepsOthers (first + place) watched watched_new

@@ -5,6 +5,7 @@ pub mod AgreeLemmas
 pub mod EventLemmas
 pub mod CallLemmas
 pub mod CallGivesLemmas
+pub mod ShownLemmas
 pub mod CatchLemmas
 pub mod StartLemmas
 pub mod FollowLemmas

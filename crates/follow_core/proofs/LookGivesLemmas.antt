@@ -1,49 +1,51 @@
 -- Lemmas on what the outputs have after a look at a name.
 use Rattle.follow_core.specs.{
-  Standing.{StandsAt, CanVisit, IsFollowed, IsLong, IsLeft, Stands},
+  Standing.{CanVisit, NameState, IsFollowed, IsLeft, Stands},
   declared.{
-    notice.Notice.Notice,
     visitor.Stop.{Stop, TheVariants.{Broke, Over}},
     name.Standing.{Standing, TheVariants.{New, Followed, Left}},
   },
-  Reading.{AreAtLook, AreFound, IsFound, IsMissing, IsTold, LeftOpen, NoneBreaks, StartsIn, looks_more},
-  Reading.{names_more, no_looks},
-  Event.{Event, gives, lines_in},
-  Version.{Entry, entries_at_look, entries_led, held_at, open_after_later, open_after_look},
-  Gain.{last_from, last_of, gains_after},
+  Reading.{AreAtLook, AreFound, Caught, First, IsFound, IsLong, IsMissing, LedTo, LookGives, NoneBreaks, ReadOn, Saw},
+  Reading.{at_first, at_later, begun, came_all, came_early, first_unmeasured, first_unsought, looks_more, measured},
+  Reading.names_more,
+  Reading.{no_looks, not_asked, not_begun, not_led, not_measured, not_open, not_opened, not_told, opened_there},
+  Reading.read_all,
+  Reading.{read_none, read_part, read_some, unchanged},
+  Event.{Begins, Event, came_of, gives, lines_in},
+  Version.{entries_led, held_at, open_after_later, open_after_look},
+  Gain.gains_after,
   inner.{
-    Giving.{Anywhere, BrokeAt, Came, Nothing, WereFound, GivesDue, Follows, IfBroke, Keeps, Shared, Starts, fault_by},
-    Giving.{found_all, found_before, found_begun, is_read, stop_in, text_under},
+    Giving.{Are, BrokeAt, ByStop, Came, Follows, Gives, Moment, Shared, Sight, Starts, fault_by, is_read, moment},
+    Giving.{stop_in, text_under},
     Visits.{Visits, TellsStop, Visited},
   },
   Look.{Fate, Look, Ways, can_meet, entries_in, failed_by, failed_in, fate_at, is_dropped, snapshots, sound},
   Look.{unopened, is_first},
   Notice.is_missing,
-  Share.{Due, Share, due_later, failure_line, failure_of, given_by, is_unopened, led_before, missing_share},
-  Share.{no_share, share_by},
+  Share.{Due, Share, due_at, due_later, events_at, failure_line, failure_of, given_by, is_unopened, missing_share},
+  Share.{no_share, opened_in, share_by},
   Printing.PrinterState,
   Telling.{Tells, failure_message, failure_text, tail_by},
 }
 use Rattle.follow_core.proofs.{
-  RunLemmas.last_from-append,
   CallLemmas.{came_none, failure_said, wrote_after, wrote_line},
-  CallGivesLemmas.{if_so, broke_at, found_as, goes_after, held_many, if_broke, keeps_others, none_of, nothing_due},
-  CallGivesLemmas.{opened_now, some_of},
-  CatchLemmas.{FromFrontOr, LooksAgain, long_by, ToldAgain, at_look},
-  LookLemmas.{last_file, entries_more, failed_more, failed_sound, broken_sound, broken_more, seeing, IsDue},
+  CallGivesLemmas.{broke_at, gives_both, gives_none, gives_so, keeps_others, none_of, opened_now, some_of},
+  CatchLemmas.{LooksAgain, long_by},
+  EventLemmas.begins_trans,
+  ShownLemmas.{AreBy, first_are, later_are},
+  LookLemmas.{open_more, failed_more, failed_sound, broken_sound, broken_more, seeing},
 }
 use Rattle.std.proofs.{
   lemmas.Grind.common_steps,
   Common.{◌⊎◌, ◌≡◌, ◌<◌, ◌+◌, arith, zero, suc, ℕ, Bool, true, false, not, List, [], ◌∷◌, ◌++◌, length, Option, Some},
-  Common.{None, refl, sym, ◌∙◌, ap, if◌then◌else◌, subst, inl, inr, ◌&&◌, Result, Ok, Err, IsTrue, IfOk, is_none},
+  Common.{None, refl, sym, ◌∙◌, ap, if◌then◌else◌, subst, inl, inr, ◌&&◌, Result, Ok, Err, IsTrue, is_none},
   Common.{get_or, is_some},
-  lemmas.{List.{append-nil, map-append}, Bool.{false≢true, not-true}, Result.IfOk-weaker},
-  Math.Bool.and-false,
+  lemmas.{List.{append-nil, map-append}, Bool.{false≢true, not-true}},
 }
 use Rattle.watch_core.{
   specs.{
-    Snapshot.{Snapshot, Found, latest, opens_as},
-    Watched.{NameBreaks, Reopens, Watched, is_watchable, no_name, open_contents, opens, watched_at},
+    Snapshot.{Snapshot, latest, opens_as},
+    Watched.{NameBreaks, Reopens, Watched, is_watchable, no_name, opens, watched_at},
   },
   proofs.NameLemmas.{latest-last, watchable_within},
 }
@@ -58,14 +60,15 @@ use Rattle.ports_core.{
 use Rattle.watch_core.specs.declared.watch.Broken.TheVariants as broken
 
 -- The outputs have what the look gives for the name, by its fate. If what looks see isn't visible, they have a share.
-pub record Looked (told_in told : Bool) (ways : Ways) (before : List Look) (snapshot : Snapshot) (name : List ℕ)
-    (printer : PrinterState)
-    (old : List Slot) (after : PrinterState) (new : List Slot) (has_failed : Bool) (fate : Fate) : Type 0 where
+pub record Looked (see : Sight) (ways : Ways) (before : List Look) (name : List ℕ) (old new : Moment)
+    (has_failed : Bool) (fate : Fate) : Type 0 where
   pub share : Share
-  pub is_share : told_in ≡ true → (fates : List Fate) → share ≡ share_by ways name before (seeing snapshot fates) fate
-  pub found : IsFound before snapshot name fate share ⊎ IsMissing before snapshot name fate share
+  pub is_share : see.told_in ≡ true → (fates : List Fate)
+      → share ≡ share_by ways name before (seeing see.snapshot fates) fate
+  pub found : IsFound see.told_in ways before see.snapshot name fate share
+      ⊎ IsMissing see.told_in before see.snapshot name fate share
   pub failed : is_some share.failure ≡ has_failed
-  pub shared : Shared told printer share old after new None
+  pub shared : Shared see.told old.printer share old.slots new.printer new.slots None
 
 -- the message of a failure is written after what was given
 said_after : {told : Bool} {printer : PrinterState} {after : PrinterState} {opened : Bool} {name bytes line : List ℕ}
@@ -82,68 +85,115 @@ fault_line : (place : ℕ) (name : List ℕ) (fate : Fate) → is_some (failed_b
     × (is_some (failure_of fate) ≡ true)
 fault_line place name fate broke = grind (arith, common_steps)
 
+-- what a call that failed has to fit: the look, whether it opened the file, and whether calls can fail
+abbrev Fits : (first by_name seeks can : Bool) → Option Fate → Type 0
+Fits first by_name seeks can None = Unit {0}
+Fits first by_name seeks can (Some fate) = (can_meet first by_name seeks fate ≡ true)
+    × ((not (is_unopened fate) && first) ≡ first) × ((fate ≡ sound) ⊎ (can ≡ true))
+
+read_fits : {told : Bool} {snapshot : Snapshot} {name : List ℕ} {file : Option ℕ} {from len : ℕ} {reach : Option Fate}
+    {events : List Event} (first by_name seeks : Bool) → ReadOn told snapshot name file from len reach events
+    → Fits first by_name seeks (snapshot.breaks name) reach
+read_fits first by_name seeks (read_all read over) = (refl, refl, inl refl)
+read_fits first by_name seeks (read_part read below can) = (refl, refl, inr can)
+read_fits first by_name seeks read_none = tt
+read_fits first by_name seeks (read_some read) = tt
+
+caught_fits : {told : Bool} {snapshot : Snapshot} {name : List ℕ} {file : Option ℕ} {seen : ℕ} {reach : Option Fate}
+    {events : List Event} (by_name seeks : Bool) → Caught told snapshot name file seen reach events
+    → Fits false by_name seeks (snapshot.breaks name) reach
+caught_fits by_name seeks (not_open none) = (refl, refl, inl refl)
+caught_fits by_name seeks (not_measured some can) = (refl, refl, inr can)
+caught_fits by_name seeks (measured some saw read) = read_fits false by_name seeks read
+
+led_fits : {told by_name : Bool} {snapshot : Snapshot} {name : List ℕ} {opened : Option ℕ} {reach : Option Fate}
+    {events : List Event} (seeks : Bool) → LedTo told by_name snapshot name opened reach events
+    → Fits false by_name seeks (snapshot.breaks name) reach
+led_fits seeks (not_asked by) = (refl, refl, inl refl)
+led_fits seeks (not_led by can) = (by, refl, inr can)
+led_fits seeks (unchanged by saw none) = (refl, refl, inl refl)
+led_fits seeks (not_told by changed) = tt
+led_fits seeks (not_opened by changed can) = (by, refl, inr can)
+led_fits {by_name = by_name} seeks (opened_there by changed saw caught) = caught_fits by_name seeks caught
+
+look_fits : {told : Bool} {ways : Ways} {snapshot : Snapshot} {name : List ℕ} {reach : Option Fate} {events : List Event}
+    (looks : List Look) → LookGives told ways looks snapshot name reach events
+    → Fits (is_first looks) ways.by_name ways.seeks (snapshot.breaks name) reach
+look_fits [] (at_first file saw not_begun) = tt
+look_fits [] (at_first file saw (first_unmeasured can)) = (refl, refl, inr can)
+look_fits [] (at_first file saw (first_unsought seeks can)) = (seeks, refl, inr can)
+look_fits {ways = ways} [] (at_first file saw (begun long part read)) = read_fits true ways.by_name ways.seeks read
+look_fits {ways = ways} (first ∷ looks) (at_later opened seen long (came_early early caught)) =
+    caught_fits ways.by_name ways.seeks caught
+look_fits {ways = ways} (first ∷ looks) (at_later opened seen long (came_all came led)) = led_fits ways.seeks led
+
+-- what is due was given; if a call on the name failed, what comes before it; if following ended, a beginning
+abbrev pub AreGiven : Option Stop → List Event → (due before : List Event) → Type 0
+AreGiven None events due before = events ≡ due
+AreGiven (Some (Broke why)) events due before = events ≡ before
+AreGiven (Some (Over why)) events due before = Begins events due
+
+are_by : {Is : Option Fate → List Event → Type 0} {due : List Event} (fate : Fate) (before : Fate → List Event)
+    (stop : Option Stop) (events : List Event) → before sound ≡ due
+    → ((reach : Option Fate) (events : List Event) → Is reach events → AreBy before due reach events)
+    → ByStop Is fate stop events → AreGiven stop events due (before fate)
+are_by fate before None events whole so given = so (Some sound) events given ∙ whole
+are_by fate before (Some (Broke why)) events whole so given = so (Some fate) events given
+are_by fate before (Some (Over why)) events whole so (all, is, begins) = begins_trans begins (so None all is)
+
+-- the events are those of a look after these by the snapshot and by this fate, at which the name isn't missing
+abbrev IsShown : Ways → List Look → Snapshot → List ℕ → Fate → Option Stop → List Event → Type 0
+IsShown ways before snapshot name fate stop events = (fates : List Fate) → let look = seeing snapshot fates in
+    ((is_first before && is_missing (entries_in ways name (before ++ look ∷ []))) ≡ false)
+    × AreGiven stop events (events_at ways name before look)
+    (given_by (due_at ways name before look) snapshot (opened_in ways name before) fate)
+
 abbrev shared_as : (opened : Bool) → List ℕ → List Event → Option Fault → Share
 shared_as opened name events failure = record { name = name; is_opened = opened; events = events; failure = failure }
 
-module _ {told_in told : Bool} {ways : Ways} {before : List Look} {snapshot : Snapshot} {name : List ℕ} {due : Due}
-    {opened : Option ℕ} {printer : PrinterState} {after : PrinterState} {old mid : List Slot}
-    (dues : IsDue told_in ways before snapshot name due opened) where
+module _ {see : Sight} {ways : Ways} {before : List Look} {name : List ℕ} {old mid : Moment} where
   -- all that is due was given
-  pub looked_whole : {none : List Event} {fate : Fate} → GivesDue told_in (WereFound (IsTold before snapshot name)
-      (StartsIn before name) snapshot name fate None) told (is_first before) printer name
-      (due.came ++ due.led) none old after mid None → (is_first before ≡ true
-      → (file : ℕ) × Found snapshot name (opens_as (Some file)))
-      → Looked told_in told ways before snapshot name printer old after mid false sound
-  looked_whole ends there = record {
+  pub looked_whole : {fate : Fate} (ends : Gives see.told (LookGives see.told_in ways before see.snapshot name) fate
+      (is_first before) name old mid None)
+      → (see.told_in ≡ true → IsShown ways before see.snapshot name fate None ends.events)
+      → Looked see ways before name old mid false sound
+  looked_whole ends shown = record {
     share = shared_as (is_first before) name ends.events None;
     found = inl (record {
       named = refl;
       opened = refl;
       failed = refl;
-      events = elim ends.found [ found_all all ↦ all ];
+      events = inr ends.given;
       broke = inl refl;
-      there = there;
     });
-    is_share = λ t fates. let is = dues.is t fates in rw (ends.are t, is.0, is.1) refl;
+    is_share = λ t fates. let (kept, are) = shown t fates in rw (are, kept) refl;
     failed = refl;
     shared = rw (append-nil (lines_in name ends.events)) ends.came;
   }
 
   -- a call failed: what comes before it was given, and the message follows
-  pub looked_broke : (place : ℕ) {new : List Slot} {why : Fault} (fate : Fate) → is_some (failed_by fate None) ≡ true
+  pub looked_broke : (place : ℕ) {slots : List Slot} {why : Fault} (fate : Fate) → is_some (failed_by fate None) ≡ true
       → why ≡ fault_by place fate
-      → (not (is_unopened fate) && is_first before) ≡ is_first before
-      → GivesDue told_in
-      (WereFound (IsTold before snapshot name) (StartsIn before name) snapshot name fate (Some (Broke why))) told
-      (is_first before) printer name (due.came ++ due.led) (given_by due snapshot opened fate) old after mid
-      (Some (Broke why))
-      → (is_first before ≡ true → (file : ℕ) × Found snapshot name (opens_as (Some file)))
-      → ((reason : Reason) × SaysOn told (tail_by printer.calling) reason (failure_message why name) mid new)
-      → Looked told_in told ways before snapshot name printer old after new true fate
-  looked_broke place {new} {why} fate broke fault openly ends there says =
-      let line = fault_line place name fate broke in record {
+      → (ends : Gives see.told (LookGives see.told_in ways before see.snapshot name) fate (is_first before) name old mid
+      (Some (Broke why)))
+      → (see.told_in ≡ true → IsShown ways before see.snapshot name fate (Some (Broke why)) ends.events)
+      → ((reason : Reason)
+      × SaysOn see.told (tail_by old.printer.calling) reason (failure_message why name) mid.slots slots)
+      → Looked see ways before name old (record mid { slots = slots }) true fate
+  looked_broke place fate broke fault ends shown says =
+      let line = fault_line place name fate broke in let (met, openly, can) = look_fits before ends.given in record {
         share = shared_as (is_first before) name ends.events (failure_of fate);
-        is_share = λ t fates. share_is t fates line.1 ends.events (ends.are t);
-        found = inl (elim ends.found [
-          | found_before can all ↦ record {
-            named = refl;
-            opened = sym openly;
-            failed = refl;
-            events = all;
-            broke = inr can;
-            there = there;
-          }
-        ]);
+        is_share = λ t fates. let (kept, are) = shown t fates in rw (line.1, openly, are) refl;
+        found = inl (record {
+          named = refl;
+          opened = sym openly;
+          failed = refl;
+          events = inr ends.given;
+          broke = can;
+        });
         failed = line.1;
         shared = rw (← line.0) (said_after ends.came (failure_said (is_read fate) place name (rw fault at says.1)));
-      } where
-        share_is : told_in ≡ true → (fates : List Fate) → is_some (failure_of fate) ≡ true → (events : List Event)
-            → events ≡ given_by due snapshot opened fate
-            → shared_as (is_first before) name events (failure_of fate)
-            ≡ share_by ways name before (seeing snapshot fates) fate
-        share_is t fates fails events are =
-            let is = dues.is t fates in
-            rw (fails, openly, are, is.1, is.2) refl
+      }
 
 -- The first look.
 
@@ -154,28 +204,16 @@ entries_first ways look is = append-nil _ ∙ ap (entries_led look.snapshot None
 
 -- A later look.
 
-abbrev pub last_in : Ways → List ℕ → Look → List Look → Entry
-last_in ways name before looks = last_of (entries_in ways name (before ∷ looks))
-
 -- What is due of a name at the look after these was given, without the message about a call that failed. If no call
 -- failed, the file to which the name leads was seen up to its length.
-pub record Gave (told_in told : Bool) (ways : Ways) (looks : List Look) (snapshot : Snapshot) (place : ℕ)
-    (name : List ℕ) (led : Option ℕ)
-    (printer : PrinterState) (slots : List Slot) (after : PrinterState) (slots_new : List Slot) (fate : Fate)
-    (result : Result ℕ Stop) : Type 0 where
+pub record Gave (see : Sight) (ways : Ways) (looks : List Look) (place : ℕ) (name : List ℕ) (led : Option ℕ)
+    (old new : Moment) (fate : Fate) (result : Result ℕ Stop) : Type 0 where
   pub kept : is_dropped place looks ≡ false
-  pub due : Due
-  pub opened : Option ℕ
-  pub is_due : IsDue told_in ways looks snapshot name due opened
-  pub ends : GivesDue told_in
-      (WereFound (IsTold looks snapshot name) (StartsIn looks name) snapshot name fate (stop_in result)) told
-      (is_first looks) printer name (due.came ++ due.led) (given_by due snapshot opened fate) slots after slots_new
+  pub ends : Gives see.told (LookGives see.told_in ways looks see.snapshot name) fate (is_first looks) name old new
       (stop_in result)
-  pub there : is_first looks ≡ true → (file : ℕ) × Found snapshot name (opens_as (Some file))
-  pub last : IfOk result (λ len. told_in ≡ true → (ways.by_name ≡ false → is_some led ≡ true)
-      × ((fates : List Fate) → StandsAt (last_of (entries_in ways name (looks ++ seeing snapshot fates ∷ []))) led len))
-  pub met : IfBroke (stop_in result) (can_meet (is_first looks) ways.by_name ways.seeks fate ≡ true)
-  pub openly : IfBroke (stop_in result) ((not (is_unopened fate) && is_first looks) ≡ is_first looks)
+  pub shown : see.told_in ≡ true → IsShown ways looks see.snapshot name fate (stop_in result) ends.events
+  pub last : see.told_in ≡ true → (ways.by_name ≡ false → is_some led ≡ true)
+      × ((fates : List Fate) → led ≡ opened_in ways name (looks ++ seeing see.snapshot fates ∷ []))
 
 -- One look more.
 begun_more : (looks : List Look) (look : Look) → is_first (looks ++ look ∷ []) ≡ false
@@ -186,119 +224,114 @@ kept_more : (place : ℕ) (looks : List Look) (look : Look) {fate : Fate} → is
     → fate_at place look ≡ fate → is_dropped place (looks ++ look ∷ []) ≡ is_some (failed_by fate None)
 kept_more place looks look kept at = ap is_some (failed_more place looks look (none_of (failed_in place looks) kept) at)
 
--- a name on which no call failed at the last look stands at its last entry
+-- a name on which no call failed at the last look is looked at again
 through_stands : {told : Bool} {ways : Ways} (looks : List Look) (look : Look) {place : ℕ} {name : List ℕ}
     {file led : Option ℕ} {len : ℕ}
     (watched : Watched) → watched.name ≡ name → is_none watched.failed ≡ true → is_dropped place looks ≡ false
     → fate_at place look ≡ sound → (told ≡ true → file ≡ led)
-    → (told ≡ true → (ways.by_name ≡ false → is_some led ≡ true) × StandsAt
-    (last_of (entries_in ways name (looks ++ look ∷ []))) led len) → IsLong ways.by_name look.snapshot name file len
+    → (told ≡ true → (ways.by_name ≡ false → is_some led ≡ true) × (led ≡ opened_in ways name (looks ++ look ∷ [])))
+    → IsLong told ways.by_name look.snapshot name file len
     → IsFollowed told ways (looks ++ look ∷ []) place name (record watched { opened = file }) len
 through_stands looks look watched named can kept at leads last long = grind
     (arith, common_steps, none_of, not-true, kept_more, begun_more, map-append, latest-last)
 
 -- what a look gave, and how the name stands after it
-looked_visited : {told_in told : Bool} {ways : Ways} {looks : List Look} {snapshot : Snapshot} {place : ℕ}
-    {name : List ℕ} {printer after : PrinterState} {slots slots_new : List Slot} {watched : Watched}
+looked_visited : {see : Sight} {ways : Ways} {looks : List Look} {place : ℕ} {name : List ℕ} {old new : Moment}
     {has_failed : Bool} {standing : Standing} (fate : Fate) → is_dropped place looks ≡ false
-    → Looked told_in told ways looks snapshot name printer slots after slots_new has_failed fate
-    → ((fates : List Fate) → fate_at place (seeing snapshot fates) ≡ fate
-    → Stands told_in ways (looks ++ seeing snapshot fates ∷ []) place name watched standing)
-    → Visited told_in told ways looks snapshot place name printer slots after slots_new watched standing has_failed
+    → Looked see ways looks name old new has_failed fate
+    → ((fates : List Fate) → fate_at place (seeing see.snapshot fates) ≡ fate
+    → Stands see.told_in ways (looks ++ seeing see.snapshot fates ∷ []) place name (watched_at new.watched place) standing)
+    → Visited see ways looks place (record { text = name; standing = standing }) old new has_failed
 looked_visited fate kept looked stands = record {
   fate = fate;
   share = looked.share;
-  is_share = λ is fates at. rw (kept, at) (looked.is_share is fates);
-  found = λ fates at. inr (kept, rw at looked.found);
+  found = λ fates at. record {
+    is = λ t. rw (kept, at) (looked.is_share t fates);
+    found = inr (kept, rw at looked.found);
+  };
   is_failed = looked.failed;
   shared = looked.shared;
   stands = stands;
 }
 
-module _ {told_in told : Bool} {ways : Ways} {snapshot : Snapshot} {place : ℕ} {name : List ℕ} {standing : Standing}
-    {old new : List Watched} {printer after : PrinterState} {slots slots_new : List Slot} where
-  visits_by : (now : Standing) {failed : Bool} (change : Watched → Watched) → new ≡ changed_at place change old
-      → IsTrue (is_watchable old place)
-      → CanVisit (record { text = name; standing = now }) (change (watched_at old place))
-      → ((looks : List Look) → Stands told_in ways looks place name (watched_at old place) standing
-      → Visited told_in told ways looks snapshot place name printer slots after slots_new
-      (change (watched_at old place)) now failed)
-      → Visits told_in told ways snapshot place name standing old printer slots now new after slots_new (Ok failed)
+module _ {see : Sight} {ways : Ways} {place : ℕ} {one : NameState} {old new : Moment} where
+  visits_by : (now : Standing) {failed : Bool} (change : Watched → Watched)
+      → new.watched ≡ changed_at place change old.watched → IsTrue (is_watchable old.watched place)
+      → CanVisit (record one { standing = now }) (change (watched_at old.watched place))
+      → (watched_at new.watched place ≡ change (watched_at old.watched place) → (looks : List Look)
+      → Stands see.told_in ways looks place one.text (watched_at old.watched place) one.standing
+      → Visited see ways looks place (record one { standing = now }) old new failed)
+      → Visits see ways place one old now new (Ok failed)
   visits_by now change is can ready visited = record {
-    visited = rw there visited;
+    visited = visited there;
     stopped = tt;
     ready = subst (CanVisit _) (sym there) ready;
     others = keeps_others change is;
     halts = tt;
   } where
-    there : watched_at new place ≡ change (watched_at old place)
-    there = rw is (changed_there no_name place change old (watchable_within old place can))
+    there : watched_at new.watched place ≡ change (watched_at old.watched place)
+    there = rw is (changed_there no_name place change old.watched (watchable_within old.watched place can))
 
   -- the name broke
-  drops : (fate : Fate) (why : Fault) → (watched_at old place).name ≡ name → IsTrue (is_watchable old place)
-      → BrokeAt place old new fate why
-      → ((looks : List Look) → Stands told_in ways looks place name (watched_at old place) standing
-      → (is_dropped place looks ≡ false)
-      × Looked told_in told ways looks snapshot name printer slots after slots_new true fate
+  drops : (fate : Fate) (why : Fault) → (watched_at old.watched place).name ≡ one.text
+      → IsTrue (is_watchable old.watched place) → BrokeAt place old.watched new.watched fate why
+      → ((looks : List Look) → Stands see.told_in ways looks place one.text (watched_at old.watched place) one.standing
+      → (is_dropped place looks ≡ false) × Looked see ways looks one.text old new true fate
       × (can_meet (is_first looks) ways.by_name ways.seeks fate ≡ true))
-      → Visits told_in told ways snapshot place name standing old printer slots Left new after slots_new (Ok true)
-  drops fate why named can broke gave = visits_by Left _ broke.names can tt (λ looks stands.
+      → Visits see ways place one old Left new (Ok true)
+  drops fate why named can broke gave = visits_by Left _ broke.names can tt (λ there looks stands.
       let (kept, looked, met) = gave looks stands in
-      looked_visited fate kept looked (λ fates at. record {
-        begun = begun_more looks (seeing snapshot fates);
+      looked_visited fate kept looked (λ fates at. rw there (record {
+        begun = begun_more looks (seeing see.snapshot fates);
         named = named;
         why = inl (kept_more place looks _ kept at ∙ broke.broke, broken_more looks _ refl kept at met, refl);
-      }))
+      })))
 
   -- no call on the name failed
-  pub gave_through : {led : Option ℕ} {len : ℕ} (fate : Fate) → (watched_at old place).name ≡ name
-      → IsTrue (is_watchable old place) → Follows told_in led place old new fate None
-      → ((looks : List Look) → Stands told_in ways looks place name (watched_at old place) standing
-      → Gave told_in told ways looks snapshot place name led printer slots after slots_new fate (Ok len))
-      → IsLong ways.by_name snapshot (watched_at new place).name (watched_at new place).opened len
-      → Visits told_in told ways snapshot place name standing old printer slots (Followed len) new after slots_new
-      (Ok false)
-  gave_through {len} fate named can (file, is, leads) gave long =
-      visits_by (Followed len) (opens file) is can (named, none_of (watched_at old place).failed (not-true _ can))
-      (λ looks stands.
-      let made = gave looks stands in looked_visited sound made.kept (looked_whole made.is_due made.ends made.there)
-      (λ fates at. through_stands looks (seeing snapshot fates) (watched_at old place) named can made.kept at leads
-      (λ t. ((made.last t).0, (made.last t).1 fates)) (rw (opened_now place old is can, named) at long)))
+  pub gave_through : {led : Option ℕ} {len : ℕ} (fate : Fate) → (watched_at old.watched place).name ≡ one.text
+      → IsTrue (is_watchable old.watched place) → Follows see.told_in led place old.watched new.watched fate None
+      → ((looks : List Look) → Stands see.told_in ways looks place one.text (watched_at old.watched place) one.standing
+      → Gave see ways looks place one.text led old new fate (Ok len))
+      → (let now = watched_at new.watched place in IsLong see.told_in ways.by_name see.snapshot now.name now.opened len)
+      → Visits see ways place one old (Followed len) new (Ok false)
+  gave_through {len = len} fate named can (file, is, leads) gave long =
+      visits_by (Followed len) (opens file) is can (named, none_of (watched_at old.watched place).failed (not-true _ can))
+      (λ there looks stands.
+      let made = gave looks stands in looked_visited sound made.kept (looked_whole made.ends made.shown)
+      (λ fates at. rw there (through_stands looks (seeing see.snapshot fates) (watched_at old.watched place) named can made.kept at
+      leads (λ t. let (some, opened) = made.last t in (some, opened fates)) (rw (opened_now place old.watched is can, named) at long))))
 
-  pub gave_fails : {led : Option ℕ} {mid : List Slot} (fate : Fate) (stop : Stop) {now : Standing}
-      {result : Result Bool Fault} → (watched_at old place).name ≡ name
-      → IsTrue (is_watchable old place) → Follows told_in led place old new fate (Some stop)
-      → ((looks : List Look) → Stands told_in ways looks place name (watched_at old place) standing
-      → Gave told_in told ways looks snapshot place name led printer slots after mid fate (Err stop))
-      → TellsStop told after.calling name mid now slots_new stop result
-      → Visits told_in told ways snapshot place name standing old printer slots now new after slots_new result
-  gave_fails {mid} fate (Broke why) named can broke gave (tells, left, says) = rw (tells, left) (drops fate why named can broke (λ looks stands.
+  pub gave_fails : {led : Option ℕ} {slots : List Slot} (fate : Fate) (stop : Stop) {now : Standing}
+      {result : Result Bool Fault} → (watched_at old.watched place).name ≡ one.text
+      → IsTrue (is_watchable old.watched place) → Follows see.told_in led place old.watched new.watched fate (Some stop)
+      → ((looks : List Look) → Stands see.told_in ways looks place one.text (watched_at old.watched place) one.standing
+      → Gave see ways looks place one.text led old (record new { slots = slots }) fate (Err stop))
+      → TellsStop see.told new.printer.calling one.text slots now new.slots stop result
+      → Visits see ways place one old now new result
+  gave_fails {slots = slots} fate (Broke why) named can broke gave (tells, left, says) = rw (tells, left) (drops fate why named can broke (λ looks stands.
       let made = gave looks stands in (
         made.kept,
-        looked_broke made.is_due place fate broke.broke broke.fault_is made.openly made.ends made.there
+        looked_broke {mid = record new { slots = slots }} place fate broke.broke broke.fault_is made.ends made.shown
             (says.0, rw (made.ends.came.printer_is refl) at says.1),
-        made.met,
+        (look_fits looks made.ends.given).0,
       )))
-  gave_fails fate (Over why) named can follows gave (tells, same) = rw (tells, same) (record {
+  gave_fails fate (Over why) named can follows gave (tells, same) = rw tells (record {
     visited = tt;
     stopped = λ looks stands. let made = gave looks stands in (
       made.kept,
       record {
-        share = shared_as (is_first looks) name made.ends.events None;
-        after = after;
-        begins = λ t fates. let is = made.is_due.is t fates in rw (is.0, ← is.1)
-            (record { name = refl; opened = refl; events = made.ends.are t; unfailed = refl });
-        found = elim made.ends.found [
-          | found_begun all begins found ↦ record {
-            named = refl;
-            opened = refl;
-            unfailed = refl;
-            all = all;
-            begins = begins;
-            events = found;
-          }
-        ];
-        short = rw (append-nil (lines_in name made.ends.events)) made.ends.came;
+        share = shared_as (is_first looks) one.text made.ends.events None;
+        begins = λ t fates. let (kept, are) = made.shown t fates in
+            rw kept (record { name = refl; opened = refl; events = are; unfailed = refl });
+        found = record {
+          named = refl;
+          opened = refl;
+          unfailed = refl;
+          all = made.ends.given.0;
+          begins = made.ends.given.2;
+          events = made.ends.given.1;
+        };
+        short = rw (append-nil (lines_in one.text made.ends.events), same) made.ends.came;
       },
     );
     ready = tt;
@@ -308,26 +341,26 @@ module _ {told_in told : Bool} {ways : Ways} {snapshot : Snapshot} {place : ℕ}
 
 -- How the first look ends.
 
-pub first_missing : {told_in told : Bool} {ways : Ways} {snapshot : Snapshot} {place : ℕ} {name : List ℕ}
-    {printer : PrinterState} {slots slots_new : List Slot} {old new : List Watched} {is_there : Bool} {reason : Reason}
-    → Reopens told_in snapshot old new place is_there → is_there ≡ false → (watched_at old place).name ≡ name
-    → IsTrue (is_watchable old place) → SaysOn told (tail_by printer.calling) reason
-    (failure_message (Open place) name) slots slots_new
-    → Visits told_in told ways snapshot place name New old printer slots
-    (if ways.by_name then Followed 0 else Left) new printer slots_new (Ok true)
-first_missing {told_in} {told} {ways} {snapshot} {place} {name} {printer} {slots} {slots_new} {old} {new} reopens gone named can says =
-    visits_by _ (opens None) (rw none at reopens.names) can (ready ways.by_name)
-    (λ looks fresh. rw fresh.0 (looked_visited sound refl looked (λ fates at. stands fates at ways.by_name refl))) where
+pub first_missing : {see : Sight} {ways : Ways} {place : ℕ} {name : List ℕ} {old : Moment} {watched : List Watched}
+    {slots : List Slot} {is_there : Bool} {reason : Reason}
+    → Reopens see.told_in see.snapshot old.watched watched place is_there → is_there ≡ false
+    → (watched_at old.watched place).name ≡ name → IsTrue (is_watchable old.watched place)
+    → SaysOn see.told (tail_by old.printer.calling) reason (failure_message (Open place) name) old.slots slots
+    → Visits see ways place (record { text = name; standing = New }) old (if ways.by_name then Followed 0 else Left)
+    (moment watched old.printer slots) (Ok true)
+first_missing {see} {ways} {place} {name} {old} {watched} {slots} reopens gone named can says =
+    visits_by _ (opens None) (rw none at reopens.names) can (ready ways.by_name) (λ there looks fresh. rw fresh.0
+    (looked_visited sound refl looked (λ fates at. rw there (stands fates at ways.by_name refl)))) where
       none : reopens.file ≡ None
       none = none_of reopens.file (reopens.found ∙ gone)
 
-      nowhere : told_in ≡ true → snapshot.leads name ≡ None
-      nowhere t = sym (reopens.leads t ∙ ap snapshot.leads named) ∙ none
+      nowhere : see.told_in ≡ true → see.snapshot.leads name ≡ None
+      nowhere t = sym (reopens.leads t ∙ ap see.snapshot.leads named) ∙ none
 
-      lost : Found snapshot name (opens_as None)
-      lost = rw (none, named) at reopens.opens
+      lost : Saw see.told_in see.snapshot name (opens_as None)
+      lost = (rw (none, named) at reopens.opens, λ t. sym (nowhere t))
 
-      looked : Looked told_in told ways [] snapshot name printer slots printer slots_new true sound
+      looked : Looked see ways [] name old (moment watched old.printer slots) true sound
       looked = record {
         share = missing_share name;
         is_share = λ is fates. grind (arith, common_steps, entries_first);
@@ -336,23 +369,23 @@ first_missing {told_in} {told} {ways} {snapshot} {place} {name} {printer} {slots
         shared = said_after came_none (failure_said false place name says);
       }
 
-      unbroken : (watched_at old place).failed ≡ None
-      unbroken = none_of (watched_at old place).failed (not-true _ can)
+      unbroken : (watched_at old.watched place).failed ≡ None
+      unbroken = none_of (watched_at old.watched place).failed (not-true _ can)
 
       ready : (by_name : Bool)
           → CanVisit (record { text = name; standing = if by_name then Followed 0 else Left })
-          (opens None (watched_at old place))
+          (opens None (watched_at old.watched place))
       ready true = (named, unbroken)
       ready false = tt
 
-      stands : (fates : List Fate) → fate_at place (seeing snapshot fates) ≡ sound → (by_name : Bool)
+      stands : (fates : List Fate) → fate_at place (seeing see.snapshot fates) ≡ sound → (by_name : Bool)
           → ways.by_name ≡ by_name
-          → Stands told_in ways (seeing snapshot fates ∷ []) place name (opens None (watched_at old place))
+          → Stands see.told_in ways (seeing see.snapshot fates ∷ []) place name (opens None (watched_at old.watched place))
           (if by_name then Followed 0 else Left)
-      stands fates at true way = through_stands [] (seeing snapshot fates) (watched_at old place) named can refl at
+      stands fates at true way = through_stands [] (seeing see.snapshot fates) (watched_at old.watched place) named can refl at
           (λ t. refl) (λ t. (
             λ other. absurd (false≢true (sym other ∙ way)),
-            rw (nowhere t) (record { file = refl; seen = refl }),
+            sym (nowhere t),
           )) (λ by. inr lost)
       stands fates at false way = record {
         begun = refl;
@@ -360,21 +393,20 @@ first_missing {told_in} {told} {ways} {snapshot} {place} {name} {printer} {slots
         why = inr (record {
           way = way;
           unbroken = unbroken;
-          kept = kept_more place [] (seeing snapshot fates) refl at;
+          kept = kept_more place [] (seeing see.snapshot fates) refl at;
           closed = refl;
           unopened = nowhere;
         });
       }
 
-pub first_unopened : {told_in told : Bool} {ways : Ways} {snapshot : Snapshot} {place : ℕ} {name : List ℕ}
-    {printer : PrinterState}
-    {slots slots_new : List Slot} {old new : List Watched} {why : Fault} {now : Standing} {result : Result Bool Fault}
-    → (watched_at old place).name ≡ name → IsTrue (is_watchable old place)
-    → why ≡ Open place → NameBreaks (λ file. broken.Open) place old new
-    → snapshot.breaks (watched_at old place).name ≡ true
-    → TellsStop told printer.calling name slots now slots_new (Broke why) result
-    → Visits told_in told ways snapshot place name New old printer slots now new printer slots_new result
-first_unopened {place} {name} {old} {why} named can is broke fails (tells, left, says) =
+pub first_unopened : {see : Sight} {ways : Ways} {place : ℕ} {name : List ℕ} {old : Moment} {watched : List Watched}
+    {slots : List Slot} {why : Fault} {now : Standing} {result : Result Bool Fault}
+    → (watched_at old.watched place).name ≡ name → IsTrue (is_watchable old.watched place)
+    → why ≡ Open place → NameBreaks (λ file. broken.Open) place old.watched watched
+    → see.snapshot.breaks (watched_at old.watched place).name ≡ true
+    → TellsStop see.told old.printer.calling name old.slots now slots (Broke why) result
+    → Visits see ways place (record { text = name; standing = New }) old now (moment watched old.printer slots) result
+first_unopened {place = place} {name} {why = why} named can is broke fails (tells, left, says) =
     rw (tells, left) (drops unopened why named can (broke_at (λ file. broken.Open) refl refl is broke)
     (λ looks fresh. rw fresh.0 (
       refl,
@@ -385,10 +417,8 @@ first_unopened {place} {name} {old} {why} named can is broke fails (tells, left,
           named = refl;
           opened = refl;
           failed = refl;
-          events = tt;
+          events = inl (refl, refl, refl);
           broke = inr (rw named at fails);
-          there = λ opened. absurd
-              (false≢true opened);
         });
         failed = refl;
         shared = said_after came_none (failure_said false place name (rw is at says.1));
@@ -399,132 +429,105 @@ first_unopened {place} {name} {old} {why} named can is broke fails (tells, left,
 -- A call on the file that was just opened failed.
 
 -- the file was opened; its start part was given under its header, or what comes before a call that failed
-pub first_gave : {told_in told : Bool} {ways : Ways} {snapshot : Snapshot} {place : ℕ}
-    {name contents : List ℕ} {printer inside after : PrinterState} {slots slots_new : List Slot}
-    {old mid : List Watched} (new : List Watched) {is_there : Bool} {fate : Fate} {result : Result ℕ Stop}
-    → inside ≡ printer → Reopens told_in snapshot old mid place is_there → is_there ≡ true
-    → (watched_at old place).name ≡ name → (told_in ≡ true → contents ≡ held_at snapshot (snapshot.leads name))
-    → Keeps place mid new fate (stop_in result)
-    → IfBroke (stop_in result) (can_meet true ways.by_name ways.seeks fate ≡ true)
-    → IfOk result (λ len. told_in ≡ true → len ≡ length contents)
-    → GivesDue told_in (WereFound Nothing Anywhere snapshot name fate (stop_in result)) told true inside name
-    (gives (ways.start contents) ∷ []) (led_before snapshot fate (gives (ways.start contents) ∷ [])) slots after
-    slots_new (stop_in result) → (looks : List Look) → Stands told_in ways looks place name (watched_at old place) New
-    → Gave told_in told ways looks snapshot place name (snapshot.leads name) printer slots after slots_new fate result
-first_gave {told_in} {told} {ways} {snapshot} {place} {name} {contents} {after} {slots} {slots_new} {mid} new {fate}
-    {result} viewed reopens there named same keeps met long ends looks fresh =
-    rw (← viewed, fresh.0) (record {
+pub first_gave : {see : Sight} {ways : Ways} {place : ℕ} {name : List ℕ} {inside : PrinterState} {old new : Moment}
+    {mid : List Watched} {is_there : Bool} {fate : Fate} {result : Result ℕ Stop}
+    → inside ≡ old.printer → (reopens : Reopens see.told_in see.snapshot old.watched mid place is_there)
+    → is_there ≡ true → (watched_at old.watched place).name ≡ name
+    → Gives see.told (First see.told_in see.snapshot name reopens.file ways.seeks ways.start) fate true name
+    (record old { printer = inside }) new (stop_in result)
+    → (looks : List Look) → Stands see.told_in ways looks place name (watched_at old.watched place) New
+    → Gave see ways looks place name (see.snapshot.leads name) old new fate result
+first_gave {see} {ways} {name = name} {old = old} {new} {fate = fate} {result} viewed reopens there named gave looks fresh =
+    let (file, is) = some_of reopens.file (reopens.found ∙ there) in
+    let saw : Saw see.told_in see.snapshot name (opens_as (Some file))
+    = (rw (is, named) at reopens.opens, λ t. rw (is, named) at (reopens.leads t)) in
+    let ends = rw (viewed, is) at gave in rw fresh.0 (record {
       kept = refl;
-      due = record { came = []; led = gives (ways.start contents) ∷ [] };
-      opened = None;
-      is_due = record {
-        is = λ is fates.
-            let look = seeing snapshot fates in
-            let (id, leads) = found is in
-            let entries = entries_first ways look leads in (
-              ap is_missing entries,
-              ap (λ those. record { came = []; led = gives those ∷ [] })
-                  (ap ways.start (same is ∙ ap (held_at snapshot) leads) ∙ sym (ap (gains_after ways.start []) entries ∙ append-nil _)),
-              refl,
-            );
-      };
-      ends = grind (arith, common_steps, found_as);
-      there = λ first. let (id, is) = some_of reopens.file (reopens.found ∙ there) in (id, rw (is, named) at reopens.opens);
-      last = grind (arith, common_steps);
-      met = met;
-      openly = opens_so result keeps;
+      ends = gives_so (λ reach events. at_first file saw) ends;
+      shown = λ t fates.
+          let look = seeing see.snapshot fates in
+          let leads = sym (saw.1 t) in
+          let entries = entries_first ways look leads in
+          let same : due ≡ due_at ways name [] look = ap (λ those. record { came = []; led = gives those ∷ [] })
+          (ap (λ those. ways.start (held_at see.snapshot those)) leads
+          ∙ sym (ap (gains_after ways.start []) entries ∙ append-nil _)) in (
+            ap is_missing entries,
+            subst (λ those. AreGiven (stop_in result) ends.events (those.came ++ those.led) (given_by those see.snapshot None fate))
+                same (are_by fate (given_by due see.snapshot None) (stop_in result) ends.events refl
+                (λ reach events. first_are {snapshot = see.snapshot} {name = name} {file = Some file} {seeks = ways.seeks}
+                {start = ways.start} (saw.1 t)) (rw t at ends.given)),
+          );
+      last = λ t. (λ way. ap is_some (sym (saw.1 t)), λ fates. refl);
     }) where
-      found : told_in ≡ true → (id : ℕ) × (snapshot.leads name ≡ Some id)
-      found t = some_of (snapshot.leads name) (ap is_some (sym (reopens.leads t ∙ ap snapshot.leads named)) ∙ reopens.found ∙ there)
+      due : Due
+      due = record { came = []; led = gives (ways.start (held_at see.snapshot (see.snapshot.leads name))) ∷ [] }
 
-      opens_so : (result : Result ℕ Stop) → Keeps place mid new fate (stop_in result)
-          → IfBroke (stop_in result) ((not (is_unopened fate) && true) ≡ true)
-      opens_so result keeps = grind (arith, common_steps)
-
-pub first_long : {told_in : Bool} {snapshot : Snapshot} {place : ℕ} {old mid new : List Watched} {is_there : Bool}
-    (seen : Snapshot) (len : ℕ) (by_name : Bool) → Reopens told_in snapshot old mid place is_there → is_there ≡ true
+pub first_long : {told_in : Bool} {snapshot : Snapshot} (told by_name : Bool) (seen : Snapshot) {place : ℕ} (len : ℕ)
+    {old mid new : List Watched} {is_there : Bool} → Reopens told_in snapshot old mid place is_there → is_there ≡ true
     → IsTrue (is_watchable old place) → new ≡ mid
-    → IsLong false seen (watched_at mid place).name (watched_at mid place).opened len
-    → IsLong by_name seen (watched_at new place).name (watched_at new place).opened len
-first_long {place} {old} {mid} seen len by_name reopens there can same long = grind (arith, common_steps, long_by, opened_now)
+    → IsLong told false seen (watched_at mid place).name (watched_at mid place).opened len
+    → IsLong told by_name seen (watched_at new place).name (watched_at new place).opened len
+first_long told by_name seen {place} len {old} reopens there can same long = rw same (long_by seen len _
+    (λ none is. absurd (false≢true (ap is_some (sym none ∙ ap (λ (w : Watched). w.opened)
+    (opened_now place old reopens.names can)) ∙ reopens.found ∙ there))) long)
 
-pub first_started : {told_in told : Bool} {ways : Ways} {snapshot : Snapshot} {now : Snapshot} {place : ℕ}
-    {name : List ℕ} {printer inside middle after : PrinterState} {slots slots_mid slots_new : List Slot}
-    {old mid : List Watched} (new : List Watched)
-    {is_there : Bool} {none : List Event} {result : Result ℕ Stop} → inside ≡ printer
-    → Reopens told_in snapshot old mid place is_there → is_there ≡ true
-    → (watched_at old place).name ≡ name → IsTrue (is_watchable old place) → now ≡ snapshot
-    → ((Is : List Event → Type 0) → Is []
-    → GivesDue told_in Is told true inside name [] none slots middle slots_mid None)
-    → (starts : Starts told_in told ways.seeks now ways.start place name mid middle slots_mid new after slots_new
-    (stop_in result)) → IfOk result (λ len. told_in ≡ true → len ≡ length (open_contents now (watched_at mid place)))
-    → (looks : List Look) → Stands told_in ways looks place name (watched_at old place) New
-    → Gave told_in told ways looks snapshot place name
-    (snapshot.leads name) printer slots after slots_new starts.fate result
-first_started {told_in} {told} {ways} {snapshot} {now} {place} {name} {inside} {after} {slots} {slots_new} {old} {mid} new
-    {result} viewed reopens there named can same header starts long =
-    let contents = held_at now (watched_at mid place).opened in
-    first_gave new viewed reopens there named
-    (λ t. rw (opened_now place old reopens.names can, same) (ap (held_at snapshot) (reopens.leads t ∙ ap snapshot.leads named))) starts.keeps
-    (if_broke (stop_in result) (λ met. met ways.by_name) starts.met)
-    long
-    (rw (← same) (goes_after (header (WereFound Nothing Anywhere now name sound None) (found_all tt))
-    (rw known at starts.ends))) where
-      known : (watched_at mid place).name ≡ name
-      known = rw (opened_now place old reopens.names can) named
+pub first_started : {see : Sight} {ways : Ways} {now : Snapshot} {place : ℕ} {name : List ℕ} {inside : PrinterState}
+    {old mid new : Moment} {is_there : Bool} {result : Result ℕ Stop} → inside ≡ old.printer
+    → Reopens see.told_in see.snapshot old.watched mid.watched place is_there → is_there ≡ true
+    → (watched_at old.watched place).name ≡ name → IsTrue (is_watchable old.watched place) → now ≡ see.snapshot
+    → Gives see.told (Are []) sound true name (record old { printer = inside }) mid None
+    → (starts : Starts (record see { snapshot = now }) ways.seeks ways.start place name mid new (stop_in result))
+    → (looks : List Look) → Stands see.told_in ways looks place name (watched_at old.watched place) New
+    → Gave see ways looks place name (see.snapshot.leads name) old new starts.fate result
+first_started {see} {now = now} {place} {name} {old = old} {mid} viewed reopens there named can same header starts =
+    first_gave viewed reopens there named (gives_both (λ reach events more are first. rw are first) header
+    (rw (known, same, opened) at starts.ends)) where
+      is : watched_at mid.watched place ≡ record (watched_at old.watched place) { opened = reopens.file }
+      is = opened_now place old.watched reopens.names can
+
+      known : (watched_at mid.watched place).name ≡ name
+      known = ap (λ (w : Watched). w.name) is ∙ named
+
+      opened : (watched_at mid.watched place).opened ≡ reopens.file
+      opened = ap (λ (w : Watched). w.opened) is
 
 -- a later look at a name whose file was seen up to some place
-pub later_gave : {told_in told : Bool} {ways : Ways} {snapshot : Snapshot} {place : ℕ} {name : List ℕ} {position : ℕ}
-    {printer after : PrinterState} {slots slots_new : List Slot} {old new : List Watched} {result : Result ℕ Stop}
-    → (again : LooksAgain told_in told ways.by_name snapshot place
-    name position old printer slots new after slots_new result) → (looks : List Look)
-    → Stands told_in ways looks place name (watched_at old place) (Followed position)
-    → Gave told_in told ways looks snapshot place name (open_after_look ways.by_name name
-    (watched_at old place).opened snapshot) printer slots after slots_new again.fate result
+pub later_gave : {see : Sight} {ways : Ways} {place : ℕ} {name : List ℕ} {position : ℕ} {old new : Moment}
+    {result : Result ℕ Stop} → (again : LooksAgain see ways.by_name place name position old new result)
+    → (looks : List Look) → Stands see.told_in ways looks place name (watched_at old.watched place) (Followed position)
+    → Gave see ways looks place name (open_after_look ways.by_name name (watched_at old.watched place).opened see.snapshot)
+    old new again.fate result
 later_gave again [] followed = absurd (false≢true (sym followed.begun))
-later_gave {told_in} {ways} {snapshot} {place} {name} {position} {old} {result} again (before ∷ looks) followed = record {
-  kept = followed.kept;
-  due = due_later ways.by_name name opened (last_in ways name before looks) snapshot;
-  opened = opened;
-  is_due = grind (arith, common_steps, last_file, followed.stands);
-  ends = found_as tells begins (rw followed.named at (again.ends (last_in ways name before looks) followed.stands));
-  there = λ first. absurd (false≢true first);
-  last = IfOk-weaker result _ _ (λ n is t. (
-    λ way. ap (λ by_name. is_some (open_after_look by_name name opened snapshot)) way ∙ followed.there t way,
-    λ fates. rw (at_last t fates) (is t (last_in ways name before looks) (followed.stands t)),
-  )) again.stands;
-  met = if_broke (stop_in result) (λ met. met ways.seeks) again.met;
-  openly = if_so (stop_in result) (and-false (not (is_unopened again.fate)));
-} where
-  opened : Option ℕ
-  opened = (watched_at old place).opened
+later_gave {see} {ways} {place} {name} {position} {old} {result = result} again (before ∷ looks) followed =
+    let ends = rw followed.named at again.ends in record {
+      kept = followed.kept;
+      ends = gives_so (λ reach events. at_later opened position followed.long) ends;
+      shown = λ t fates. (
+        refl,
+        rw (
+          ← (followed.stands t),
+          ← (seen_same (latest (snapshots (before ∷ looks))) position see.snapshot opened
+              (rw t at followed.long)),
+        ) (are_by again.fate (given_by due see.snapshot opened) (stop_in result) ends.events refl
+            (λ reach events later. later_are {by_name = ways.by_name} {snapshot = see.snapshot} {name = name} {opened = opened}
+            {seen = position} later) (rw t at ends.given)),
+      );
+      last = λ t. (
+        λ way. ap (λ by_name. is_some (open_after_look by_name name opened see.snapshot)) way ∙ followed.there t way,
+        λ fates. ap (λ those. open_after_look ways.by_name name those see.snapshot) (followed.stands t)
+            ∙ sym (open_more ways name before looks (seeing see.snapshot fates)),
+      );
+    } where
+      opened : Option ℕ
+      opened = (watched_at old.watched place).opened
 
-  at_last : told_in ≡ true → (fates : List Fate)
-      → last_of (entries_in ways name ((before ∷ looks) ++ seeing snapshot fates ∷ []))
-      ≡ last_from (last_in ways name before looks) (entries_at_look ways.by_name name opened snapshot)
-  at_last t fates = grind (arith, common_steps, entries_more, last_from-append, last_file, followed.stands t)
+      due : Due
+      due = due_later ways.by_name name opened position see.snapshot
 
-  begins : (file : Option ℕ) (from : ℕ) → FromFrontOr opened position file from
-      → StartsIn (before ∷ looks) name file from
-  begins file from (inl front) = inr (inl front)
-  begins file from (inr (same, some, at)) = inr (inr (rw (same, at)
-      (held_many ways.by_name (latest (snapshots (before ∷ looks))) name position opened some followed.long)))
-
-  left_open : (opened : Option ℕ) (by_name : Bool) → (opened ≡ None → by_name ≡ true)
-      → IsLong by_name (latest (snapshots (before ∷ looks))) name opened position
-      → LeftOpen (latest (snapshots (before ∷ looks))) name opened position
-  left_open None by_name can long = long (can refl)
-  left_open (Some file) by_name can long = long
-
-  tells : (notice : Notice) → ToldAgain ways.by_name snapshot (watched_at old place) position notice
-      → IsTold (before ∷ looks) snapshot name notice
-  tells notice (can, seen) = (
-    refl,
-    opened,
-    position,
-    left_open opened ways.by_name can followed.long,
-    rw followed.named at seen,
-  )
+      seen_same : (last : Snapshot) (seen : ℕ) (snapshot : Snapshot) (file : Option ℕ)
+          → IsLong true ways.by_name last name file seen → came_of snapshot file seen ≡ came_of snapshot file (length (held_at last file))
+      seen_same last seen snapshot None long = refl
+      seen_same last seen snapshot (Some file) long = ap (came_of snapshot (Some file)) (long.1 refl)
 
 -- A name that is looked at no more.
 
@@ -557,32 +560,31 @@ still_left {ways} (before ∷ looks) look {place} {name} {watched} fine left = r
   ];
 }
 
-pub left_visited : {told_in told : Bool} {ways : Ways} {snapshot : Snapshot} {place : ℕ} {name : List ℕ}
-    {printer : PrinterState} {slots : List Slot} {watched : Watched} (looks : List Look)
-    → IsLeft told_in ways looks place name watched
-    → Visited told_in told ways looks snapshot place name printer slots printer slots watched Left false
-left_visited {told_in} {ways} {snapshot} {place} {name} looks left = elim left.why [
+pub left_visited : {see : Sight} {ways : Ways} {place : ℕ} {name : List ℕ} {now : Moment} (looks : List Look)
+    → IsLeft see.told_in ways looks place name (watched_at now.watched place)
+    → Visited see ways looks place (record { text = name; standing = Left }) now now false
+left_visited [] left = absurd (false≢true (sym left.begun))
+left_visited {see} {ways} {place} {name} (first ∷ looks) left = elim left.why [
   | inl dropped ↦ record {
     fate = sound;
     share = no_share name;
-    is_share = λ t fates at. rw dropped.0 refl;
-    found = λ fates at. inl (dropped.0, refl);
+    found = λ fates at. record { is = λ t. rw dropped.0 refl; found = inl (dropped.0, refl) };
     is_failed = refl;
     shared = came_none;
-    stands = λ fates at. still_left looks (seeing snapshot fates) at left;
+    stands = λ fates at. still_left (first ∷ looks) (seeing see.snapshot fates) at left;
   }
   -- if no file is open and names aren't followed, nothing is due
-  | inr missed ↦ let dues : IsDue told_in ways looks snapshot name (record { came = []; led = [] }) None
-      = grind (arith, common_steps, last_file, left.begun) in
-      looked_visited sound missed.kept (looked_whole dues {none = []} {fate = sound}
-      (rw left.begun (nothing_due (found_all tt))) (λ first. absurd (false≢true (sym left.begun ∙ first))))
-      (λ fates at. still_left looks (seeing snapshot fates) at left)
+  | inr missed ↦
+      looked_visited sound missed.kept (looked_whole (gives_none sound
+      (at_later None 0 (λ by. absurd (false≢true (sym missed.way ∙ by))) (came_all (not_open refl) (not_asked missed.way))))
+      (λ t fates. (refl, grind (arith, common_steps, missed.unopened t, missed.way))))
+      (λ fates at. still_left (first ∷ looks) (seeing see.snapshot fates) at left)
 ]
 
 -- Names on which no call can fail.
 
-sound_among : {before : List Look} {look : Look} (from : ℕ) (names : List (List ℕ)) {shares : List Share}
-    → AreAtLook before look from names shares → (place : ℕ) → place < length names
+sound_among : {told : Bool} {ways : Ways} {before : List Look} {look : Look} (from : ℕ) (names : List (List ℕ))
+    {shares : List Share} → AreAtLook told ways before look from names shares → (place : ℕ) → place < length names
     → look.snapshot.breaks (get_or names place []) ≡ false → failed_in (from + place) before ≡ None
     → fate_at (from + place) look ≡ sound
 sound_among from [] given place within unbroken kept = absurd (omega arith)
@@ -596,11 +598,11 @@ none_breaks_before : {name : List ℕ} (looks : List Look) (look : Look) → Non
 none_breaks_before [] look none = (tt, none.0)
 none_breaks_before (first ∷ looks) look none = let rest = none_breaks_before looks look none.1 in ((none.0, rest.0), rest.1)
 
-pub names_stay : (ways : Ways) (names : List (List ℕ)) (looks : List Look) (shares : List Share)
-    → AreFound ways names looks shares → (place : ℕ) → place < length names
+pub names_stay : (told : Bool) (ways : Ways) (names : List (List ℕ)) (looks : List Look) (shares : List Share)
+    → AreFound told ways names looks shares → (place : ℕ) → place < length names
     → NoneBreaks (get_or names place []) looks → failed_in (ways.first + place) looks ≡ None
-names_stay ways names looks shares no_looks place within none = refl
-names_stay ways names looks shares (looks_more {looks = before} {look} {shares = given} found at_look) place within none =
+names_stay told ways names looks shares no_looks place within none = refl
+names_stay told ways names looks shares (looks_more {looks = before} {look} {shares = given} found at_look) place within none =
     let (so_far, unbroken) = none_breaks_before before look none in
-    let kept = names_stay ways names before given found place within so_far in
+    let kept = names_stay told ways names before given found place within so_far in
     failed_sound (ways.first + place) before look (sound_among ways.first names at_look place within unbroken kept) ∙ kept

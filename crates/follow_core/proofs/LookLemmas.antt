@@ -1,8 +1,10 @@
 -- Lemmas on a look at a name: what it gives after the looks before it, what it reports, and how the name stands then.
 use Rattle.follow_core.specs.{
-  Standing.{BrokeIn, StandsAt},
-  Version.{Entry, entries_at_look, entries_later, held_at, open_after, open_after_later, open_after_look},
-  Gain.{file_of, last_from, last_of, gains_after},
+  Standing.BrokeIn,
+  Event.{after_change, all_held, bytes_in, came_of, change_between},
+  Version.{Entry, entries_at_look, entries_later, entries_led, entries_open, gap, held_at, open_after, open_after_later},
+  Version.{open_after_look, version, version_in},
+  Gain.{last_from, gains_after, gains_later},
   Look.{Fate, Look, Ways, can_meet, are_met, entries_in, failed_by, failed_in, fate_at, is_dropped, snapshots, sound},
   Look.is_first,
   Run.{AreKept, name_text},
@@ -11,18 +13,17 @@ use Rattle.follow_core.specs.{
 }
 use Rattle.follow_core.proofs.{
   CallGivesLemmas.none_of,
-  CatchLemmas.at_look,
-  EventLemmas.{bytes_later, events-append},
-  RunLemmas.{gains-append, last_from-append, text_goes_on, text_is_gains, looks-append},
+  EventLemmas.bytes-append,
+  RunLemmas.{gains-append, last_from-append, later-append, text_goes_on, text_is_gains, looks-append},
 }
 use Rattle.std.proofs.{
   lemmas.Grind.common_steps,
-  Common.{arith, ◌≡◌, ℕ, Bool, true, false, List, [], ◌∷◌, ◌++◌, length, Option, None, refl, sym, ◌∙◌, ap},
-  Common.{append_assoc, ◌&&◌, eqb-true, rules},
-  lemmas.{List.{append-nil, map-append}, Bool.and_parts},
+  Common.{arith, ◌≡◌, ℕ, Bool, true, false, List, [], ◌∷◌, ◌++◌, length, Option, Some, None, refl, sym, ◌∙◌, ap},
+  Common.{append_assoc, ◌&&◌, eqb-true},
+  lemmas.{List.{append-nil, map-append}, Bool.{and_parts, eq-eqb, Decides.nat_tests}},
   Math.Bool.{and-false, and-true},
 }
-use Rattle.watch_core.specs.{Snapshot.Snapshot, declared.watch.Broken.Broken}
+use Rattle.watch_core.specs.{Snapshot.{Snapshot, latest}, declared.watch.Broken.Broken}
 
 -- What a look gives for a name, after the looks before it.
 
@@ -42,10 +43,63 @@ entries_go_on : (ways : Ways) (name : List ℕ) (looks : List Look) (look : Look
     → entries_in ways name (looks ++ look ∷ []) ≡ entries_in ways name looks ++ added ways name looks look
 entries_go_on ways name looks look = grind (arith, common_steps, entries_more)
 
+-- the entry of a name after a look, if this file is open
+abbrev entry_at : Snapshot → Option ℕ → Entry
+entry_at snapshot None = gap
+entry_at snapshot (Some file) = version_in snapshot file
+
+came_adds : (before snapshot : Snapshot) (opened : Option ℕ) → bytes_in (came_of snapshot opened (length (held_at before opened)))
+    ≡ gains_later (entry_at before opened) (entries_open snapshot opened)
+came_adds before snapshot opened = grind (arith, common_steps, append-nil, eq-eqb, nat_tests)
+
+led_adds : (before snapshot : Snapshot) (opened led : Option ℕ)
+    → bytes_in (after_change (change_between opened led) (all_held snapshot led))
+    ≡ gains_later (last_from (entry_at before opened) (entries_open snapshot opened)) (entries_led snapshot opened led)
+led_adds before snapshot opened led = grind (arith, common_steps, append-nil, nat_tests)
+
+entry_after : (by_name : Bool) (name : List ℕ) (opened : Option ℕ) (snapshot : Snapshot) (last : Entry)
+    → last_from last (entries_at_look by_name name opened snapshot)
+    ≡ entry_at snapshot (open_after_look by_name name opened snapshot)
+entry_after by_name name opened snapshot last = grind (arith, common_steps, eqb-true)
+
+-- the last entry is that of the open file
+entry_later : (by_name : Bool) (name : List ℕ) (first : Snapshot) (snaps : List Snapshot) (opened : Option ℕ)
+    → last_from (entry_at first opened) (entries_later by_name name opened snaps)
+    ≡ entry_at (latest (first ∷ snaps)) (open_after_later by_name name opened snaps)
+entry_later by_name name first [] opened = refl
+entry_later by_name name first (snapshot ∷ snaps) opened =
+    last_from-append (entry_at first opened) (entries_at_look by_name name opened snapshot) _
+    ∙ ap (λ entry. last_from entry (entries_later by_name name (open_after_look by_name name opened snapshot) snaps))
+    (entry_after by_name name opened snapshot (entry_at first opened))
+    ∙ entry_later by_name name snapshot snaps (open_after_look by_name name opened snapshot)
+
+-- what entries add after looks, by the file that these left open
+gains_then : (start : List ℕ → List ℕ) (by_name : Bool) (name : List ℕ) (first : Snapshot) (snaps : List Snapshot)
+    (led : Option ℕ) (more : List Entry)
+    → gains_after start (entries_led first None led ++ entries_later by_name name led snaps) more
+    ≡ gains_later (entry_at (latest (first ∷ snaps)) (open_after_later by_name name led snaps)) more
+gains_then start by_name name first snaps None more = ap (λ last. gains_later last more) (entry_later by_name name first snaps None)
+gains_then start by_name name first snaps (Some file) more =
+    ap (λ last. gains_later last more) (entry_later by_name name first snaps (Some file))
+
+-- what a look adds; if names aren't followed, it is as if the name led to the open file
+at_look : (by_name : Bool) (name : List ℕ) (opened : Option ℕ) (snapshot : Snapshot)
+    → entries_open snapshot opened ++ entries_led snapshot opened (open_after_look by_name name opened snapshot)
+    ≡ entries_at_look by_name name opened snapshot
+at_look by_name name opened snapshot = grind (arith, common_steps)
+
 -- a look gives what its entries add
 gain_adds : (ways : Ways) (name : List ℕ) (looks : List Look) (look : Look)
     → gain ways name looks look ≡ gains_after ways.start (entries_in ways name looks) (added ways name looks look)
-gain_adds ways name looks look = grind (arith, common_steps, append-nil, events-append, at_look, bytes_later)
+gain_adds ways name [] look = append-nil _
+gain_adds ways name (before ∷ looks) look =
+    let last = latest (snapshots (before ∷ looks)) in let opened = opened_in ways name (before ∷ looks) in
+    let led = open_after_look ways.by_name name opened look.snapshot in
+    bytes-append (came_of look.snapshot opened (length (held_at last opened))) _
+    ∙ (λ i. came_adds last look.snapshot opened i ++ led_adds last look.snapshot opened led i)
+    ∙ sym (gains_then ways.start ways.by_name name before.snapshot (snapshots looks) (before.snapshot.leads name) _
+    ∙ ap (gains_later (entry_at last opened)) (sym (at_look ways.by_name name opened look.snapshot))
+    ∙ later-append (entry_at last opened) (entries_open look.snapshot opened) _)
 
 -- the text goes on by what a look gives, if files that are appended to keep their bytes
 pub look_goes_on : (ways : Ways) (name : List ℕ) (looks : List Look) (look : Look)
@@ -73,28 +127,32 @@ pub looks_give_text : (ways : Ways) (name : List ℕ) (looks : List Look) → Ar
     → gains_from ways name [] looks ≡ name_text ways.start (entries_in ways name looks)
 looks_give_text ways name looks kept = gains_are ways name [] looks ∙ sym (text_is_gains ways.start (entries_in ways name looks) kept)
 
--- The last entry of a name: the file that is open, and how much of it was seen.
+-- The file that is open.
 
--- the file that a look leaves open is that of its last entry, and all of it was seen
+-- the file of an entry
+abbrev pub file_of : Entry → Option ℕ
+file_of gap = None
+file_of (version v) = Some v.file
+
+-- the file that a look leaves open is that of its last entry
 pub look_leaves : (by_name : Bool) (name : List ℕ) (opened : Option ℕ) (snapshot : Snapshot) (last : Entry)
-    → StandsAt (last_from last (entries_at_look by_name name opened snapshot))
-    (open_after_look by_name name opened snapshot)
-    (length (held_at snapshot (open_after_look by_name name opened snapshot)))
+    → open_after_look by_name name opened snapshot ≡ file_of (last_from last (entries_at_look by_name name opened snapshot))
 look_leaves by_name name opened snapshot last = grind (arith, common_steps, eqb-true)
 
-later_file : (by_name : Bool) (name : List ℕ) {opened : Option ℕ} (last : Entry) (snaps : List Snapshot)
-    → opened ≡ file_of last
-    → open_after_later by_name name opened snaps ≡ file_of (last_from last (entries_later by_name name opened snaps))
-later_file by_name name last [] is = is
-later_file by_name name {opened} last (snapshot ∷ snaps) is =
-    later_file by_name name (last_from last (entries_at_look by_name name opened snapshot)) snaps (look_leaves by_name name opened snapshot last).file
-    ∙ ap file_of (sym (last_from-append last (entries_at_look by_name name opened snapshot) _))
+open_append : (by_name : Bool) (name : List ℕ) (opened : Option ℕ) (snaps : List Snapshot) (snapshot : Snapshot)
+    → open_after_later by_name name opened (snaps ++ snapshot ∷ [])
+    ≡ open_after_look by_name name (open_after_later by_name name opened snaps) snapshot
+open_append by_name name opened [] snapshot = refl
+open_append by_name name opened (next ∷ snaps) snapshot =
+    open_append by_name name (open_after_look by_name name opened next) snaps snapshot
 
--- the open file is the file of the last entry
-pub last_file : (ways : Ways) (name : List ℕ) (before : Look) (looks : List Look)
-    → open_after ways.by_name name (snapshots (before ∷ looks))
-    ≡ file_of (last_of (entries_in ways name (before ∷ looks)))
-last_file ways name before looks = search (rules, later_file)
+-- the file that is open after one look more
+pub open_more : (ways : Ways) (name : List ℕ) (before : Look) (looks : List Look) (look : Look)
+    → opened_in ways name ((before ∷ looks) ++ look ∷ [])
+    ≡ open_after_look ways.by_name name (opened_in ways name (before ∷ looks)) look.snapshot
+open_more ways name before looks look =
+    ap (open_after_later ways.by_name name (before.snapshot.leads name)) (map-append (λ (one : Look). one.snapshot) looks (look ∷ []))
+    ∙ open_append ways.by_name name (before.snapshot.leads name) (snapshots looks) look.snapshot
 
 -- if no call on a name failed, its fate at each look is sound
 pub came_through : (fate : Fate) (later : Option Broken) → failed_by fate later ≡ None → fate ≡ sound
@@ -148,10 +206,3 @@ broken_more {ways} looks look {place} {fate} broke kept at met = grind (arith, c
 
 abbrev pub seeing : Snapshot → List Fate → Look
 seeing snapshot fates = record { snapshot = snapshot; fates = fates }
-
--- what is due of a name at a look after these, if the name isn't missing at it; before it this file was open
-pub record IsDue (told_in : Bool) (ways : Ways) (before : List Look) (snapshot : Snapshot) (name : List ℕ) (due : Due)
-    (opened : Option ℕ) : Type 0 where
-  pub is : told_in ≡ true → (fates : List Fate)
-      → ((is_first before && is_missing (entries_in ways name (before ++ seeing snapshot fates ∷ []))) ≡ false)
-      × (due ≡ due_at ways name before (seeing snapshot fates)) × (opened ≡ opened_in ways name before)

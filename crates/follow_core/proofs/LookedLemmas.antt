@@ -12,24 +12,23 @@ use Rattle.std.proofs.{
 use Rattle.ports_core.specs.{Slot.{Slot, adds}, declared.{fault.Fault.Fault, calling.Calling.Calling}}
 use Rattle.follow_core.specs.{
   FollowState.{AllReady, CanLook, FollowState, Holds, IsCause, IsOther, LooksOn, StandsIn, goes_on_at, is_alive},
-  FollowState.{is_alive_from, new_state, nothing, lacks_memory, output_broke, opened_follow},
+  FollowState.{is_alive_from, new_state, nothing, lacks_memory, output_broke, opened_follow, Asked, Point, asked_so},
+  FollowState.point,
   Look.{Look, Ways, snapshots, ways_of},
-  Printing.PrinterState,
   inner.{
     Visits.{StandFrom, VisitedTo, VisitsAll, any_goes_on, goes_on_as, AddsSome, BeginsLook, MakesLook, LookedAll},
-    Giving.{IsFront, HasStopped},
+    Giving.{IsFront, HasStopped, Moment, Sight, moment},
   },
   Reading.{looks_more, no_looks},
   Sharing.CanPrint,
   Standing.{AllStand, NoneGoesOn, NameState, Stands, no_state, state_at, texts, AreWatched},
   declared.start.Start.Start,
   declared.{name.Standing.{Standing, TheVariants.New}, follow.Phase.{Phase, TheVariants.{Fresh, Looking, Over}}},
-  Ending.{AreMost, FollowEndsAs, FollowEndsBy, is_over, until_over, Made},
+  Ending.{AreMost, FollowEndsAs, FollowEndsBy, is_over, until_over, Made, Remains},
 }
 use Rattle.follow_core.proofs.{
   CallLemmas.no_memory,
-  LookLemmas.last_file,
-  RunLemmas.{failed-append, shares_more},
+  RunLemmas.failed-append,
   FollowLemmas.{nothing_shared, all_both, length_texts, text_there, same_length, unbroken_watched, watched_there},
 }
 use Rattle.watch_core.{specs.{Snapshot.{Snapshot}, Watched.{Watched, watched_at, added, no_name}}}
@@ -42,7 +41,7 @@ use Rattle.ports_core.specs.declared.fault.Fault.TheVariants as fault
 -- following has as many names as were given
 length_names : (follow : FollowState) {names : List (List ℕ)} → texts follow.names ≡ names
     → length follow.names ≡ length names
-length_names follow same = rw (← same) (sym (length_texts follow.names follow.names refl))
+length_names follow same = rw (← same) (sym (length_texts follow.names))
 
 -- Names that were added.
 
@@ -72,18 +71,17 @@ added_begins {told_in} {old} {mid} {watched} {watched_mid} is = record {
   ready = rw (is.mid_is, is.watched_is) (added_ready old.names watched is.first_is);
   -- the names that others added stand before these names
   others = λ number other. search (rules, get_or_append_left);
-  holds = λ told calling ways headers names looks first slots holds.
-      let new : (looks ≡ []) × (old.names ≡ map new_state (texts old.names)) × (length watched ≡ ways.first)
+  holds = λ told asked looks slots holds.
+      let new : (looks ≡ []) × (old.names ≡ map new_state (texts old.names)) × (length watched ≡ asked.ways.first)
       = rw is.fresh at holds.stand in rw is.mid_is (record {
-        asked = holds.asked;
+        way = holds.way;
         same = holds.same;
         numbered = λ looking some. is.first_is (rw (length_names old holds.same) some) ∙ new.2;
         stand = (
-          rw (new.0, new.1, is.watched_is) (added_stand told_in ways watched (texts old.names) (sym new.2)),
+          rw (new.0, new.1, is.watched_is) (added_stand told_in asked.ways watched (texts old.names) (sym new.2)),
           rw (is.watched_is, length-append, new.2, length-map, length-map) refl,
         );
         shares = holds.shares;
-        are = holds.are;
         found = holds.found;
         shared = holds.shared;
         failed = holds.failed;
@@ -95,7 +93,7 @@ added_begins {told_in} {old} {mid} {watched} {watched_mid} is = record {
 pub goes_on_there : (ways : Ways) (looks : List Look) (place : ℕ) (name : List ℕ) (watched : Watched)
     (standing : Standing) → Stands true ways looks place name watched standing
     → goes_on_as ways.by_name standing ≡ goes_on_at ways looks place name
-goes_on_there ways looks place name watched standing stands = grind (arith, common_steps, or_none, last_file, and_none)
+goes_on_there ways looks place name watched standing stands = grind (arith, common_steps, or_none, and_none)
 
 pub alive_from : (ways : Ways) (looks : List Look) (from : ℕ) (names : List NameState)
     → ((place : ℕ) → place < length names
@@ -115,7 +113,7 @@ alive_from ways looks from (name ∷ names) all =
 new_there : {names : List NameState} {place : ℕ} → place < length names → names ≡ map new_state (texts names)
     → (state_at names place).standing ≡ New
 new_there {names} {place} within new =
-    let inside : place < length (texts names) = rw (length_texts names names refl) within in
+    let inside : place < length (texts names) = rw (length_texts names) within in
     ap (λ (those : List NameState). (state_at those place).standing) new
     ∙ ap (λ (n : NameState). n.standing) (get_or-map new_state (texts names) place [] no_state inside)
 
@@ -167,43 +165,42 @@ none_broken names before watched none first_is (rest, are) = rw none (
   sizes : length before + length names ≡ length watched + length rest
   sizes = rw (length-append, length-append, length-map) at (ap length are)
 
-module _ {told_in told : Bool} {calling : Calling} {ways : Ways} {headers : Bool} {names : List (List ℕ)}
-    {looks : List Look} {first slots : List Slot} {follow : FollowState} {watched : List Watched}
-    (holds : Holds told_in told calling ways headers names looks first follow watched slots) where
-  pub none_going : 0 < length looks → any_goes_on follow.by_name follow.names ≡ false → NoneGoesOn ways watched
+module _ {told_in told : Bool} {asked : Asked} {looks : List Look} {follow : FollowState} {watched : List Watched}
+    {slots : List Slot} (holds : Holds told_in told asked looks (point follow watched slots)) where
+  pub none_going : 0 < length looks → any_goes_on follow.by_name follow.names ≡ false → NoneGoesOn asked.ways watched
   none_going some none = phase follow.phase holds.stand where
-    phase : (phase : Phase) → StandsIn told_in ways looks follow.names watched phase → NoneGoesOn ways watched
+    phase : (phase : Phase) → StandsIn told_in asked.ways looks follow.names watched phase → NoneGoesOn asked.ways watched
     phase Fresh stand = absurd (let empty = ap length stand.0 in omega arith)
     phase Looking stand = λ place within.
         let inside : place < length follow.names = (let as_many = stand.1 in omega arith) in
-        no_more_of told_in ways looks (ways.first + place) _ (watched_at watched (ways.first + place))
+        no_more_of told_in asked.ways looks (asked.ways.first + place) _ (watched_at watched (asked.ways.first + place))
         (state_at follow.names place).standing (stand.0 place inside) some
-        (rw (ap (λ (those : Ways). those.by_name) holds.asked)
+        (rw (ap (λ (those : Ways). those.by_name) holds.way)
         (none_before follow.by_name follow.names place inside none))
     phase Over stand = absurd stand
 
-  pub watched_are : AreWatched ways looks names watched
+  pub watched_are : AreWatched asked.ways looks asked.names watched
   watched_are = phase follow.phase holds.stand where
-    phase : (phase : Phase) → StandsIn told_in ways looks follow.names watched phase
-        → AreWatched ways looks names watched
-    phase Fresh stand = none_broken names watched watched stand.0 stand.2 (map added names, refl)
+    phase : (phase : Phase) → StandsIn told_in asked.ways looks follow.names watched phase
+        → AreWatched asked.ways looks asked.names watched
+    phase Fresh stand = none_broken asked.names watched watched stand.0 stand.2 (map added asked.names, refl)
     phase Looking stand =
         let many = rw (length_names follow holds.same) at stand.1 in (
           omega arith,
           (λ above. many),
           λ place within.
               let inside : place < length follow.names = (let as_many = stand.1 in omega arith) in
-              rw (← holds.same, text_there follow.names follow.names refl inside)
-              (watched_there told_in _ (watched_at watched (ways.first + place)) (state_at follow.names place).standing
+              rw (← holds.same, text_there follow.names inside)
+              (watched_there told_in _ (watched_at watched (asked.ways.first + place)) (state_at follow.names place).standing
               (stand.0 place inside)),
         )
     phase Over stand = absurd stand
 
   -- the names stand as the looks before left them
   stand_from : follow.phase ≡ Looking
-      → StandFrom told_in (ways_of ways.first follow.by_name follow.start) looks follow.first follow.names watched
+      → StandFrom told_in (ways_of asked.ways.first follow.by_name follow.start) looks follow.first follow.names watched
   stand_from looking = let (stand, many) = rw looking at holds.stand in
-      rw (← holds.asked) (record {
+      rw (← holds.way) (record {
         numbered = λ some. holds.numbered looking (rw (← length_names follow holds.same) some);
         stand = stand;
         many = many;
@@ -216,20 +213,18 @@ module _ {told_in told : Bool} {snapshot : Snapshot} {seen seen_new : List Snaps
     (live : old.phase ≡ Over → ⊥) (can : CanLook old watched slots) (is : why ≡ fault.Memory)
     (same : seen_new ≡ seen) where
   -- there was no memory to begin a look: some names were added, or all, and no call was made on any
-  makes_none : ((calling ways headers names looks first : _)
-      → Holds told_in told calling ways headers names looks first old watched slots
-      → AreWatched ways looks names watched_new) → ((number : ℕ) → IsOther old watched number
+  makes_none : ((asked : Asked) (looks : List Look) → Holds told_in told asked looks (point old watched slots)
+      → AreWatched asked.ways looks asked.names watched_new) → ((number : ℕ) → IsOther old watched number
       → watched_at watched_new number ≡ watched_at watched number)
-      → MakesLook told_in told snapshot seen old watched slots seen_new new watched_new slots (Err why)
+      → MakesLook told_in told snapshot seen (point old watched slots) seen_new (point new watched_new slots) (Err why)
   makes_none unbroken others = record {
     looked = tt;
-    stopped = λ calling ways headers names looks first holds. record {
+    stopped = λ asked looks holds. record {
       shares = holds.shares;
-      are = holds.are;
       found = holds.found;
       whole = [];
       part = [];
-      begun = nothing (unbroken calling ways headers names looks first holds);
+      begun = nothing (unbroken asked looks holds);
       printer = old.printer;
       reached = slots;
       shared = rw (append-nil holds.shares) holds.shared;
@@ -246,68 +241,65 @@ module _ {told_in told : Bool} {snapshot : Snapshot} {seen seen_new : List Snaps
   }
 
   pub makes_few : old.phase ≡ Fresh → AddsSome (texts old.names) watched watched_new
-      → MakesLook told_in told snapshot seen old watched slots seen_new new watched_new slots (Err why)
+      → MakesLook told_in told snapshot seen (point old watched slots) seen_new (point new watched_new slots) (Err why)
   makes_few fresh adds = makes_none
-      (λ calling ways headers names looks first holds.
+      (λ asked looks holds.
       let stand = rw fresh at holds.stand in
-      none_broken names watched watched_new stand.0 stand.2 (rw holds.same at adds.front))
+      none_broken asked.names watched watched_new stand.0 stand.2 (rw holds.same at adds.front))
       (λ number other. rw adds.kept.1 (get_or_append_left watched adds.kept.0 no_name number
       (subst (λ phase. IsOther (record old { phase = phase }) watched number) fresh other)))
 
   pub makes_all : {mid : FollowState} {watched_mid : List Watched} → BeginsLook told_in old watched mid watched_mid
       → watched_new ≡ watched_mid
-      → MakesLook told_in told snapshot seen old watched slots seen_new new watched_new slots (Err why)
+      → MakesLook told_in told snapshot seen (point old watched slots) seen_new (point new watched_new slots) (Err why)
   makes_all begins added_now = makes_none
-      (λ calling ways headers names looks first holds.
-      rw added_now (watched_are (begins.holds told calling ways headers names looks first slots holds)))
+      (λ asked looks holds. rw added_now (watched_are (begins.holds told asked looks slots holds)))
       (λ number other. rw added_now (begins.others number other).1)
 
 -- the names were looked at, after they were watched and the watch began a look
-pub makes_look : {told_in told : Bool} {snapshot : Snapshot} {seen seen_new : List Snapshot} {old mid : FollowState}
-    {names_new : List NameState} {watched watched_mid watched_new : List Watched} {printer : PrinterState}
-    {slots slots_new : List Slot} {result : Result Bool Fault} → (old.phase ≡ Over → ⊥)
-    → CanLook old watched slots → BeginsLook told_in old watched mid watched_mid → seen_new ≡ seen ++ snapshot ∷ []
-    → VisitsAll told_in told snapshot mid.by_name mid.start mid.first mid.names watched_mid mid.printer slots names_new
-    watched_new printer slots_new result → MakesLook told_in told snapshot seen old watched slots seen_new
-    (record mid { names = names_new; printer = printer }) watched_new slots_new result
-makes_look {told_in} {told} {snapshot} {seen} {seen_new} {old} {mid} {names_new} {watched} {watched_mid} {watched_new}
-    {printer} {slots} {slots_new} {result} live can begins saw = by result where
+pub makes_look : {see : Sight} {seen seen_new : List Snapshot} {old mid : FollowState} {watched watched_mid : List Watched}
+    {slots : List Slot} {names : List NameState} {new : Moment} {result : Result Bool Fault} → (old.phase ≡ Over → ⊥)
+    → CanLook old watched slots → BeginsLook see.told_in old watched mid watched_mid → seen_new ≡ seen ++ see.snapshot ∷ []
+    → VisitsAll see (λ from. ways_of from mid.by_name mid.start) mid.first mid.names (moment watched_mid mid.printer slots)
+    names new result
+    → MakesLook see.told_in see.told see.snapshot seen (point old watched slots) seen_new
+    (point (record mid { names = names; printer = new.printer }) new.watched new.slots) result
+makes_look {see} {seen} {seen_new} {old} {mid} {watched} {watched_mid} {slots} {names} {new} {result} live can begins saw =
+    by result where
       others : {those : Result Bool Fault}
-          → VisitsAll told_in told snapshot mid.by_name mid.start mid.first mid.names watched_mid
-          mid.printer slots names_new watched_new printer slots_new those → (number : ℕ) → IsOther old watched number
-          → watched_at watched_new number ≡ watched_at watched number
+          → VisitsAll see (λ from. ways_of from mid.by_name mid.start) mid.first mid.names
+          (moment watched_mid mid.printer slots) names new those → (number : ℕ) → IsOther old watched number
+          → watched_at new.watched number ≡ watched_at watched number
       others visits number other =
           let (others, same) = begins.others number other in
           visits.others number (subst (λ phase. IsOther (record mid { phase = phase }) watched_mid number) begins.phase others) ∙ same
 
       by : (result : Result Bool Fault)
-          → VisitsAll told_in told snapshot mid.by_name mid.start mid.first mid.names watched_mid mid.printer slots
-          names_new watched_new printer slots_new result
-          → MakesLook told_in told snapshot seen old watched slots seen_new
-          (record mid { names = names_new; printer = printer }) watched_new slots_new result
+          → VisitsAll see (λ from. ways_of from mid.by_name mid.start) mid.first mid.names
+          (moment watched_mid mid.printer slots) names new result
+          → MakesLook see.told_in see.told see.snapshot seen (point old watched slots) seen_new
+          (point (record mid { names = names; printer = new.printer }) new.watched new.slots) result
       by (Ok failed) visits = record {
-        looked = λ calling ways headers names looks first before.
-            let holds = begins.holds told calling ways headers names looks first slots before in
+        looked = λ asked looks before.
+            let holds = begins.holds see.told asked looks slots before in
             let stood = stand_from holds begins.phase in
-            let visited : VisitedTo told_in told ways looks snapshot (length mid.names) mid.names mid.printer slots printer
-            slots_new watched_new names_new failed = rw holds.asked (visits.visited ways.first looks stood) in
-            let look : Look = record { snapshot = snapshot; fates = visited.fates } in
+            let visited : VisitedTo see asked.ways looks (length mid.names) names (moment watched_mid mid.printer slots) new failed =
+            rw holds.way (visits.visited asked.ways.first looks stood) in
+            let look : Look = record { snapshot = see.snapshot; fates = visited.fates } in
             let front : IsFront visited.fates visited.fates = ([], sym (append-nil visited.fates)) in
-            let many = same_length mid.names names_new visited.same in
-            let taken : take (length mid.names) (texts mid.names) ≡ names =
-            (let size = length_texts mid.names mid.names refl in
-            take_all (length mid.names) (texts mid.names) (omega arith) ∙ holds.same) in (
+            let many = same_length mid.names names visits.same in
+            let taken : take (length mid.names) (texts names) ≡ asked.names = (let size = length_texts names in
+            take_all (length mid.names) (texts names) (omega arith) ∙ visits.same ∙ holds.same) in (
               visited.fates,
               record {
-                asked = holds.asked;
-                same = visited.same ∙ holds.same;
+                way = holds.way;
+                same = visits.same ∙ holds.same;
                 numbered = holds.numbered;
-                stand = subst (StandsIn told_in ways (looks ++ look ∷ []) names_new watched_new) (sym begins.phase) (
+                stand = subst (StandsIn see.told_in asked.ways (looks ++ look ∷ []) names new.watched) (sym begins.phase) (
                   (λ place within. visited.done visited.fates front place (omega (arith, within, many))),
                   rw (← many) (visits.count ∙ stood.many),
                 );
                 shares = holds.shares ++ visited.shares;
-                are = λ t. grind (arith, common_steps, shares_more, visited.are t, holds.are t);
                 found = looks_more holds.found (rw taken at (visited.found visited.fates front));
                 shared = all_both holds.shared visited.shared;
                 failed = rw (failed-append holds.shares visited.shares, holds.failed, visited.is_failed) refl;
@@ -325,16 +317,15 @@ makes_look {told_in} {told} {snapshot} {seen} {seen_new} {old} {mid} {names_new}
       }
       by (Err why) visits = record {
         looked = tt;
-        stopped = λ calling ways headers names looks first before.
-            let holds = begins.holds told calling ways headers names looks first slots before in
+        stopped = λ asked looks before.
+            let holds = begins.holds see.told asked looks slots before in
             let (whole, part, begun, printer, reached, shared, short) =
-            visits.stopped ways.first looks (stand_from holds begins.phase) in record {
+            visits.stopped asked.ways.first looks (stand_from holds begins.phase) in record {
               shares = holds.shares;
-              are = holds.are;
               found = holds.found;
               whole = whole;
               part = part;
-              begun = grind (arith, common_steps, holds.asked, holds.same);
+              begun = grind (arith, common_steps, holds.way, holds.same);
               printer = printer;
               reached = reached;
               shared = all_both holds.shared shared;
@@ -351,32 +342,30 @@ makes_look {told_in} {told} {snapshot} {seen} {seen_new} {old} {mid} {names_new}
       }
 
 -- this many looks were made, and `going` says whether a further look can give something
-pub record Progress (told_in told : Bool) (calling : Calling) (ways : Ways) (headers : Bool) (names : List (List ℕ))
-    (shows : ℕ → Snapshot) (first : List Slot) (made : ℕ)
-    (going : Bool) (follow : FollowState) (seen : List Snapshot) (watched : List Watched) (slots : List Slot)
-    : Type 0 where
+pub record Progress (told_in told : Bool) (asked : Asked) (shows : ℕ → Snapshot) (made : ℕ) (going : Bool)
+    (now : Point) (seen : List Snapshot) : Type 0 where
   pub looks : List Look
   pub count : length looks ≡ made
   pub observed : seen ≡ snapshots looks
-  pub is_made : Made told_in ways names shows looks
-  pub alive : told_in ≡ true → 0 < length looks → is_alive ways names looks ≡ going
-  pub ends : going ≡ false → NoneGoesOn ways watched
-  pub holds : Holds told_in told calling ways headers names looks first follow watched slots
+  pub is_made : Made told_in asked.ways asked.names shows looks
+  pub alive : told_in ≡ true → 0 < length looks → is_alive asked.ways asked.names looks ≡ going
+  pub ends : going ≡ false → NoneGoesOn asked.ways now.watched
+  pub holds : Holds told_in told asked looks now
 
-module _ {told_in told headers : Bool} {calling : Calling} {ways : Ways} {names : List (List ℕ)}
-    {shows : ℕ → Snapshot} {first : List Slot} where
-  pub one_more : {made : ℕ} {now : ℕ → Snapshot} {old new : FollowState} {seen seen_new : List Snapshot}
-      {watched watched_new : List Watched} {slots slots_new : List Slot} {going : Bool}
-      → now ≡ shows → Progress told_in told calling ways headers names shows first made true old seen watched slots
-      → LooksOn told_in told (now (length seen)) old watched slots new watched_new slots_new
-      → seen_new ≡ seen ++ now (length seen) ∷ [] → ((told calling ways headers names looks first slots watched : _)
-      → Holds true told calling ways headers names looks first new watched slots → going ≡ is_alive ways names looks)
-      → ((told_in told calling ways headers names looks first slots watched : _)
-      → Holds told_in told calling ways headers names looks first new watched slots → 0 < length looks → going ≡ false
-      → NoneGoesOn ways watched) → Progress told_in told calling ways headers names shows first
-      (made + 1) going new seen_new watched_new slots_new
-  one_more {now} {new} {seen} {watched_new} {slots_new} same p looks_on more alive none =
-      let (fates, holds) = looks_on calling ways headers names p.looks first p.holds in
+module _ {told_in told : Bool} {asked : Asked} {shows : ℕ → Snapshot} where
+  pub one_more : {made : ℕ} {now : ℕ → Snapshot} {old : Point} {new : FollowState} {seen seen_new : List Snapshot}
+      {watched : List Watched} {slots : List Slot} {going : Bool}
+      → now ≡ shows → Progress told_in told asked shows made true old seen
+      → LooksOn told_in told (now (length seen)) old (point new watched slots)
+      → seen_new ≡ seen ++ now (length seen) ∷ [] → ((told : Bool) (asked : Asked) (looks : List Look)
+      (watched : List Watched) (slots : List Slot) → Holds true told asked looks (point new watched slots)
+      → going ≡ is_alive asked.ways asked.names looks)
+      → ((told_in told : Bool) (asked : Asked) (looks : List Look) (watched : List Watched) (slots : List Slot)
+      → Holds told_in told asked looks (point new watched slots) → 0 < length looks → going ≡ false
+      → NoneGoesOn asked.ways watched)
+      → Progress told_in told asked shows (made + 1) going (point new watched slots) seen_new
+  one_more {now} {seen} {watched} {slots} same p looks_on more alive none =
+      let (fates, holds) = looks_on asked p.looks p.holds in
       let look : Look = record { snapshot = now (length seen); fates = fates } in record {
         looks = p.looks ++ look ∷ [];
         count = length-append p.looks (look ∷ []) ∙ ap (λ n. n + 1) p.count;
@@ -393,18 +382,16 @@ module _ {told_in told headers : Bool} {calling : Calling} {ways : Ways} {names 
           p.observed,
           p.alive,
         );
-        alive = λ t above. sym (alive told calling ways headers names (p.looks ++ look ∷ []) first slots_new watched_new
-            (rw t at holds));
-        ends = none told_in told calling ways headers names (p.looks ++ look ∷ []) first slots_new watched_new holds
+        alive = λ t above. sym (alive told asked (p.looks ++ look ∷ []) watched slots (rw t at holds));
+        ends = none told_in told asked (p.looks ++ look ∷ []) watched slots holds
             (let long = length-append p.looks (look ∷ []) in omega arith);
         holds = holds;
       }
 
   -- no further look was made: all that were asked for were made, or a further look could give nothing
-  pub ended : {made count : ℕ} {going : Bool} {follow : FollowState} {seen : List Snapshot} {watched : List Watched}
-      {slots : List Slot} → made ≤ count → (made < count → (0 < made) × (going ≡ false))
-      → Progress told_in told calling ways headers names shows first made going follow seen watched slots
-      → LookedAll told_in told calling ways headers names count shows first follow seen watched slots
+  pub ended : {made count : ℕ} {going : Bool} {now : Point} {seen : List Snapshot} → made ≤ count
+      → (made < count → (0 < made) × (going ≡ false)) → Progress told_in told asked shows made going now seen
+      → LookedAll told_in told asked count shows now seen
   ended within over p = let count = p.count in record {
     looks = p.looks;
     observed = p.observed;
@@ -485,12 +472,10 @@ until_last {process} {shows} {now} {made} {count} {seen} is below found gone sam
 
 -- A whole run.
 
-pub ends_by : {told_in told headers : Bool} {calling : Calling} {ways : Ways} {names : List (List ℕ)} {count : ℕ}
-    {shows : ℕ → Snapshot}
-    {first new : List Slot} {seen : List Snapshot} {watched : List Watched} {status : ℕ} (process : Option ℕ)
-    (most : ℕ) → AreMost told_in process shows count most
-    → FollowEndsAs told_in told calling ways headers names most shows first seen watched new status
-    → FollowEndsBy process told_in told calling ways headers names count shows first seen watched new status
+pub ends_by : {told_in told : Bool} {asked : Asked} {count : ℕ} {shows : ℕ → Snapshot} {left : Remains} {status : ℕ}
+    (process : Option ℕ) (most : ℕ) → AreMost told_in process shows count most
+    → FollowEndsAs told_in told asked most shows left status
+    → FollowEndsBy process told_in told asked count shows left status
 ends_by (Some process) most are ends = (most, are, ends)
 ends_by {count} None most are ends = rw (← no_fewer (cases_lt most count)) ends where
   no_fewer : (most < count) ⊎ (count ≤ most) → most ≡ count
@@ -504,14 +489,13 @@ texts_of_new (name ∷ names) = ap (λ rest. name ∷ rest) (texts_of_new names)
 pub open_holds : {told_in told by_name headers : Bool} {calling : Calling} {start : Start} {names : List (List ℕ)}
     {follow : FollowState} {watched : List Watched} {slots : List Slot}
     → follow ≡ opened_follow calling by_name start headers names → watched ≡ []
-    → Holds told_in told calling (ways_of 0 by_name start) headers names [] slots follow watched slots
+    → Holds told_in told (asked_so calling by_name start headers names slots) [] (point follow watched slots)
 open_holds {names} is unwatched = rw is (record {
-  asked = refl;
+  way = refl;
   same = texts_of_new names;
   numbered = λ looking some. refl;
   stand = grind (arith, common_steps, texts_of_new);
   shares = [];
-  are = λ t. refl;
   found = no_looks;
   shared = nothing_shared;
   failed = refl;

@@ -1,24 +1,26 @@
 -- Lemmas on names that are followed as long as they lead to a file: a name that leads nowhere at a look is dropped.
 use Rattle.std.proofs.{
-  Common.{◌≡◌, ◌⊎◌, inl, inr, ℕ, ◌+◌, ◌-◌, ◌≤◌, ◌<◌, zero, suc, Bool, true, false, List, [], ◌∷◌, ◌++◌, Option, Some, None},
-  Common.{refl, sym, ◌∙◌, ap, subst, arith, length, length-append, get_or, is_some, not, ◌&&◌, drop, take},
-  lemmas.{Bool.{cases_lt, false≢true}, Grind.common_steps},
-  Math.{Bool.and-false, Seq.drop-append_seam as drop_front},
+  Common.{◌≡◌, ◌⊎◌, inl, inr, ℕ, ◌+◌, ◌≤◌, ◌<◌, zero, suc, Bool, true, false, List, [], ◌∷◌, ◌++◌, Option, Some},
+  Common.None,
+  Common.{refl, sym, ◌∙◌, ap, arith, length, get_or, is_some},
+  lemmas.{Option.none-some, Bool.{cases_lt, false≢true}},
+  Math.{Bool.and-false},
 }
 use Rattle.watch_core.specs.{
   Snapshot.{Snapshot, Finding, Found, clinging, first_led, forgiving, is_nowhere, leads_to, opens_as, or_else},
   declared.watch.Broken.Broken,
 }
 use Rattle.follow_core.specs.{
-  declared.notice.Notice.{Notice, TheVariants.Inaccessible},
-  Event.{Event, gives, notes},
-  Look.{Fate, Look, Ways, fate_at, failed_by, failed_in, is_dropped, snapshots, sound, unled, unopened, unmeasured},
+  Event.{Event},
+  Look.{Fate, Look, Ways, fate_at, failed_by, failed_in, is_dropped, sound, unled, unopened, unmeasured, is_first},
   Look.{unsought, unread},
-  Reading.{AllGive, AllInsist, AreAtLook, AreFound, IsFound, IsGiven, LeadsNowhere, looks_more, names_more, no_looks, no_names},
-  Share.{Share, opened_in, share_of, shares_at_look, shares_at_look_from, shares_of},
-  Version.open_after_later,
+  Reading.{AllInsist, AreAtLook, AreFound, IsFound, IsGiven, LeadsNowhere, LedTo, LookGives, at_first, at_later},
+  Reading.came_all,
+  Reading.{came_early, looks_more},
+  Reading.{names_more, no_looks, not_asked, not_led, not_opened, not_told, opened_there, unchanged},
+  Share.{Share},
 }
-use Rattle.follow_core.proofs.{LookLemmas.failed_more, RunLemmas.shares_more}
+use Rattle.follow_core.proofs.LookLemmas.{failed_more}
 
 -- a call doesn't find that a name leads nowhere if that makes it fail
 never_nowhere : (snapshot : Snapshot) (name : List ℕ) (finding : Finding) → snapshot.insists ≡ true
@@ -26,83 +28,58 @@ never_nowhere : (snapshot : Snapshot) (name : List ℕ) (finding : Finding) → 
 never_nowhere snapshot name finding insists nowhere found =
     false≢true (sym (and-false (snapshot.finds name finding)) ∙ rw (insists, nowhere) at found)
 
--- what is true of all events is true of the last events
-all_last : (Tells : Notice → Type 0) (Is : List ℕ → Type 0) (events more : List Event)
-    → AllGive Tells Is (events ++ more) → AllGive Tells Is more
-all_last Tells Is [] more all = all
-all_last Tells Is (notes notice ∷ events) more all = all_last Tells Is events more all.1
-all_last Tells Is (gives bytes ∷ events) more all = all_last Tells Is events more all.1
+-- A call on a name fails at a look at which the name leads nowhere.
 
--- A call on a name fails at a look at which the name leads nowhere, if it is the first look or a file was open.
+led_told : (snapshot : Snapshot) {name : List ℕ} {by_name : Bool} {opened : Option ℕ} {reach : Option Fate}
+    {events : List Event} → LedTo true by_name snapshot name opened reach events → reach ≡ Some sound
+    → by_name ≡ true → snapshot.insists ≡ true → snapshot.leads name ≡ None → ⊥
+led_told snapshot (not_asked not_by) is by insists leads = false≢true (sym not_by ∙ by)
+led_told snapshot (not_led by_name can) is by insists leads = absurd (cc)
+led_told snapshot {name} (unchanged by_name saw none) is by insists leads =
+    never_nowhere snapshot name (leads_to None) insists refl (rw (saw.1 refl ∙ leads) at saw.0)
+led_told snapshot (not_told by_name changed) is by insists leads = absurd (cc)
+led_told snapshot (not_opened by_name changed can) is by insists leads = absurd (cc)
+led_told snapshot {name} (opened_there by_name changed saw caught) is by insists leads =
+    never_nowhere snapshot name (leads_to None) insists refl (rw (changed.saw.1 refl ∙ leads) at changed.saw.0)
 
-first_told : (ways : Ways) (look : Look) (place : ℕ) {name : List ℕ} {share : Share}
-    → IsFound [] look.snapshot name (fate_at place look) share → share ≡ share_of ways [] look place name
-    → look.snapshot.leads name ≡ None → fate_at place look ≡ sound → ⊥
-first_told ways look place found is leads fine = absurd (cc (found.failed, rw (fine, leads) at (ap (λ (those : Share). those.failure) is), fine))
+look_told : {ways : Ways} {before : List Look} (snapshot : Snapshot) {name : List ℕ} {reach : Option Fate}
+    {events : List Event} → LookGives true ways before snapshot name reach events → reach ≡ Some sound
+    → ways.by_name ≡ true → snapshot.insists ≡ true → snapshot.leads name ≡ None → ⊥
+look_told snapshot (at_first file saw first) is by insists leads = none-some file (sym leads ∙ sym (saw.1 refl))
+look_told snapshot (at_later opened seen long (came_early early caught)) is by insists leads = early is
+look_told snapshot (at_later opened seen long (came_all came led)) is by insists leads =
+    led_told snapshot led is by insists leads
 
-later_told : (ways : Ways) (look : Look) (place : ℕ) {first : Look} {looks : List Look} {file : ℕ} {name : List ℕ}
-    {share : Share}
-    → IsFound (first ∷ looks) look.snapshot name (fate_at place look) share
-    → share ≡ share_of ways (first ∷ looks) look place name → is_dropped place (first ∷ looks) ≡ false
-    → ways.by_name ≡ true → look.snapshot.insists ≡ true → look.snapshot.leads name ≡ None
-    → opened_in ways name (first ∷ looks) ≡ Some file → fate_at place look ≡ sound → ⊥
-later_told ways look place {name} found is kept by insists leads opened fine =
-    let told = all_last _ _ _ (notes Inaccessible ∷ []) (rw (is, kept, fine, opened, by, leads) at found.events) in
-    never_nowhere look.snapshot name (leads_to None) insists refl told.0.4.1
+found_sound : (ways : Ways) (before : List Look) (look : Look) (place : ℕ) {name : List ℕ} {share : Share}
+    → IsFound true ways before look.snapshot name (fate_at place look) share → ways.by_name ≡ true
+    → look.snapshot.insists ≡ true → look.snapshot.leads name ≡ None → fate_at place look ≡ sound → ⊥
+found_sound ways before look place found by insists leads fine = elim found.events [
+  | inl (first, other, none) ↦ absurd (cc)
+  | inr shown ↦ look_told look.snapshot shown (ap Some fine) by insists leads
+]
 
 -- A name that leads nowhere and wasn't dropped breaks at such a look.
 
 given_sound : (ways : Ways) (before : List Look) (look : Look) (place : ℕ) {name : List ℕ} {share : Share}
-    → IsGiven before look place name share → share ≡ share_of ways before look place name
-    → ways.by_name ≡ true → look.snapshot.insists ≡ true → look.snapshot.leads name ≡ None
-    → is_dropped place before ≡ false
-    → ((before ≡ []) ⊎ ((file : ℕ) × (opened_in ways name before ≡ Some file))) → fate_at place look ≡ sound → ⊥
-given_sound ways before look place (inl dropped) is by insists leads kept there fine = false≢true (sym kept ∙ dropped.0)
-given_sound ways before look place {name} (inr (_, inr missing)) is by insists leads kept there fine =
-    never_nowhere look.snapshot name (opens_as None) insists refl missing.nowhere
-given_sound ways [] look place (inr (_, inl found)) is by insists leads kept there fine = first_told ways look place found is leads fine
-given_sound ways (first ∷ looks) look place (inr (_, inl found)) is by insists leads kept (inl none) fine = absurd (cc)
-given_sound ways (first ∷ looks) look place (inr (_, inl found)) is by insists leads kept (inr (file, opened)) fine =
-    later_told ways look place found is kept by insists leads opened fine
+    → IsGiven true ways before look place name share → ways.by_name ≡ true → look.snapshot.insists ≡ true
+    → look.snapshot.leads name ≡ None → is_dropped place before ≡ false → fate_at place look ≡ sound → ⊥
+given_sound ways before look place given by insists leads kept fine = elim given.found [
+  | inl (dropped, none) ↦ false≢true (sym kept ∙ dropped)
+  | inr (held, inr missing) ↦ never_nowhere look.snapshot _ (opens_as None) insists refl missing.nowhere.0
+  | inr (held, inl found) ↦ found_sound ways before look place found by insists leads fine
+]
 
 among_sound : (ways : Ways) (before : List Look) (look : Look) (from : ℕ) (names : List (List ℕ)) {shares : List Share}
-    → AreAtLook before look from names shares → shares ≡ shares_at_look_from ways before look from names
-    → ways.by_name ≡ true → look.snapshot.insists ≡ true → (place : ℕ) → place < length names
-    → look.snapshot.leads (get_or names place []) ≡ None → is_dropped (from + place) before ≡ false
-    → ((before ≡ []) ⊎ ((file : ℕ) × (opened_in ways (get_or names place []) before ≡ Some file)))
-    → fate_at (from + place) look ≡ sound → ⊥
-among_sound ways before look from [] given is by insists place within leads kept there fine = absurd (omega arith)
-among_sound ways before look from (name ∷ names) (names_more given rest) is by insists zero within leads kept there fine =
+    → AreAtLook true ways before look from names shares → ways.by_name ≡ true → look.snapshot.insists ≡ true
+    → (place : ℕ) → place < length names → look.snapshot.leads (get_or names place []) ≡ None
+    → is_dropped (from + place) before ≡ false → fate_at (from + place) look ≡ sound → ⊥
+among_sound ways before look from [] given by insists place within leads kept fine = absurd (omega arith)
+among_sound ways before look from (name ∷ names) (names_more given rest) by insists zero within leads kept fine =
     let at : from + 0 ≡ from = omega arith in
-    given_sound ways before look from given (cc) by insists leads (rw at at kept) there (rw at at fine)
-among_sound ways before look from (name ∷ names) (names_more given rest) is by insists (suc place) within leads kept there fine =
+    given_sound ways before look from given by insists leads (rw at at kept) (rw at at fine)
+among_sound ways before look from (name ∷ names) (names_more given rest) by insists (suc place) within leads kept fine =
     let at : from + suc place ≡ from + 1 + place = omega arith in
-    among_sound ways before look (from + 1) names rest (cc) by insists place (omega arith) leads (rw at at kept) there (rw at at fine)
-
--- What each look gives, if what all looks give is known.
-
-at_look_many : {before : List Look} {look : Look} {from : ℕ} {names : List (List ℕ)} {shares : List Share}
-    → AreAtLook before look from names shares → length shares ≡ length names
-at_look_many no_names = refl
-at_look_many (names_more given rest) = ap suc (at_look_many rest)
-
-of_look_many : (ways : Ways) (before : List Look) (look : Look) (from : ℕ) (names : List (List ℕ))
-    → length (shares_at_look_from ways before look from names) ≡ length names
-of_look_many ways before look from [] = refl
-of_look_many ways before look from (name ∷ names) = ap suc (of_look_many ways before look (from + 1) names)
-
--- two equal lists in two parts each have the same parts, if their second parts are equally long
-parts_same : {X : Type 0} (one two more rest : List X) → one ++ more ≡ two ++ rest → length more ≡ length rest
-    → (one ≡ two) × (more ≡ rest)
-parts_same [] [] more rest is long = (refl, is)
-parts_same [] (x ∷ two) more rest is long =
-    absurd (let all : length more ≡ suc (length (two ++ rest)) = ap length is in
-    let both = length-append two rest in omega arith)
-parts_same (x ∷ one) [] more rest is long =
-    absurd (let all : suc (length (one ++ more)) ≡ length rest = ap length is in
-    let both = length-append one more in omega arith)
-parts_same (x ∷ one) (y ∷ two) more rest is long =
-    let same = parts_same one two more rest (cc) long in (cc, same.1)
+    among_sound ways before look (from + 1) names rest by insists place (omega arith) leads (rw at at kept) (rw at at fine)
 
 -- A name that was dropped stays dropped.
 
@@ -152,50 +129,31 @@ insist_before : (looks : List Look) (look : Look) → AllInsist (looks ++ look �
 insist_before [] look all = (tt, all.0)
 insist_before (first ∷ looks) look all = let rest = insist_before looks look all.1 in ((all.0, rest.0), rest.1)
 
--- A name that led to a file at each look has its file open.
-
-led_open : {name : List ℕ} (first : Look) (looks : List Look) → (LeadsNowhere name (first ∷ looks) → ⊥)
-    → (file : ℕ) × (open_after_later true name (first.snapshot.leads name) (snapshots looks) ≡ Some file)
-led_open {name} first [] there = by (first.snapshot.leads name) refl where
-  by : (led : Option ℕ) → first.snapshot.leads name ≡ led → (file : ℕ) × (led ≡ Some file)
-  by None is = absurd (there (inl is))
-  by (Some file) is = (file, refl)
-led_open first (next ∷ looks) there = led_open next looks (λ nowhere. there (inr nowhere))
-
-opened_there : (ways : Ways) (name : List ℕ) (looks : List Look) → ways.by_name ≡ true → (LeadsNowhere name looks → ⊥)
-    → (looks ≡ []) ⊎ ((file : ℕ) × (opened_in ways name looks ≡ Some file))
-opened_there ways name [] by there = inl refl
-opened_there ways name (first ∷ looks) by there = inr (rw by (led_open first looks there))
-
 -- after one look more, a name that led nowhere at any of the looks is dropped
 one_more_go : (ways : Ways) (names : List (List ℕ)) (before : List Look) (look : Look) {more : List Share}
-    → AreAtLook before look ways.first names more → more ≡ shares_at_look ways names before look → ways.by_name ≡ true
-    → look.snapshot.insists ≡ true → (place : ℕ) → place < length names
+    → AreAtLook true ways before look ways.first names more → ways.by_name ≡ true → look.snapshot.insists ≡ true → (place : ℕ) → place < length names
     → (LeadsNowhere (get_or names place []) before → is_dropped (ways.first + place) before ≡ true)
     → LeadsNowhere (get_or names place []) (before ++ look ∷ []) → (dropped : Bool)
     → is_dropped (ways.first + place) before ≡ dropped → is_dropped (ways.first + place) (before ++ look ∷ []) ≡ true
-one_more_go ways names before look at_look is by insists place within so_far nowhere true was =
+one_more_go ways names before look at_look by insists place within so_far nowhere true was =
     still_dropped (ways.first + place) before look was
-one_more_go ways names before look at_look is by insists place within so_far nowhere false was =
+one_more_go ways names before look at_look by insists place within so_far nowhere false was =
     let there : LeadsNowhere (get_or names place []) before → ⊥ = λ missing. false≢true (sym was ∙ so_far missing) in
     elim (nowhere_before before look nowhere) [
       | inl missing ↦ absurd (there missing)
       | inr leads ↦ now_dropped (ways.first + place) before look was
-          (among_sound ways before look ways.first names at_look is by insists place within leads was
-          (opened_there ways (get_or names place []) before by there))
+          (among_sound ways before look ways.first names at_look by insists place within leads was)
     ]
 
 pub names_go : (ways : Ways) (names : List (List ℕ)) (looks : List Look) (shares : List Share)
-    → AreFound ways names looks shares → shares ≡ shares_of ways names looks → ways.by_name ≡ true → AllInsist looks
+    → AreFound true ways names looks shares → ways.by_name ≡ true → AllInsist looks
     → (place : ℕ) → place < length names → LeadsNowhere (get_or names place []) looks
     → is_dropped (ways.first + place) looks ≡ true
-names_go ways names looks shares no_looks is by insist place within nowhere = absurd nowhere
-names_go ways names looks shares (looks_more {looks = before} {look} {shares = given} {more} found at_look) is by insist place within nowhere =
+names_go ways names looks shares no_looks by insist place within nowhere = absurd nowhere
+names_go ways names looks shares (looks_more {looks = before} {look} {shares = given} found at_look) by insist place within nowhere =
     let insisted = insist_before before look insist in
-    let parts = parts_same given (shares_of ways names before) more (shares_at_look ways names before look)
-    (is ∙ shares_more ways names before look) (at_look_many at_look ∙ sym (of_look_many ways before look ways.first names)) in
-    one_more_go ways names before look at_look parts.1 by insisted.1 place within
-    (names_go ways names before given found parts.0 by insisted.0 place within) nowhere (is_dropped (ways.first + place) before) refl
+    one_more_go ways names before look at_look by insisted.1 place within
+    (names_go ways names before given found by insisted.0 place within) nowhere (is_dropped (ways.first + place) before) refl
 
 -- If looks cling, the first file stays.
 

@@ -2,7 +2,7 @@
 use Rattle.std.{
   proofs.lemmas.Grind.common_steps,
   proofs.Math.{Seq.drop-append_seam as drop_front, Bool.or_assoc},
-  proofs.Common.{◌≡◌, ℕ, Bool, true, false, List, [], ◌∷◌, ◌++◌, refl, sym, append_assoc, append-nil, Option, ◌||◌},
+  proofs.Common.{◌≡◌, ℕ, Bool, true, false, List, [], ◌∷◌, ◌++◌, refl, sym, append_assoc, append-nil, Option, ◌||◌, ◌∙◌},
   proofs.Common.{arith, is_some},
 }
 use Rattle.ports_core.specs.Part.{IsBeginning}
@@ -11,7 +11,8 @@ use Rattle.follow_core.specs.{
   Run.{goes_on, runs_of, last_contents, whole_text, name_text, KeptFrom, AreKept},
   Gain.{gains_later, last_from, gains_after},
   Look.{Ways, Look},
-  Share.{Share, shares_of, shares_from, shares_at_look},
+  Reading.{AreAtLook, AreFound, looks_more, names_more, no_looks, no_names},
+  Share.{Share, shares_of, shares_from, shares_at_look, shares_at_look_from},
   Followed.{text_from, share_text, header_after, last_header_from, messages_of, any_failed},
 }
 use Rattle.watch_core.specs.Snapshot.{Snapshot}
@@ -121,6 +122,18 @@ shares_from-append ways names before (next ∷ looks) look =
 pub shares_more : (ways : Ways) (names : List (List ℕ)) (looks : List Look) (look : Look)
     → shares_of ways names (looks ++ look ∷ []) ≡ shares_of ways names looks ++ shares_at_look ways names looks look
 shares_more ways names looks look = shares_from-append ways names [] looks look
+
+at_look_are : {ways : Ways} {before : List Look} {look : Look} {from : ℕ} {names : List (List ℕ)} {shares : List Share}
+    → AreAtLook true ways before look from names shares → shares ≡ shares_at_look_from ways before look from names
+at_look_are no_names = refl
+at_look_are (names_more given rest) = λ i. given.is refl i ∷ at_look_are rest i
+
+-- if what looks see is visible, their snapshots and fates decide what they give
+pub found_are : (ways : Ways) (names : List (List ℕ)) (looks : List Look) (shares : List Share)
+    → AreFound true ways names looks shares → shares ≡ shares_of ways names looks
+found_are ways names looks shares no_looks = refl
+found_are ways names looks shares (looks_more {looks = before} {look} {shares = given} found at_look) =
+    (λ i. found_are ways names before given found i ++ at_look_are at_look i) ∙ sym (shares_more ways names before look)
 
 pub text-append : (headers : Bool) (last : Option (List ℕ)) (shares more : List Share)
     → text_from headers last (shares ++ more)

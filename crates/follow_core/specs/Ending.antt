@@ -17,10 +17,10 @@ use Rattle.watch_core.specs.{Snapshot.{Snapshot, clinging, forgiving, insisting}
 use Rattle.follow_core.specs.{
   declared.run.Method.{Method, TheVariants.{Descriptor, Name, PresentName, FirstFile}},
   Followed.{Followed, made_of},
-  FollowState.{Halted, SawOrNot, is_alive},
+  FollowState.{Asked, Halted, SawOrNot, is_alive},
   Look.{Look, Ways, snapshots},
   Reading.AreFound,
-  Share.{Share, shares_of},
+  Share.Share,
   Sharing.Wrote,
   Standing.{AreWatched, NoneGoesOn},
   Telling.tail_by,
@@ -55,16 +55,24 @@ pub record Made (told_in : Bool) (ways : Ways) (names : List (List ℕ)) (shows 
   pub saw : snapshots looks ≡ seen_first shows (length looks)
   pub alive : told_in ≡ true → (n : ℕ) → 0 < n → n < length looks → is_alive ways names (take n looks) ≡ true
 
+-- what a run of following leaves: what its looks saw, the watched names, and the outputs
+pub record Remains : Type 0 where
+  pub seen : List Snapshot
+  pub watched : List Watched
+  pub slots : List Slot
+
+abbrev pub remains : List Snapshot → List Watched → List Slot → Remains
+remains seen watched slots = record { seen = seen; watched = watched; slots = slots }
+
 -- Some looks were made, the next look was stopped by a fault, and no other look was made.
-pub record StoppedIn (told_in told : Bool) (calling : Calling) (ways : Ways) (headers : Bool)
-    (names : List (List ℕ)) (count : ℕ) (shows : ℕ → Snapshot) (first : List Slot) (seen : List Snapshot)
-    (watched : List Watched) (slots : List Slot) (why : Fault) : Type 0 where
+pub record StoppedIn (told_in told : Bool) (asked : Asked) (count : ℕ) (shows : ℕ → Snapshot) (left : Remains)
+    (why : Fault) : Type 0 where
   pub looks : List Look
-  pub saw : SawOrNot (snapshots looks) (shows (length looks)) seen
-  pub made : Made told_in ways names shows looks
+  pub saw : SawOrNot (snapshots looks) (shows (length looks)) left.seen
+  pub made : Made told_in asked.ways asked.names shows looks
   pub within : length looks < count
-  pub alive : told_in ≡ true → 0 < length looks → is_alive ways names looks ≡ true
-  pub halted : Halted told_in told calling ways headers names looks (shows (length looks)) first watched slots why
+  pub alive : told_in ≡ true → 0 < length looks → is_alive asked.ways asked.names looks ≡ true
+  pub halted : Halted told_in told asked looks (shows (length looks)) left.watched left.slots why
 
 -- the outputs got all text and all messages, and the status is 1 if anything failed, and 0 otherwise
 pub record Leaves (told : Bool) (calling : Calling) (followed : Followed) (first new : List Slot)
@@ -97,39 +105,36 @@ pub record AreMost (told_in : Bool) (process : Option ℕ) (shows : ℕ → Snap
 -- its own name. Or `tail` was called by its own name, and before a look that could give something nobody read standard
 -- output any more; it has exactly what the looks before give, and nothing is reported. Or there was no memory to begin;
 -- that is reported, and no look was made.
-pub data FollowEndsAs (told_in told : Bool) (calling : Calling) (ways : Ways) (headers : Bool)
-    (names : List (List ℕ)) (count : ℕ) (shows : ℕ → Snapshot) (first : List Slot) (seen : List Snapshot)
-    (watched : List Watched) (new : List Slot) (status : ℕ) : Type 0 where
-  looked : (looks : List Look) (shares : List Share) → seen ≡ snapshots looks → AreWatched ways looks names watched
-      → Made told_in ways names shows looks → length looks ≤ count
-      → (length looks < count → (0 < length looks) × (told_in ≡ true → is_alive ways names looks ≡ false)
-      × NoneGoesOn ways watched)
-      → (told_in ≡ true → shares ≡ shares_of ways names looks) → AreFound ways names looks shares
-      → Leaves told calling (made_of headers shares) first new status
-      → FollowEndsAs told_in told calling ways headers names count shows first seen watched new status
+pub data FollowEndsAs (told_in told : Bool) (asked : Asked) (count : ℕ) (shows : ℕ → Snapshot) (left : Remains)
+    (status : ℕ) : Type 0 where
+  looked : (looks : List Look) (shares : List Share) → left.seen ≡ snapshots looks
+      → AreWatched asked.ways looks asked.names left.watched → Made told_in asked.ways asked.names shows looks
+      → length looks ≤ count → (length looks < count → (0 < length looks)
+      × (told_in ≡ true → is_alive asked.ways asked.names looks ≡ false) × NoneGoesOn asked.ways left.watched)
+      → AreFound told_in asked.ways asked.names looks shares
+      → Leaves told asked.calling (made_of asked.headers shares) asked.first left.slots status
+      → FollowEndsAs told_in told asked count shows left status
   stopped : (mid : List Slot) (fault : Fault)
-      → StoppedIn told_in told calling ways headers names count shows first seen watched mid fault
-      → TellsOn told (tail_by calling) fault mid new → status ≡ status_after fault calling (output_reason mid fault)
-      → FollowEndsAs told_in told calling ways headers names count shows first seen watched new status
-  unread : (looks : List Look) (shares : List Share) (before : List Slot) → calling ≡ OwnName
-      → seen ≡ snapshots looks → AreWatched ways looks names watched
-      → Made told_in ways names shows looks → length looks < count
-      → (told_in ≡ true → 0 < length looks → is_alive ways names looks ≡ true)
-      → (told_in ≡ true → shares ≡ shares_of ways names looks) → AreFound ways names looks shares
-      → Wrote told calling (made_of headers shares).out (made_of headers shares).messages first before
-      → new ≡ with_broken Gone 0 before → status ≡ 141
-      → FollowEndsAs told_in told calling ways headers names count shows first seen watched new status
-  no_room : (why : Reason) → seen ≡ [] → watched ≡ []
-      → SaysOn told (tail_by calling) why (message_of Memory []) first new
-      → status ≡ 1 → FollowEndsAs told_in told calling ways headers names count shows first seen watched new
-      status
+      → StoppedIn told_in told asked count shows (record left { slots = mid }) fault
+      → TellsOn told (tail_by asked.calling) fault mid left.slots
+      → status ≡ status_after fault asked.calling (output_reason mid fault)
+      → FollowEndsAs told_in told asked count shows left status
+  unread : (looks : List Look) (shares : List Share) (before : List Slot) → asked.calling ≡ OwnName
+      → left.seen ≡ snapshots looks → AreWatched asked.ways looks asked.names left.watched
+      → Made told_in asked.ways asked.names shows looks → length looks < count
+      → (told_in ≡ true → 0 < length looks → is_alive asked.ways asked.names looks ≡ true)
+      → AreFound told_in asked.ways asked.names looks shares
+      → Wrote told asked.calling (made_of asked.headers shares).out (made_of asked.headers shares).messages asked.first
+      before
+      → left.slots ≡ with_broken Gone 0 before → status ≡ 141
+      → FollowEndsAs told_in told asked count shows left status
+  no_room : (why : Reason) → left.seen ≡ [] → left.watched ≡ []
+      → SaysOn told (tail_by asked.calling) why (message_of Memory []) asked.first left.slots → status ≡ 1
+      → FollowEndsAs told_in told asked count shows left status
 
 -- how a run ends if it ends with this process, or if no process is given
-abbrev pub FollowEndsBy : Option ℕ → (told_in told : Bool) → Calling → Ways → Bool → List (List ℕ) → (count : ℕ)
-    → (ℕ → Snapshot) → List Slot → List Snapshot → List Watched → List Slot
+abbrev pub FollowEndsBy : Option ℕ → (told_in told : Bool) → Asked → (count : ℕ) → (ℕ → Snapshot) → Remains
     → (status : ℕ) → Type 0
-FollowEndsBy None told_in told calling ways headers names count shows first seen watched new status =
-    FollowEndsAs told_in told calling ways headers names count shows first seen watched new status
-FollowEndsBy (Some process) told_in told calling ways headers names count shows first seen watched new status =
-    (most : ℕ) × AreMost told_in (Some process) shows count most
-    × FollowEndsAs told_in told calling ways headers names most shows first seen watched new status
+FollowEndsBy None told_in told asked count shows left status = FollowEndsAs told_in told asked count shows left status
+FollowEndsBy (Some process) told_in told asked count shows left status = (most : ℕ)
+    × AreMost told_in (Some process) shows count most × FollowEndsAs told_in told asked most shows left status

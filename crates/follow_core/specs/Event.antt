@@ -1,11 +1,12 @@
 -- What a look gives for a name, step by step: lines that report what it found, and bytes.
-use Rattle.std.specs.Prelude.{ℕ, ◌-◌, List, [], ◌∷◌, ◌++◌, length, map, take}
+use Rattle.std.specs.Prelude.{ℕ, ◌-◌, List, [], ◌∷◌, ◌++◌, Option, Some, None, drop, length, take, is_some, nat_lt}
+use Rattle.std.specs.Prelude.{if◌then◌else◌}
 use Rattle.ports_core.specs.Part.{IsBeginning}
+use Rattle.watch_core.specs.Snapshot.{Snapshot}
 use Rattle.follow_core.specs.{
-  declared.notice.Notice.Notice,
-  Gain.gain_between,
-  Notice.{notice_of, notices_between},
-  Version.{Entry, version, gap},
+  declared.notice.Notice.{Notice, TheVariants.{Truncated, Replaced, Inaccessible, Appeared}},
+  Notice.notice_of,
+  Version.is_file,
 }
 
 pub data Event : Type 0 where
@@ -26,15 +27,37 @@ lines_in name [] = []
 lines_in name (notes notice ∷ events) = notice_of notice name ∷ lines_in name events
 lines_in name (gives bytes ∷ events) = lines_in name events
 
--- What an entry gives after the entry before it: first lines that report what changed, then the bytes that it adds.
-abbrev pub events_between : Entry → Entry → List Event
-events_between last gap = map (λ notice. notes notice) (notices_between last gap)
-events_between last (version v) = map (λ notice. notes notice) (notices_between last (version v))
-    ++ gives (gain_between last (version v)) ∷ []
+-- the line that an open file is shorter than what was seen of it, if it is
+abbrev pub notes_past : (seen len : ℕ) → List Event
+notes_past seen len = if nat_lt len seen then notes Truncated ∷ [] else []
 
-abbrev pub events_later : Entry → List Entry → List Event
-events_later last [] = []
-events_later last (entry ∷ entries) = events_between last entry ++ events_later entry entries
+-- what changed, if the first file is open and the name leads to the second
+abbrev pub change_between : Option ℕ → Option ℕ → Option Notice
+change_between None None = None
+change_between (Some opened) None = Some Inaccessible
+change_between opened (Some file) = if is_file file opened then None
+    else Some (if is_some opened then Replaced else Appeared)
+
+-- where bytes of a file of this length begin that are due, if this many were seen: past these, or at the front of a
+-- file that is shorter
+abbrev pub due_from : (seen len : ℕ) → ℕ
+due_from seen len = if nat_lt len seen then 0 else seen
+
+-- what came of the open file, if this many bytes of it were seen: if it is shorter now, a line that says so
+abbrev pub came_of : Snapshot → (opened : Option ℕ) → (seen : ℕ) → List Event
+came_of snapshot None seen = []
+came_of snapshot (Some file) seen = notes_past seen (length (snapshot.holds file))
+    ++ gives (drop (due_from seen (length (snapshot.holds file))) (snapshot.holds file)) ∷ []
+
+-- all that a file holds
+abbrev pub all_held : Snapshot → Option ℕ → List Event
+all_held snapshot None = []
+all_held snapshot (Some file) = gives (snapshot.holds file) ∷ []
+
+-- these events after a line about a change; nothing if nothing changed
+abbrev pub after_change : Option Notice → List Event → List Event
+after_change None events = []
+after_change (Some notice) events = notes notice ∷ events
 
 -- the lines before the first bytes
 abbrev pub notes_in : List Event → List Event

@@ -17,7 +17,7 @@ use Rattle.follow_core.specs.{
   Sharing.{CanPrint, AllShared, AllShort},
   Followed.any_failed,
   Look.{Fate, Look, Ways, is_dropped, snapshots, ways_of},
-  Share.{BeginsShare, Share, share_of, shares_at_look_from, shares_of},
+  Share.{BeginsShare, Share, share_of},
   Printing.{PrinterState, fresh_printer},
   Reading.{AreAtLook, AreFound, IsBegun},
   Standing.{AllStand, AreWatched, CanVisit, NameState, state_at, texts},
@@ -81,20 +81,45 @@ StandsIn told ways looks names watched Looking = AllStand told ways looks names 
     × (length watched ≡ ways.first + length names)
 StandsIn told ways looks names watched Over = ⊥
 
--- These looks at these names were made. Since the outputs were as in `first`, they got exactly what the looks give.
--- Even if what looks see isn't visible, they give what their calls found.
-pub record Holds (told_in told : Bool) (calling : Calling) (ways : Ways) (headers : Bool) (names : List (List ℕ))
-    (looks : List Look)
-    (first : List Slot) (follow : FollowState) (watched : List Watched) (slots : List Slot) : Type 0 where
-  pub asked : ways ≡ ways_of ways.first follow.by_name follow.start
-  pub same : texts follow.names ≡ names
-  pub numbered : follow.phase ≡ Looking → 0 < length names → follow.first ≡ ways.first
-  pub stand : StandsIn told_in ways looks follow.names watched follow.phase
+-- What is asked of following: how `tail` was called, how these names are followed, and whether headers are written; and
+-- the outputs as they were before.
+pub record Asked : Type 0 where
+  pub calling : Calling
+  pub ways : Ways
+  pub headers : Bool
+  pub names : List (List ℕ)
+  pub first : List Slot
+
+-- what is asked by following these names so, from where the outputs are as they are in `first`
+abbrev pub asked_so : Calling → (by_name : Bool) → Start → (headers : Bool) → List (List ℕ) → (first : List Slot) → Asked
+asked_so calling by_name start headers names first = record {
+  calling = calling;
+  ways = ways_of 0 by_name start;
+  headers = headers;
+  names = names;
+  first = first;
+}
+
+-- following at one moment, with the names that are watched and the outputs
+pub record Point : Type 0 where
+  pub follow : FollowState
+  pub watched : List Watched
+  pub slots : List Slot
+
+abbrev pub point : FollowState → List Watched → List Slot → Point
+point follow watched slots = record { follow = follow; watched = watched; slots = slots }
+
+-- These looks were made. The outputs got exactly what the looks give. Even if what looks see isn't visible, they give
+-- what their calls found.
+pub record Holds (told_in told : Bool) (asked : Asked) (looks : List Look) (now : Point) : Type 0 where
+  pub way : asked.ways ≡ ways_of asked.ways.first now.follow.by_name now.follow.start
+  pub same : texts now.follow.names ≡ asked.names
+  pub numbered : now.follow.phase ≡ Looking → 0 < length asked.names → now.follow.first ≡ asked.ways.first
+  pub stand : StandsIn told_in asked.ways looks now.follow.names now.watched now.follow.phase
   pub shares : List Share
-  pub are : told_in ≡ true → shares ≡ shares_of ways names looks
-  pub found : AreFound ways names looks shares
-  pub shared : AllShared told (fresh_printer calling headers) shares first follow.printer slots
-  pub failed : any_failed shares ≡ follow.has_failed
+  pub found : AreFound told_in asked.ways asked.names looks shares
+  pub shared : AllShared told (fresh_printer asked.calling asked.headers) shares asked.first now.follow.printer now.slots
+  pub failed : any_failed shares ≡ now.follow.has_failed
 
 -- What a look that was stopped gave: nothing; or it came to the name at a place. There are fates for the names before
 -- this place, and no call on this name or a later name failed. The names before it have all that the look gives them,
@@ -106,10 +131,9 @@ pub data Begun (told_in : Bool) (ways : Ways) (names : List (List ℕ)) (looks :
   up_to : (fates : List Fate) (place : ℕ) (shares : List Share) (share : Share)
       → length fates ≡ ways.first + place → place < length names
       → AreWatched ways (looks ++ record { snapshot = snapshot; fates = fates } ∷ []) names watched
-      → (told_in ≡ true → shares ≡ shares_at_look_from ways looks (record { snapshot = snapshot; fates = fates })
-      ways.first (take place names))
-      → AreAtLook looks (record { snapshot = snapshot; fates = fates }) ways.first (take place names) shares
-      → IsBegun looks snapshot (slice_index_or names place []) share
+      → AreAtLook told_in ways looks (record { snapshot = snapshot; fates = fates }) ways.first (take place names)
+      shares
+      → IsBegun told_in ways looks snapshot (slice_index_or names place []) share
       → (told_in ≡ true → BeginsShare share
       (share_of ways looks (record { snapshot = snapshot; fates = fates }) (ways.first + place)
       (slice_index_or names place [])))
@@ -117,19 +141,16 @@ pub data Begun (told_in : Bool) (ways : Ways) (names : List (List ℕ)) (looks :
 
 -- Following ended in the look after these, at one name. The outputs got all that these looks give, all that this look
 -- gives for the names before that name, and a beginning of what it gives for that name.
-pub record Halted (told_in told : Bool) (calling : Calling) (ways : Ways) (headers : Bool) (names : List (List ℕ))
-    (looks : List Look)
-    (snapshot : Snapshot) (first : List Slot) (watched : List Watched) (slots : List Slot)
-    (why : Fault) : Type 0 where
+pub record Halted (told_in told : Bool) (asked : Asked) (looks : List Look) (snapshot : Snapshot)
+    (watched : List Watched) (slots : List Slot) (why : Fault) : Type 0 where
   pub shares : List Share
-  pub are : told_in ≡ true → shares ≡ shares_of ways names looks
-  pub found : AreFound ways names looks shares
+  pub found : AreFound told_in asked.ways asked.names looks shares
   pub whole : List Share
   pub part : List Share
-  pub begun : Begun told_in ways names looks snapshot watched whole part
+  pub begun : Begun told_in asked.ways asked.names looks snapshot watched whole part
   pub printer : PrinterState
   pub reached : List Slot
-  pub shared : AllShared told (fresh_printer calling headers) (shares ++ whole) first printer reached
+  pub shared : AllShared told (fresh_printer asked.calling asked.headers) (shares ++ whole) asked.first printer reached
   pub short : AllShort told printer part reached slots why
 
 -- why a look was stopped: there was no memory, or standard output broke in it, or following was over before
@@ -143,21 +164,14 @@ abbrev pub SawOrNot : List Snapshot → Snapshot → List Snapshot → Type 0
 SawOrNot seen snapshot seen_new = (seen_new ≡ seen) ⊎ (seen_new ≡ seen ++ snapshot ∷ [])
 
 -- whatever looks were made before, one more look was made, which saw this
-abbrev pub LooksOn : (told_in told : Bool) → Snapshot → FollowState → List Watched → List Slot → FollowState
-    → List Watched → List Slot → Type 0
-LooksOn told_in told snapshot old watched slots new watched_new slots_new =
-    (calling : Calling) (ways : Ways) (headers : Bool) (names : List (List ℕ)) (looks : List Look) (first : List Slot)
-    → Holds told_in told calling ways headers names looks first old watched slots
-    → (fates : List Fate) × Holds told_in told calling ways headers names
-    (looks ++ record { snapshot = snapshot; fates = fates } ∷ []) first new watched_new slots_new
+abbrev pub LooksOn : (told_in told : Bool) → Snapshot → (old new : Point) → Type 0
+LooksOn told_in told snapshot old new = (asked : Asked) (looks : List Look) → Holds told_in told asked looks old
+    → (fates : List Fate) × Holds told_in told asked (looks ++ record { snapshot = snapshot; fates = fates } ∷ []) new
 
 -- whatever looks were made before, the next look was stopped
-abbrev pub StopsOn : (told_in told : Bool) → Snapshot → FollowState → List Watched → List Slot → List Watched
-    → List Slot → Fault → Type 0
-StopsOn told_in told snapshot old watched slots watched_new slots_new why =
-    (calling : Calling) (ways : Ways) (headers : Bool) (names : List (List ℕ)) (looks : List Look) (first : List Slot)
-    → Holds told_in told calling ways headers names looks first old watched slots
-    → Halted told_in told calling ways headers names looks snapshot first watched_new slots_new why
+abbrev pub StopsOn : (told_in told : Bool) → Snapshot → Point → List Watched → List Slot → Fault → Type 0
+StopsOn told_in told snapshot old watched slots why = (asked : Asked) (looks : List Look)
+    → Holds told_in told asked looks old → Halted told_in told asked looks snapshot watched slots why
 
 -- whether the name of this number goes on: it wasn't dropped, and it is followed by name or a file of it is open
 abbrev pub goes_on_at : Ways → List Look → ℕ → List ℕ → Bool

@@ -1,5 +1,5 @@
 -- What each entry adds to the text of a name, by the entry before it.
-use Rattle.std.specs.Prelude.{ℕ, List, [], ◌∷◌, ◌++◌, Option, Some, None, length, drop, if◌then◌else◌}
+use Rattle.std.specs.Prelude.{ℕ, List, [], ◌∷◌, ◌++◌, length, drop, if◌then◌else◌}
 use Rattle.follow_core.specs.{Version.{Entry, version, gap}, Run.goes_on}
 
 abbrev pub gain_between : Entry → Entry → List ℕ
@@ -26,18 +26,3 @@ abbrev pub gains_after : (List ℕ → List ℕ) → List Entry → List Entry �
 gains_after start [] [] = []
 gains_after start [] (entry ∷ entries) = started start entry ++ gains_later entry entries
 gains_after start (entry ∷ before) entries = gains_later (last_from entry before) entries
-
--- the last entry; before the first look a gap
-abbrev pub last_of : List Entry → Entry
-last_of [] = gap
-last_of (entry ∷ entries) = last_from entry entries
-
--- the file that is open after an entry
-abbrev pub file_of : Entry → Option ℕ
-file_of gap = None
-file_of (version v) = Some v.file
-
--- how many bytes of the file were seen
-abbrev pub seen_length : Entry → ℕ
-seen_length gap = 0
-seen_length (version v) = length v.contents

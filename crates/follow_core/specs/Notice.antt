@@ -1,10 +1,9 @@
 -- What is told of a name from look to look.
-use Rattle.std.specs.Prelude.{ℕ, ◌==◌, Bool, true, false, List, [], ◌∷◌, ◌++◌, codes, if◌then◌else◌}
+use Rattle.std.specs.Prelude.{ℕ, Bool, true, false, List, [], ◌∷◌, ◌++◌, codes}
 use Rattle.ports_core.specs.{Text.{in_quotes, tool_name}, declared.tool.Tool.TheVariants.Tail}
 use Rattle.follow_core.specs.{
   declared.notice.Notice.{Notice, TheVariants.{Truncated, Replaced, Inaccessible, Appeared}},
   Version.{Entry, version, gap},
-  Run.goes_on,
   Title.title,
 }
 
@@ -21,15 +20,6 @@ line_of words name = tool_name Tail ++ codes ": " ++ in_quotes name ++ codes ": 
 -- the line that tells it
 abbrev pub notice_of : Notice → List ℕ → List ℕ
 notice_of notice name = line_of (notice_words notice) (title name)
-
--- What is told between two neighbours: nothing within a run and between gaps; where another run follows, whether it is
--- of the same file.
-abbrev pub notices_between : Entry → Entry → List Notice
-notices_between (version v) (version w) = if goes_on v w then []
-    else (if v.file == w.file then Truncated else Replaced) ∷ []
-notices_between (version v) gap = Inaccessible ∷ []
-notices_between gap (version w) = Appeared ∷ []
-notices_between gap gap = []
 
 -- the name led nowhere at the first look
 abbrev pub is_missing : List Entry → Bool

@@ -1,107 +1,175 @@
 -- What is given for a name by what the calls on it found, even if the bytes of files aren't visible.
 use Rattle.std.specs.{
-  Prelude.{◌≡◌, ◌⊎◌, ◌<◌, ◌≤◌, ◌+◌, ℕ, true, false, not, ◌&&◌, List, [], ◌∷◌, ◌++◌, Option, Some, None},
-  Prelude.{is_some, length},
+  Prelude.{◌≡◌, ◌⊎◌, ◌<◌, ◌≤◌, ◌+◌, ℕ, Bool, true, false, not, ◌&&◌, List, [], ◌∷◌, ◌++◌, Option, Some, None},
+  Prelude.{drop, is_some, length, take},
 }
-use Rattle.watch_core.specs.Snapshot.{Snapshot, Found, latest, holds_many, leads_to, opens_as, reads_as}
+use Rattle.watch_core.specs.Snapshot.{Finding, Snapshot, Found, latest, holds_many, leads_to, opens_as, reads_as}
 use Rattle.follow_core.specs.{
-  declared.notice.Notice.{Notice, TheVariants.{Truncated, Replaced, Inaccessible, Appeared}},
-  Event.{Begins, Event, gives, notes},
-  Look.{Fate, Look, Ways, sound, unread, fate_at, is_dropped, is_first, snapshots},
-  Share.{Share, failure_of, is_unopened, missing_share, no_share},
-  Version.is_file,
+  declared.notice.Notice.Notice,
+  Event.{Begins, Event, change_between, due_from, gives, notes, notes_past},
+  Look.{Fate, Look, Ways, sound, unled, unmeasured, unopened, unread, unsought, fate_at, is_dropped, is_first, snapshots},
+  Share.{Share, failure_of, is_unopened, missing_share, no_share, share_of},
+  Version.held_at,
 }
+
+-- what a call on a name finds if what the look sees is visible; a read gives no bytes only from the end on
+abbrev pub Shows : Snapshot → List ℕ → Finding → Type 0
+Shows snapshot name (leads_to led) = led ≡ snapshot.leads name
+Shows snapshot name (opens_as file) = file ≡ snapshot.leads name
+Shows snapshot name (holds_many file len) = len ≡ length (held_at snapshot file)
+Shows snapshot name (reads_as file at bytes) = (bytes ≡ take (length bytes) (drop at (held_at snapshot file)))
+    × (bytes ≡ [] → length (held_at snapshot file) ≤ at)
+
+-- a call on a name found this; if what the look sees is visible, it is what the snapshot shows
+abbrev pub Saw : Bool → Snapshot → List ℕ → Finding → Type 0
+Saw told snapshot name finding = Found snapshot name finding × (told ≡ true → Shows snapshot name finding)
 
 -- reads of this file gave these bytes, from one place up to another; each read began where the read before it ended
-pub data AreRead (snapshot : Snapshot) (name : List ℕ) (file : Option ℕ) (from : ℕ) : List ℕ → ℕ → Type 0 where
-  none_read : AreRead snapshot name file from [] from
-  one_more : {bytes : List ℕ} {at : ℕ} (piece : List ℕ) → AreRead snapshot name file from bytes at
-      → Found snapshot name (reads_as file at piece)
-      → AreRead snapshot name file from (bytes ++ piece) (at + length piece)
+pub data AreRead (told : Bool) (snapshot : Snapshot) (name : List ℕ) (file : Option ℕ) (from : ℕ) : List ℕ → ℕ
+    → Type 0 where
+  none_read : AreRead told snapshot name file from [] from
+  one_more : {bytes : List ℕ} {at : ℕ} (piece : List ℕ) → AreRead told snapshot name file from bytes at
+      → Saw told snapshot name (reads_as file at piece)
+      → AreRead told snapshot name file from (bytes ++ piece) (at + length piece)
 
--- reads of a file gave these bytes, and began at a place of the file for which `Starts` is true
-pub record IsRead (Starts : Option ℕ → ℕ → Type 0) (snapshot : Snapshot) (name bytes : List ℕ) : Type 0 where
-  pub file : Option ℕ
-  pub from : ℕ
-  pub end : ℕ
-  pub begins : Starts file from
-  pub read : AreRead snapshot name file from bytes end
+-- What calls give is told by how far they came: to their end, with the fate `sound`; to a call that failed, with its
+-- fate; or to a place where following ended, without a fate.
 
--- reads gave these bytes up to the length that was found, or until a read gave nothing, or until a read failed
-pub record IsWhole (Starts : Option ℕ → ℕ → Type 0) (snapshot : Snapshot) (name : List ℕ) (fate : Fate)
-    (bytes : List ℕ) : Type 0 where
-  pub is : IsRead Starts snapshot name bytes
-  pub ends : ((len : ℕ) × Found snapshot name (holds_many is.file len) × (len ≤ is.end))
-      ⊎ Found snapshot name (reads_as is.file is.end []) ⊎ (fate ≡ unread is.file is.end)
+-- reads of a file of this length gave these bytes: up to the length, or until a read gave nothing
+pub data ReadOn (told : Bool) (snapshot : Snapshot) (name : List ℕ) (file : Option ℕ) (from len : ℕ) : Option Fate
+    → List Event → Type 0 where
+  read_all : {bytes : List ℕ} {at : ℕ} → AreRead told snapshot name file from bytes at
+      → (len ≤ at) ⊎ Saw told snapshot name (reads_as file at [])
+      → ReadOn told snapshot name file from len (Some sound) (gives bytes ∷ [])
+  read_part : {bytes : List ℕ} {at : ℕ} → AreRead told snapshot name file from bytes at → at < len
+      → snapshot.breaks name ≡ true
+      → ReadOn told snapshot name file from len (Some (unread file at)) (gives bytes ∷ [])
+  read_none : ReadOn told snapshot name file from len None []
+  read_some : {bytes : List ℕ} {at : ℕ} → AreRead told snapshot name file from bytes at
+      → ReadOn told snapshot name file from len None (gives bytes ∷ [])
+
+-- what came of this open file, of which `seen` bytes were seen
+pub data Caught (told : Bool) (snapshot : Snapshot) (name : List ℕ) (file : Option ℕ) (seen : ℕ) : Option Fate
+    → List Event → Type 0 where
+  not_open : file ≡ None → Caught told snapshot name file seen (Some sound) []
+  not_measured : is_some file ≡ true → snapshot.breaks name ≡ true
+      → Caught told snapshot name file seen (Some (unmeasured file)) []
+  measured : {len : ℕ} {reach : Option Fate} {events : List Event} → is_some file ≡ true
+      → Saw told snapshot name (holds_many file len)
+      → ReadOn told snapshot name file (due_from seen len) len reach events
+      → Caught told snapshot name file seen reach (notes_past seen len ++ events)
+
+-- the name was found to lead elsewhere than to this open file, which is this change
+pub record Changed (told : Bool) (snapshot : Snapshot) (name : List ℕ) (opened : Option ℕ) (notice : Notice)
+    : Type 0 where
+  pub led : Option ℕ
+  pub saw : Saw told snapshot name (leads_to led)
+  pub is : change_between opened led ≡ Some notice
+
+-- what came of where the name leads, if this file was open and names are followed
+pub data LedTo (told by_name : Bool) (snapshot : Snapshot) (name : List ℕ) (opened : Option ℕ) : Option Fate
+    → List Event → Type 0 where
+  not_asked : by_name ≡ false → LedTo told by_name snapshot name opened (Some sound) []
+  not_led : by_name ≡ true → snapshot.breaks name ≡ true → LedTo told by_name snapshot name opened (Some unled) []
+  unchanged : {led : Option ℕ} → by_name ≡ true → Saw told snapshot name (leads_to led)
+      → change_between opened led ≡ None → LedTo told by_name snapshot name opened (Some sound) []
+  not_told : {notice : Notice} → by_name ≡ true → Changed told snapshot name opened notice
+      → LedTo told by_name snapshot name opened None (notes notice ∷ [])
+  not_opened : {notice : Notice} → by_name ≡ true → Changed told snapshot name opened notice
+      → snapshot.breaks name ≡ true
+      → LedTo told by_name snapshot name opened (Some unopened) (notes notice ∷ [])
+  opened_there : {notice : Notice} {file : Option ℕ} {reach : Option Fate} {events : List Event} → by_name ≡ true
+      → Changed told snapshot name opened notice → Saw told snapshot name (opens_as file)
+      → Caught told snapshot name file 0 reach events
+      → LedTo told by_name snapshot name opened reach (notes notice ∷ events)
+
+-- what a later look gives for a name of whose open file `seen` bytes were seen
+pub data Later (told by_name : Bool) (snapshot : Snapshot) (name : List ℕ) (opened : Option ℕ) (seen : ℕ) : Option Fate
+    → List Event → Type 0 where
+  came_early : {reach : Option Fate} {events : List Event} → (reach ≡ Some sound → ⊥)
+      → Caught told snapshot name opened seen reach events → Later told by_name snapshot name opened seen reach events
+  came_all : {reach : Option Fate} {came led : List Event} → Caught told snapshot name opened seen (Some sound) came
+      → LedTo told by_name snapshot name opened reach led
+      → Later told by_name snapshot name opened seen reach (came ++ led)
+
+-- what the first look gives of this file, which it opened: bytes from the place on at which the start part begins
+pub data First (told : Bool) (snapshot : Snapshot) (name : List ℕ) (file : Option ℕ) (seeks : Bool)
+    (start : List ℕ → List ℕ) : Option Fate → List Event → Type 0 where
+  not_begun : First told snapshot name file seeks start None []
+  first_unmeasured : snapshot.breaks name ≡ true
+      → First told snapshot name file seeks start (Some (unmeasured file)) []
+  first_unsought : {from : ℕ} → seeks ≡ true → snapshot.breaks name ≡ true
+      → First told snapshot name file seeks start (Some (unsought file from)) []
+  begun : {from len : ℕ} {reach : Option Fate} {events : List Event} → Saw told snapshot name (holds_many file len)
+      → (told ≡ true → drop from (held_at snapshot file) ≡ start (held_at snapshot file))
+      → ReadOn told snapshot name file from len reach events
+      → First told snapshot name file seeks start reach events
 
 -- a look left this file open, and found `held` bytes in it; or it left none open, since the name leads nowhere
-abbrev pub LeftOpen : Snapshot → List ℕ → Option ℕ → (held : ℕ) → Type 0
-LeftOpen snapshot name None held = Found snapshot name (leads_to None) ⊎ Found snapshot name (opens_as None)
-LeftOpen snapshot name (Some file) held = Found snapshot name (holds_many (Some file) held)
+abbrev pub LeftOpen : Bool → Snapshot → List ℕ → Option ℕ → (held : ℕ) → Type 0
+LeftOpen told snapshot name None held = Saw told snapshot name (leads_to None) ⊎ Saw told snapshot name (opens_as None)
+LeftOpen told snapshot name (Some file) held = Saw told snapshot name (holds_many (Some file) held)
 
--- what a look found if it reports this, if this file was left open with `held` bytes
-abbrev pub IsSeen : Snapshot → List ℕ → Option ℕ → (held : ℕ) → Notice → Type 0
-IsSeen snapshot name opened held Truncated = (is_some opened ≡ true)
-    × (len : ℕ) × Found snapshot name (holds_many opened len) × (len < held)
-IsSeen snapshot name opened held Replaced = (is_some opened ≡ true)
-    × (file : ℕ) × Found snapshot name (leads_to (Some file)) × (is_file file opened ≡ false)
-IsSeen snapshot name opened held Inaccessible = (is_some opened ≡ true) × Found snapshot name (leads_to None)
-IsSeen snapshot name opened held Appeared = (opened ≡ None) × (file : ℕ) × Found snapshot name (leads_to (Some file))
+-- the same; that the name leads nowhere is known only if names are followed
+abbrev pub IsLong : (told by_name : Bool) → Snapshot → List ℕ → Option ℕ → (held : ℕ) → Type 0
+IsLong told by_name snapshot name None held = by_name ≡ true → LeftOpen told snapshot name None held
+IsLong told by_name snapshot name (Some file) held = LeftOpen told snapshot name (Some file) held
 
--- A look after these reports this by what it and the look before it found. The first look reports nothing.
-abbrev pub IsTold : List Look → Snapshot → List ℕ → Notice → Type 0
-IsTold before snapshot name notice = (is_first before ≡ false) × (opened : Option ℕ) × (held : ℕ)
-    × LeftOpen (latest (snapshots before)) name opened held × IsSeen snapshot name opened held notice
-
--- `Tells` is true of each line of the events, and `Is` of all bytes that one event gives
-abbrev pub AllGive : (Notice → Type 0) → (List ℕ → Type 0) → List Event → Type 0
-AllGive Tells Is [] = Unit {0}
-AllGive Tells Is (notes notice ∷ events) = Tells notice × AllGive Tells Is events
-AllGive Tells Is (gives bytes ∷ events) = Is bytes × AllGive Tells Is events
-
--- Where reads begin: at the first look anywhere; later at the front, or at the length that the look before found.
-abbrev pub StartsIn : List Look → List ℕ → Option ℕ → ℕ → Type 0
-StartsIn before name file from = (is_first before ≡ true) ⊎ (from ≡ 0)
-    ⊎ Found (latest (snapshots before)) name (holds_many file from)
+-- what a look after these gives for a name, by what its calls found and by what the look before it left open
+pub data LookGives (told : Bool) (ways : Ways) : List Look → Snapshot → List ℕ → Option Fate → List Event → Type 0 where
+  at_first : {snapshot : Snapshot} {name : List ℕ} {reach : Option Fate} {events : List Event} (file : ℕ)
+      → Saw told snapshot name (opens_as (Some file))
+      → First told snapshot name (Some file) ways.seeks ways.start reach events
+      → LookGives told ways [] snapshot name reach events
+  at_later : {first : Look} {looks : List Look} {snapshot : Snapshot} {name : List ℕ} {reach : Option Fate}
+      {events : List Event} (opened : Option ℕ) (seen : ℕ)
+      → IsLong told ways.by_name (latest (snapshots (first ∷ looks))) name opened seen
+      → Later told ways.by_name snapshot name opened seen reach events
+      → LookGives told ways (first ∷ looks) snapshot name reach events
 
 -- what a look after these gives for a name that wasn't dropped, by its fate and by what its calls found
-pub record IsFound (before : List Look) (snapshot : Snapshot) (name : List ℕ) (fate : Fate)
+pub record IsFound (told : Bool) (ways : Ways) (before : List Look) (snapshot : Snapshot) (name : List ℕ) (fate : Fate)
     (share : Share) : Type 0 where
   pub named : share.name ≡ name
   pub opened : share.is_opened ≡ (not (is_unopened fate) && is_first before)
   pub failed : share.failure ≡ failure_of fate
-  pub events : AllGive (IsTold before snapshot name) (IsWhole (StartsIn before name) snapshot name fate) share.events
+  -- the first look gives nothing of a name that it can't open
+  pub events : ((is_first before ≡ true) × (fate ≡ unopened) × (share.events ≡ []))
+      ⊎ LookGives told ways before snapshot name (Some fate) share.events
   -- a call on the name failed only if a call on it can fail in this look
   pub broke : (fate ≡ sound) ⊎ (snapshot.breaks name ≡ true)
-  -- if a file was opened, the call that opens found a file
-  pub there : share.is_opened ≡ true → (file : ℕ) × Found snapshot name (opens_as (Some file))
 
 -- the name was found to lead nowhere at the first look, and the look gives the message about that
-pub record IsMissing (before : List Look) (snapshot : Snapshot) (name : List ℕ) (fate : Fate)
+pub record IsMissing (told : Bool) (before : List Look) (snapshot : Snapshot) (name : List ℕ) (fate : Fate)
     (share : Share) : Type 0 where
   pub first : is_first before ≡ true
   pub kept : fate ≡ sound
-  pub nowhere : Found snapshot name (opens_as None)
+  pub nowhere : Saw told snapshot name (opens_as None)
   pub is : share ≡ missing_share name
 
--- what a look after these gives for the name of this number
-abbrev pub IsGiven : List Look → Look → ℕ → List ℕ → Share → Type 0
-IsGiven before look place name share = ((is_dropped place before ≡ true) × (share ≡ no_share name))
-    ⊎ ((is_dropped place before ≡ false) × (IsFound before look.snapshot name (fate_at place look) share
-    ⊎ IsMissing before look.snapshot name (fate_at place look) share))
+-- What a look after these gives for the name of this number, by what its calls found. If what the look sees is visible,
+-- that is its share.
+pub record IsGiven (told : Bool) (ways : Ways) (before : List Look) (look : Look) (place : ℕ) (name : List ℕ)
+    (share : Share) : Type 0 where
+  pub is : told ≡ true → share ≡ share_of ways before look place name
+  pub found : ((is_dropped place before ≡ true) × (share ≡ no_share name))
+      ⊎ ((is_dropped place before ≡ false) × (IsFound told ways before look.snapshot name (fate_at place look) share
+      ⊎ IsMissing told before look.snapshot name (fate_at place look) share))
 
 -- what a look after these gives for the names in order; the first name has this number
-pub data AreAtLook (before : List Look) (look : Look) : ℕ → List (List ℕ) → List Share → Type 0 where
-  no_names : {place : ℕ} → AreAtLook before look place [] []
+pub data AreAtLook (told : Bool) (ways : Ways) (before : List Look) (look : Look) : ℕ → List (List ℕ) → List Share
+    → Type 0 where
+  no_names : {place : ℕ} → AreAtLook told ways before look place [] []
   names_more : {place : ℕ} {name : List ℕ} {names : List (List ℕ)} {share : Share} {shares : List Share}
-      → IsGiven before look place name share → AreAtLook before look (place + 1) names shares
-      → AreAtLook before look place (name ∷ names) (share ∷ shares)
+      → IsGiven told ways before look place name share → AreAtLook told ways before look (place + 1) names shares
+      → AreAtLook told ways before look place (name ∷ names) (share ∷ shares)
 
--- what all looks give, look by look
-pub data AreFound (ways : Ways) (names : List (List ℕ)) : List Look → List Share → Type 0 where
-  no_looks : AreFound ways names [] []
-  looks_more : {looks : List Look} {look : Look} {shares more : List Share} → AreFound ways names looks shares
-      → AreAtLook looks look ways.first names more → AreFound ways names (looks ++ look ∷ []) (shares ++ more)
+-- What all looks give, look by look. If what they see is visible, that is `shares_of`.
+pub data AreFound (told : Bool) (ways : Ways) (names : List (List ℕ)) : List Look → List Share → Type 0 where
+  no_looks : AreFound told ways names [] []
+  looks_more : {looks : List Look} {look : Look} {shares more : List Share} → AreFound told ways names looks shares
+      → AreAtLook told ways looks look ways.first names more
+      → AreFound told ways names (looks ++ look ∷ []) (shares ++ more)
 
 -- in none of these looks a call on this name can fail
 abbrev pub NoneBreaks : List ℕ → List Look → Type 0
@@ -119,10 +187,11 @@ LeadsNowhere name [] = ⊥
 LeadsNowhere name (look ∷ looks) = (look.snapshot.leads name ≡ None) ⊎ LeadsNowhere name looks
 
 -- a beginning of what a look gives for a name on which no call failed
-pub record IsBegun (before : List Look) (snapshot : Snapshot) (name : List ℕ) (share : Share) : Type 0 where
+pub record IsBegun (told : Bool) (ways : Ways) (before : List Look) (snapshot : Snapshot) (name : List ℕ)
+    (share : Share) : Type 0 where
   pub named : share.name ≡ name
   pub opened : share.is_opened ≡ is_first before
   pub unfailed : share.failure ≡ None
   pub all : List Event
   pub begins : Begins share.events all
-  pub events : AllGive (IsTold before snapshot name) (IsRead (StartsIn before name) snapshot name) all
+  pub events : LookGives told ways before snapshot name None all

@@ -4,12 +4,12 @@ use Rattle.std.specs.{
   Prelude.if◌then◌else◌,
 }
 use Rattle.ports_core.specs.declared.fault.Fault.{Fault, TheVariants.{Open, Read}}
-use Rattle.watch_core.specs.Snapshot.{Snapshot}
+use Rattle.watch_core.specs.Snapshot.{Snapshot, latest}
 use Rattle.follow_core.specs.{
-  Event.{Begins, Event, all_but, bytes_in, events_later, gives, lines_in, notes_in},
-  Gain.{gains_after, last_from, last_of},
+  Event.{Begins, Event, after_change, all_but, all_held, bytes_in, came_of, change_between, gives, lines_in, notes_in},
+  Gain.gains_after,
   Notice.is_missing,
-  Version.{Entry, entries_led, entries_open, held_at, is_same, open_after, open_after_look},
+  Version.{held_at, is_same, open_after, open_after_look},
   Telling.failure_text,
   Look.{Look, Ways, Fate, sound, unled, unopened, unmeasured, unsought, unread, fate_at, is_dropped, is_first},
   Look.{entries_in, snapshots},
@@ -44,12 +44,15 @@ pub record Due : Type 0 where
 abbrev pub opened_in : Ways → List ℕ → List Look → Option ℕ
 opened_in ways name looks = open_after ways.by_name name (snapshots looks)
 
--- what is due at a later look, if this file is open and `last` is the last entry of the name
-abbrev pub due_later : (by_name : Bool) → List ℕ → Option ℕ → Entry → Snapshot → Due
-due_later by_name name opened last snapshot = record {
-  came = events_later last (entries_open snapshot opened);
-  led = events_later (last_from last (entries_open snapshot opened))
-      (entries_led snapshot opened (open_after_look by_name name opened snapshot));
+-- how many bytes of that file were seen
+abbrev pub seen_in : Ways → List ℕ → List Look → ℕ
+seen_in ways name looks = length (held_at (latest (snapshots looks)) (opened_in ways name looks))
+
+-- what is due at a later look, if this file is open and this many bytes of it were seen
+abbrev pub due_later : (by_name : Bool) → List ℕ → Option ℕ → (seen : ℕ) → Snapshot → Due
+due_later by_name name opened seen snapshot = let led = open_after_look by_name name opened snapshot in record {
+  came = came_of snapshot opened seen;
+  led = after_change (change_between opened led) (all_held snapshot led);
 }
 
 -- what is due at a look after these; at the first look that is the start part of the file to which the name leads
@@ -59,7 +62,7 @@ due_at ways name [] look = record {
   led = gives (gains_after ways.start [] (entries_in ways name (look ∷ []))) ∷ [];
 }
 due_at ways name (first ∷ looks) look = due_later ways.by_name name (opened_in ways name (first ∷ looks))
-    (last_of (entries_in ways name (first ∷ looks))) look.snapshot
+    (seen_in ways name (first ∷ looks)) look.snapshot
 
 -- all events that a look gives for a name if no call on it fails
 abbrev pub events_at : Ways → List ℕ → List Look → Look → List Event

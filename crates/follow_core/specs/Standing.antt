@@ -1,19 +1,15 @@
 -- How a name stands between two looks.
 use Rattle.std.specs.{
-  Prelude.{◌≡◌, ◌<◌, ◌≤◌, ◌+◌, ℕ, Bool, true, false, List, [], Option, Some, None, ◌⊎◌, length, map, slice_index_or},
+  Prelude.{◌≡◌, ◌<◌, ◌≤◌, ◌+◌, ℕ, Bool, true, false, List, [], Option, None, ◌⊎◌, length, map, slice_index_or},
   Prelude.is_some,
 }
-use Rattle.watch_core.specs.{
-  declared.watch.Broken.Broken,
-  Snapshot.{Snapshot, latest},
-  Watched.{Watched, added, watched_at},
-}
+use Rattle.watch_core.specs.{declared.watch.Broken.Broken, Snapshot.{latest}, Watched.{Watched, added, watched_at}}
 use Rattle.follow_core.specs.{
   declared.name.Standing.{Standing, TheVariants.{New, Followed, Left}},
-  Gain.{file_of, last_of, seen_length},
-  Look.{Look, Ways, are_met, entries_in, failed_in, is_dropped, is_first, snapshots},
-  Reading.LeftOpen,
-  Version.{Entry, open_after},
+  Look.{Look, Ways, are_met, failed_in, is_dropped, is_first, snapshots},
+  Reading.IsLong,
+  Share.opened_in,
+  Version.open_after,
 }
 
 pub record NameState : Type 0 where
@@ -38,11 +34,6 @@ CanVisit name watched = elim name.standing [
   | Left ↦ Unit {0}
 ]
 
--- a name stands at this entry: the file of the entry is open, and `position` bytes of it were seen
-pub record StandsAt (last : Entry) (opened : Option ℕ) (position : ℕ) : Type 0 where
-  pub file : opened ≡ file_of last
-  pub seen : position ≡ seen_length last
-
 -- The name of this number broke exactly if these looks say so. Each look can meet the fate that it has for the name.
 pub record BrokeIn (ways : Ways) (looks : List Look) (place : ℕ) (failed : Option Broken) : Type 0 where
   pub call : failed ≡ failed_in place looks
@@ -62,21 +53,16 @@ AreWatched ways looks names watched = (length watched ≤ ways.first + length na
     × ((place : ℕ) → ways.first + place < length watched → IsWatched ways looks (ways.first + place)
     (slice_index_or names place []) (watched_at watched (ways.first + place)))
 
--- the look found this open file to hold `held` bytes; that the name leads nowhere is known only if names are followed
-abbrev pub IsLong : (by_name : Bool) → Snapshot → List ℕ → Option ℕ → (held : ℕ) → Type 0
-IsLong by_name snapshot name None held = by_name ≡ true → LeftOpen snapshot name None held
-IsLong by_name snapshot name (Some file) held = LeftOpen snapshot name (Some file) held
-
--- The name is looked at again. The file of its last entry is open, and `position` bytes of it were seen.
+-- The name is looked at again. The file is open that the looks left open, and `position` bytes of it were seen.
 pub record IsFollowed (told : Bool) (ways : Ways) (looks : List Look) (place : ℕ) (name : List ℕ) (watched : Watched)
     (position : ℕ) : Type 0 where
   pub named : watched.name ≡ name
   pub unbroken : watched.failed ≡ None
   pub kept : is_dropped place looks ≡ false
   pub begun : is_first looks ≡ false
-  pub stands : told ≡ true → StandsAt (last_of (entries_in ways name looks)) watched.opened position
+  pub stands : told ≡ true → watched.opened ≡ opened_in ways name looks
   pub there : told ≡ true → ways.by_name ≡ false → is_some watched.opened ≡ true
-  pub long : IsLong ways.by_name (latest (snapshots looks)) name watched.opened position
+  pub long : IsLong told ways.by_name (latest (snapshots looks)) name watched.opened position
 
 -- the name was missing at the first look, and names aren't followed
 pub record IsMissed (told : Bool) (ways : Ways) (looks : List Look) (place : ℕ) (name : List ℕ)

@@ -7,8 +7,9 @@ ghost use Rattle.watch_core.specs.Watched.{Watched, watched_at};
 ghost use Rattle.follow_core.specs.{
   Sharing.HasError,
   inner.Visits.{AddsSome, BeginsLook, CanBegin, MakesLook},
-  FollowState.{CanLook, FollowState, Holds, IsCause, IsOther, LooksOn, SawOrNot, StopsOn, is_alive, opened_follow},
-  Look.{Look, Ways},
+  FollowState.{Asked, CanLook, FollowState, Holds, IsCause, IsOther, LooksOn, SawOrNot, StopsOn, is_alive},
+  FollowState.{opened_follow, point},
+  Look.Look,
   Standing.{NoneGoesOn, texts},
 };
 
@@ -141,11 +142,11 @@ impl Follow {
     /// following: a later look returns `Failed`, and does nothing.
     pub fn look<W: Watch, O: Outs>(&mut self, watch: &mut W, outs: &mut O) -> Result<(), Fault>
         requires { CanLook self.old (W.watched watch.old) (O.slots outs.old) }
-        ensures looked { OnOk result (LooksOn W.told O.told (W.shows watch.old (length (W.seen watch.old))) self.old
-            (W.watched watch.old) (O.slots outs.old) self.new (W.watched watch.new) (O.slots outs.new)) }
-        ensures stopped { IfErr result
-            (StopsOn W.told O.told (W.shows watch.old (length (W.seen watch.old))) self.old (W.watched watch.old)
-            (O.slots outs.old) (W.watched watch.new) (O.slots outs.new)) }
+        ensures looked { OnOk result (LooksOn W.told O.told (W.shows watch.old (length (W.seen watch.old)))
+            (point self.old (W.watched watch.old) (O.slots outs.old))
+            (point self.new (W.watched watch.new) (O.slots outs.new))) }
+        ensures stopped { IfErr result (StopsOn W.told O.told (W.shows watch.old (length (W.seen watch.old)))
+            (point self.old (W.watched watch.old) (O.slots outs.old)) (W.watched watch.new) (O.slots outs.new)) }
         ensures seen { OnOk result (W.seen watch.new
             ≡ W.seen watch.old ++ W.shows watch.old (length (W.seen watch.old)) ∷ []) }
         ensures saw { IfErr result
@@ -183,14 +184,12 @@ impl Follow {
     /// Whether a further look can give something: some name wasn't dropped, and is followed by name or has its file
     /// open.
     pub fn alive(&self) -> bool
-        ensures alive { (told : Bool) (calling : Calling) (ways : Ways) (headers : Bool) (names : List (List ℕ))
-            (looks : List Look) (first slots : List Slot) (watched : List Watched)
-            → Holds true told calling ways headers names looks first self.now watched slots
-            → result ≡ is_alive ways names looks }
-        ensures none { (told_in told : Bool) (calling : Calling) (ways : Ways) (headers : Bool) (names : List (List ℕ))
-            (looks : List Look) (first slots : List Slot) (watched : List Watched)
-            → Holds told_in told calling ways headers names looks first self.now watched slots → 0 < length looks
-            → result ≡ false → NoneGoesOn ways watched }
+        ensures alive { (told : Bool) (asked : Asked) (looks : List Look) (watched : List Watched) (slots : List Slot)
+            → Holds true told asked looks (point self.now watched slots)
+            → result ≡ is_alive asked.ways asked.names looks }
+        ensures none { (told_in told : Bool) (asked : Asked) (looks : List Look) (watched : List Watched)
+            (slots : List Slot) → Holds told_in told asked looks (point self.now watched slots) → 0 < length looks
+            → result ≡ false → NoneGoesOn asked.ways watched }
     {
         any_goes_on(&self.names, self.by_name)
     }
@@ -212,9 +211,9 @@ impl Follow {
     fn make_look<W: Watch, O: Outs>(&mut self, watch: &mut W, outs: &mut O) -> Result<bool, Fault>
         requires live { self.old.phase ≡ Phase.Over → ⊥ }
         requires can { CanLook self.old (W.watched watch.old) (O.slots outs.old) }
-        ensures makes { MakesLook W.told O.told (W.shows watch.old (length (W.seen watch.old)))
-            (W.seen watch.old) self.old (W.watched watch.old) (O.slots outs.old) (W.seen watch.new) self.new
-            (W.watched watch.new) (O.slots outs.new) result }
+        ensures makes { MakesLook W.told O.told (W.shows watch.old (length (W.seen watch.old))) (W.seen watch.old)
+            (point self.old (W.watched watch.old) (O.slots outs.old)) (W.seen watch.new)
+            (point self.new (W.watched watch.new) (O.slots outs.new)) result }
         ensures shows { W.shows watch.new ≡ W.shows watch.old }
     {
         if let Err(fault) = self.begin(watch) {

@@ -69,10 +69,16 @@ pub fn looks_agree()
         (one other : List (List Edit)) → Agree forgives start by_name name first one other }
 {}
 
+/// If what looks see is visible, their snapshots and fates decide all that they give: text, messages and status follow.
+pub fn snapshots_decide()
+    ensures { (ways : Ways) (names : List (List ℕ)) (looks : List Look) (shares : List Share)
+        → AreFound true ways names looks shares → shares ≡ shares_of ways names looks }
+{}
+
 /// A name on which no call can fail isn't dropped: no call on it failed in these looks.
 pub fn forgiven_names_stay()
-    ensures { (ways : Ways) (names : List (List ℕ)) (looks : List Look) (shares : List Share)
-        → AreFound ways names looks shares → (place : ℕ) → place < length names
+    ensures { (told : Bool) (ways : Ways) (names : List (List ℕ)) (looks : List Look) (shares : List Share)
+        → AreFound told ways names looks shares → (place : ℕ) → place < length names
         → NoneBreaks (slice_index_or names place []) looks → failed_in (ways.first + place) looks ≡ None }
 {}
 
@@ -80,8 +86,8 @@ pub fn forgiven_names_stay()
 /// the looks is dropped: a call on it failed.
 pub fn missing_names_are_dropped()
     ensures { (ways : Ways) (names : List (List ℕ)) (looks : List Look) (shares : List Share)
-        → AreFound ways names looks shares → shares ≡ shares_of ways names looks → ways.by_name ≡ true
-        → AllInsist looks → (place : ℕ) → place < length names → LeadsNowhere (slice_index_or names place []) looks
+        → AreFound true ways names looks shares → ways.by_name ≡ true → AllInsist looks → (place : ℕ)
+        → place < length names → LeadsNowhere (slice_index_or names place []) looks
         → is_dropped (ways.first + place) looks ≡ true }
 {}
 

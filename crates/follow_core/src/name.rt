@@ -3,7 +3,7 @@ ghost use Rattle.std.specs.Prelude.{◌≡◌, ◌<◌, ◌≤◌, ◌+◌, ◌^
 ghost use Rattle.watch_core.specs.{Snapshot.latest, Watched.{added, watched_at}};
 ghost use Rattle.follow_core.specs.{
   Sharing.CanPrint,
-  inner.{Giving.{CanGoOn, over_in}, Visits.{AddsSome, any_goes_on, goes_on_as, Visits, VisitsAll}},
+  inner.{Giving.{CanGoOn, moment, over_in, sight}, Visits.{AddsSome, any_goes_on, goes_on_as, Visits, VisitsAll}},
   FollowState.{AllReady, new_state},
   Look.ways_of,
   Standing.{CanVisit, NameState, texts},
@@ -92,9 +92,10 @@ impl Name {
     ) -> Result<bool, Fault>
         requires ready { CanVisit self.old (watched_at (W.watched watch.old) place) }
         requires can { CanPrint (O.slots outs.old) }
-        ensures visits { (first : ℕ) → Visits W.told O.told (ways_of first by_name start)
-            (latest (W.seen watch.old)) place self.old.text self.old.standing (W.watched watch.old) visitor.old
-            (O.slots outs.old) self.new.standing (W.watched watch.new) visitor.new (O.slots outs.new) result }
+        ensures visits { (first : ℕ) → Visits (sight W.told O.told (latest (W.seen watch.old)))
+            (ways_of first by_name start) place self.old
+            (moment (W.watched watch.old) visitor.old (O.slots outs.old)) self.new.standing
+            (moment (W.watched watch.new) visitor.new (O.slots outs.new)) result }
         ensures same { self.new.text ≡ self.old.text }
         ensures can { CanGoOn (over_in result) (O.slots outs.new) }
         ensures seen { W.seen watch.new ≡ W.seen watch.old }
@@ -176,9 +177,9 @@ pub(crate) fn visit_all<W: Watch, O: Outs>(
     requires ready { AllReady names.old first (W.watched watch.old) }
     requires fits { first + length names.old ≤ 2 ^ 64 }
     requires can { CanPrint (O.slots outs.old) }
-    ensures visits { VisitsAll W.told O.told (latest (W.seen watch.old)) by_name start first names.old
-        (W.watched watch.old) visitor.old (O.slots outs.old) names.new (W.watched watch.new) visitor.new
-        (O.slots outs.new) result }
+    ensures visits { VisitsAll (sight W.told O.told (latest (W.seen watch.old))) (λ from. ways_of from by_name start)
+        first names.old (moment (W.watched watch.old) visitor.old (O.slots outs.old)) names.new
+        (moment (W.watched watch.new) visitor.new (O.slots outs.new)) result }
     ensures seen { W.seen watch.new ≡ W.seen watch.old }
     ensures shows { W.shows watch.new ≡ W.shows watch.old }
 {

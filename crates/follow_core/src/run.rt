@@ -1,15 +1,14 @@
 //! A whole run of following.
-ghost use Rattle.std.specs.Prelude.{◌≡◌, [], ℕ, Bool, List, true, false, length, map, IfErr, IsTrue, Ok};
+ghost use Rattle.std.specs.Prelude.{◌≡◌, [], true, false, length, map, IfErr, IsTrue, Ok};
 ghost use Rattle.ports_core.specs.{
-  Slot.{Slot, streams, is_writable, with_broken},
-  declared.{calling.Calling.Calling, reason.Reason.TheVariants.Gone},
+  Slot.{streams, is_writable, with_broken},
+  declared.reason.Reason.TheVariants.Gone,
 };
 ghost use Rattle.follow_core.specs.{
   Sharing.{CanPrint, HasError},
-  Ending.{AreMost, FollowEndsBy, StoppedIn, is_by_name, is_over, shows_by},
-  inner.Visits.{LookedAll, FoundUnread},
-  FollowState.{CanLook, Holds},
-  Look.{Ways, ways_of},
+  Ending.{FollowEndsBy, is_by_name, is_over, remains, shows_by},
+  inner.Visits.LooksInTurn,
+  FollowState.{CanLook, asked_so, point},
 };
 
 use crate::follow::Follow;
@@ -97,9 +96,10 @@ pub fn follow_files<W: Watch, O: Outs>(
     requires unseen { W.seen watch.old ≡ [] }
     requires unwatched { W.watched watch.old ≡ [] }
     requires outputs { O.slots outs.old ≡ streams }
-    ensures { FollowEndsBy limits.process W.told O.told calling (ways_of 0 (is_by_name method) start) headers
-        (map (λ name. name.now) names.now) limits.looks (shows_by calling method (W.shows watch.old))
-        (O.slots outs.old) (W.seen watch.new) (W.watched watch.new) (O.slots outs.new) result }
+    ensures { FollowEndsBy limits.process W.told O.told
+        (asked_so calling (is_by_name method) start headers (map (λ name. name.now) names.now) (O.slots outs.old))
+        limits.looks (shows_by calling method (W.shows watch.old))
+        (remains (W.seen watch.new) (W.watched watch.new) (O.slots outs.new)) result }
 {
     let speaker = Speaker {
         calling,
@@ -149,24 +149,10 @@ fn make_looks<W: Watch, O: Outs>(
     requires unseen { W.seen watch.old ≡ [] }
     requires can { CanLook follow.old (W.watched watch.old) (O.slots outs.old) }
     requires print { CanPrint (O.slots outs.old) }
-    ensures looked { result ≡ Ok End.Looked
-        → ((most : ℕ) × AreMost W.told limits.process (W.shows watch.old) limits.looks most
-        × ((calling : Calling) (ways : Ways) (headers : Bool) (names : List (List ℕ)) (first : List Slot)
-        → Holds W.told O.told calling ways headers names [] first follow.old (W.watched watch.old) (O.slots outs.old)
-        → LookedAll W.told O.told calling ways headers names most (W.shows watch.old) first follow.new
-        (W.seen watch.new) (W.watched watch.new) (O.slots outs.new))) }
-    ensures unread { result ≡ Ok End.Unread → (calling ≡ Calling.OwnName)
-        × ((most : ℕ) × AreMost W.told limits.process (W.shows watch.old) limits.looks most
-        × ((calling : Calling) (ways : Ways) (headers : Bool) (names : List (List ℕ)) (first : List Slot)
-        → Holds W.told O.told calling ways headers names [] first follow.old (W.watched watch.old) (O.slots outs.old)
-        → FoundUnread W.told O.told calling ways headers names most (W.shows watch.old) first follow.new
-        (W.seen watch.new) (W.watched watch.new) (O.slots outs.new))) }
-    ensures stopped { IfErr result
-        (λ why. (most : ℕ) × AreMost W.told limits.process (W.shows watch.old) limits.looks most
-        × ((calling : Calling) (ways : Ways) (headers : Bool) (names : List (List ℕ)) (first : List Slot)
-        → Holds W.told O.told calling ways headers names [] first follow.old (W.watched watch.old) (O.slots outs.old)
-        → StoppedIn W.told O.told calling ways headers names most (W.shows watch.old) first (W.seen watch.new)
-        (W.watched watch.new) (O.slots outs.new) why)) }
+    ensures ends { LooksInTurn W.told O.told limits (W.shows watch.old)
+        (point follow.old (W.watched watch.old) (O.slots outs.old))
+        (point follow.new (W.watched watch.new) (O.slots outs.new)) (W.seen watch.new) result }
+    ensures unread { result ≡ Ok End.Unread → calling ≡ Calling.OwnName }
     ensures error { IfErr result (λ _. HasError (O.slots outs.new)) }
 {
     let mut made = 0;

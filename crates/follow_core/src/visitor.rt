@@ -5,18 +5,17 @@ ghost use Rattle.std.specs.{
 };
 ghost use Rattle.ends_core.specs.Ends.{tail_of};
 ghost use Rattle.ports_core.specs.{Slot.{is_open, is_writable, slot_at}, Message.SaysOn};
-ghost use Rattle.watch_core.specs.{Snapshot.latest, Watched.{is_readable, is_watchable, open_contents, watched_at}};
+ghost use Rattle.watch_core.specs.{Snapshot.latest, Watched.{Watched, is_readable, is_watchable, watched_at}};
 ghost use Rattle.follow_core.specs.{
   declared.name.Standing.TheVariants.{New, Followed},
-  Event.notes,
+  Event.{change_between, due_from, notes, notes_past},
   Printing.{PrinterState, fresh_printer},
   inner.{
-    Giving.{Adds, CanGoOn, Copies, GivesDue, HoldsMany, IsPast, Leads, Noted, Starts, change_between, notes_past, over_in},
-    Giving.stop_in,
+    Giving.{Adds, Are, CanGoOn, Copies, Gives, HoldsMany, Leads, Starts, moment, over_in, sight, stop_in},
     Visits.{TellsStop, Visits},
   },
   Sharing.CanPrint,
-  Look.{is_sought, ways_of},
+  Look.{is_sought, sound, ways_of},
   Telling.{failure_message, tail_by},
 };
 
@@ -91,9 +90,10 @@ impl Visitor {
         requires watchable { IsTrue (is_watchable (W.watched watch.old) place) }
         requires name { (watched_at (W.watched watch.old) place).name ≡ name.now }
         requires can { CanPrint (O.slots outs.old) }
-        ensures visits { (first : ℕ) → Visits W.told O.told (ways_of first by_name start)
-            (latest (W.seen watch.old)) place name.now New (W.watched watch.old) self.old
-            (O.slots outs.old) standing.new (W.watched watch.new) self.new (O.slots outs.new) result }
+        ensures visits { (first : ℕ) → Visits (sight W.told O.told (latest (W.seen watch.old)))
+            (ways_of first by_name start) place (record { text = name.now; standing = New })
+            (moment (W.watched watch.old) self.old (O.slots outs.old)) standing.new
+            (moment (W.watched watch.new) self.new (O.slots outs.new)) result }
         ensures can { CanGoOn (over_in result) (O.slots outs.new) }
         ensures seen { W.seen watch.new ≡ W.seen watch.old }
         ensures shows { W.shows watch.new ≡ W.shows watch.old }
@@ -141,12 +141,12 @@ impl Visitor {
     ) -> Result<u64, Stop>
         requires readable { IsTrue (is_readable (W.watched watch.old) place) }
         requires can { CanPrint (O.slots outs.old) }
-        ensures starts { Starts W.told O.told (is_sought start.unit) (latest (W.seen watch.old))
-            (tail_of start.delim start.unit start.from_nth start.count) place name.now (W.watched watch.old) self.old
-            (O.slots outs.old) (W.watched watch.new) self.new (O.slots outs.new) (stop_in result) }
-        ensures long { IfOk result (HoldsMany (latest (W.seen watch.old)) (watched_at (W.watched watch.old) place)) }
-        ensures len { IfOk result (λ len. W.told ≡ true
-            → len ≡ length (open_contents (latest (W.seen watch.old)) (watched_at (W.watched watch.old) place))) }
+        ensures starts { Starts (sight W.told O.told (latest (W.seen watch.old))) (is_sought start.unit)
+            (tail_of start.delim start.unit start.from_nth start.count) place name.now
+            (moment (W.watched watch.old) self.old (O.slots outs.old))
+            (moment (W.watched watch.new) self.new (O.slots outs.new)) (stop_in result) }
+        ensures long { IfOk result
+            (HoldsMany W.told (latest (W.seen watch.old)) (watched_at (W.watched watch.old) place)) }
         ensures can { CanGoOn (stop_in result) (O.slots outs.new) }
         ensures seen { W.seen watch.new ≡ W.seen watch.old }
         ensures shows { W.shows watch.new ≡ W.shows watch.old }
@@ -192,9 +192,11 @@ impl Visitor {
         requires name { (watched_at (W.watched watch.old) place).name ≡ name.now }
         requires can { CanPrint (O.slots outs.old) }
         ensures visits { (first : ℕ) (start : List ℕ → List ℕ) (seeks : Bool)
-            → Visits W.told O.told (record { first = first; by_name = by_name; start = start; seeks = seeks })
-            (latest (W.seen watch.old)) place name.now (Followed position) (W.watched watch.old) self.old
-            (O.slots outs.old) standing.new (W.watched watch.new) self.new (O.slots outs.new) result }
+            → Visits (sight W.told O.told (latest (W.seen watch.old)))
+            (record { first = first; by_name = by_name; start = start; seeks = seeks }) place
+            (record { text = name.now; standing = Followed position })
+            (moment (W.watched watch.old) self.old (O.slots outs.old)) standing.new
+            (moment (W.watched watch.new) self.new (O.slots outs.new)) result }
         ensures can { CanGoOn (over_in result) (O.slots outs.new) }
         ensures seen { W.seen watch.new ≡ W.seen watch.old }
         ensures shows { W.shows watch.new ≡ W.shows watch.old }
@@ -233,9 +235,9 @@ impl Visitor {
         requires watchable { IsTrue (is_watchable (W.watched watch.old) place) }
         requires name { (watched_at (W.watched watch.old) place).name ≡ name.now }
         requires can { CanPrint (O.slots outs.old) }
-        ensures leads { Leads W.told O.told true (latest (W.seen watch.old))
-            ((latest (W.seen watch.old)).leads name.now) place name.now position (W.watched watch.old) self.old
-            (O.slots outs.old) (W.watched watch.new) self.new (O.slots outs.new) result }
+        ensures leads { Leads (sight W.told O.told (latest (W.seen watch.old))) true place name.now position
+            (moment (W.watched watch.old) self.old (O.slots outs.old))
+            (moment (W.watched watch.new) self.new (O.slots outs.new)) result }
         ensures can { CanGoOn (stop_in result) (O.slots outs.new) }
         ensures seen { W.seen watch.new ≡ W.seen watch.old }
         ensures shows { W.shows watch.new ≡ W.shows watch.old }
@@ -272,8 +274,9 @@ impl Visitor {
     ) -> Result<u64, Stop>
         requires watchable { IsTrue (is_watchable (W.watched watch.old) place) }
         requires can { CanPrint (O.slots outs.old) }
-        ensures adds { Adds W.told O.told (latest (W.seen watch.old)) place name.now position
-            (W.watched watch.old) self.old (O.slots outs.old) (W.watched watch.new) self.new (O.slots outs.new) result }
+        ensures adds { Adds (sight W.told O.told (latest (W.seen watch.old))) place name.now position
+            (moment (W.watched watch.old) self.old (O.slots outs.old))
+            (moment (W.watched watch.new) self.new (O.slots outs.new)) result }
         ensures can { CanGoOn (stop_in result) (O.slots outs.new) }
         ensures seen { W.seen watch.new ≡ W.seen watch.old }
         ensures shows { W.shows watch.new ≡ W.shows watch.old }
@@ -362,12 +365,9 @@ fn copy<W: Watch, O: Outs>(
     requires writable { IsTrue (is_writable (O.slots outs.old) 0) }
     requires within { from ≤ len }
     requires room { 0 < length buffer.old }
-    requires found { HoldsMany (latest (W.seen watch.old)) (watched_at (W.watched watch.old) place) len }
-    requires whole { W.told ≡ true
-        → len ≡ length (open_contents (latest (W.seen watch.old)) (watched_at (W.watched watch.old) place)) }
-    ensures copies { Copies W.told O.told (latest (W.seen watch.old)) from place name.now
-        (W.watched watch.old) printer.old (O.slots outs.old) (W.watched watch.new) printer.new (O.slots outs.new)
-        (stop_in result) }
+    ensures copies { Copies (sight W.told O.told (latest (W.seen watch.old))) from place name.now len
+        (moment (W.watched watch.old) printer.old (O.slots outs.old))
+        (moment (W.watched watch.new) printer.new (O.slots outs.new)) (stop_in result) }
     ensures len { IfOk result (λ n. n ≡ len) }
     ensures seen { W.seen watch.new ≡ W.seen watch.old }
     ensures shows { W.shows watch.new ≡ W.shows watch.old }
@@ -403,10 +403,10 @@ fn begin_at<O: Outs>(
     outs: &mut O,
 ) -> Result<u64, Fault>
     requires can { CanPrint (O.slots outs.old) }
-    ensures ends { (told_in : Bool) (printer : PrinterState)
-        → GivesDue told_in (Noted (IsPast position len)) O.told false printer name.now (notes_past position len) []
-        (O.slots outs.old) printer (O.slots outs.new) (over_in result) }
-    ensures from { IfOk result (λ from. from ≡ (if nat_lt len position then 0 else position)) }
+    ensures ends { (watched : List Watched) (printer : PrinterState)
+        → Gives O.told (Are (notes_past position len)) sound false name.now (moment watched printer (O.slots outs.old))
+        (moment watched printer (O.slots outs.new)) (over_in result) }
+    ensures from { IfOk result (λ from. from ≡ due_from position len) }
     ensures can { CanGoOn (over_in result) (O.slots outs.new) }
 {
     if len >= position {
@@ -425,9 +425,9 @@ fn begin_at<O: Outs>(
 /// `Memory` where there was none for the line.
 fn tell<O: Outs>(alloc: Global, found: Notice, name: &str, outs: &mut O) -> Result<(), Fault>
     requires can { CanPrint (O.slots outs.old) }
-    ensures ends { (told_in : Bool) (printer : PrinterState)
-        → GivesDue told_in (Noted (λ notice. notice ≡ found)) O.told false printer name.now (notes found ∷ []) []
-        (O.slots outs.old) printer (O.slots outs.new) (over_in result) }
+    ensures ends { (watched : List Watched) (printer : PrinterState)
+        → Gives O.told (Are (notes found ∷ [])) sound false name.now (moment watched printer (O.slots outs.old))
+        (moment watched printer (O.slots outs.new)) (over_in result) }
     ensures can { CanGoOn (over_in result) (O.slots outs.new) }
 {
     match notice_line(alloc, found, name) {

@@ -5,9 +5,9 @@ use Rattle.std.proofs.{
   Common.{refl, sym, ◌∙◌, ap, subst, arith, append_assoc, ◌&&◌, cond, is_some, not, ◌||◌, inl, inr, nat_lt, rules},
   Math.{Bool.or-true, Seq.drop-append_seam as drop_front},
 }
-use Rattle.watch_core.specs.{Snapshot.{Snapshot, waiting}, Watched.Watched}
+use Rattle.watch_core.specs.Snapshot.{Snapshot, waiting}
 use Rattle.follow_core.specs.{
-  Ending.{seen_first, FollowEndsAs, looked, no_room, stopped, unread},
+  Ending.{seen_first, FollowEndsAs, Remains, looked, no_room, remains, stopped, unread},
   Gain.gains_later,
   Run.{AreKept, name_text},
   Version.{Entry, entries_later, entries_of, open_after, open_after_later, version_in},
@@ -16,7 +16,7 @@ use Rattle.follow_core.specs.{
   Share.{bytes_of, gain, gains_from, no_share, share_by, share_of, shares_from},
   FollowState.is_alive,
 }
-use Rattle.follow_core.proofs.{AgreeLemmas.grown, RunLemmas.text_is_gains, LookLemmas.{failed_sound, looks_give_text}}
+use Rattle.follow_core.proofs.{AgreeLemmas.grown, RunLemmas.{found_are, text_is_gains}, LookLemmas.{failed_sound, looks_give_text}}
 use Rattle.tools_core.{
   specs.Promises.{AsksToFollow, OnlyGrows, Follows, IsBare, IsOfProgram, Run, showing},
   specs.Following.{is_name, pause_by, start_of},
@@ -171,16 +171,21 @@ pub record WroteText (ways : Ways) (name : List ℕ) (shows : ℕ → Snapshot) 
       × (◌≡◌ {A = Bool} true true → is_alive ways (name ∷ []) looks ≡ false)
   pub is : (slot_at new 0).written ≡ name_text ways.start (entries_of ways.by_name name seen)
 
-wrote_text : {calling : Calling} (ways : Ways) (name : List ℕ) (shows : ℕ → Snapshot)
-    (count : ℕ) (seen : List Snapshot) (watched : List Watched) (new : List Slot)
-    → (seen ≡ seen_first shows (length seen) → AreKept (entries_of ways.by_name name seen))
-    → FollowEndsAs true true calling ways false (name ∷ []) count shows streams seen watched new 0
-    → WroteText ways name shows count seen new
-wrote_text ways name shows count seen watched new keeps_bytes (looked looks shares seen_is broken made few full are found leaves) =
-    grind (arith, common_steps, wrote_all, looks_give_text)
-wrote_text ways name shows count seen watched new keeps_bytes (stopped mid fault stop says failed) = absurd (status_some fault _ _ (sym failed))
-wrote_text ways name shows count seen watched new keeps_bytes (unread looks shares before own seen_is broken made few alive are found wrote is failed) = absurd (omega (arith, failed))
-wrote_text ways name shows count seen watched new keeps_bytes (no_room why unseen unwatched says failed) = absurd (omega (arith, failed))
+wrote_text : {calling : Calling} (ways : Ways) (name : List ℕ) (shows : ℕ → Snapshot) (count : ℕ) (left : Remains)
+    → (left.seen ≡ seen_first shows (length left.seen) → AreKept (entries_of ways.by_name name left.seen))
+    → FollowEndsAs true true (record {
+      calling = calling;
+      ways = ways;
+      headers = false;
+      names = name ∷ [];
+      first = streams;
+    }) count shows left 0 → WroteText ways name shows count left.seen left.slots
+wrote_text ways name shows count left keeps_bytes (looked looks shares seen_is broken made few full found leaves) =
+    grind (arith, common_steps, wrote_all, looks_give_text, found_are ways (name ∷ []) looks shares found)
+wrote_text ways name shows count left keeps_bytes (stopped mid fault stop says failed) = absurd (status_some fault _ _ (sym failed))
+wrote_text ways name shows count left keeps_bytes (unread looks shares before own seen_is broken made few alive found wrote is failed) =
+    absurd (omega (arith, failed))
+wrote_text ways name shows count left keeps_bytes (no_room why unseen unwatched says failed) = absurd (omega (arith, failed))
 
 -- what each look of a run shows, if it begins within the pause that the run asks for
 abbrev pub paused : Run → Followed → (pause : ℕ) → ℕ → Snapshot
@@ -196,7 +201,7 @@ pub follows_text : {run : Run} {count : ℕ} {options : EndsAsked} {followed : F
 follows_text {run} {count} {options} {followed} {name} follows bare named keeps_bytes =
     let ways = ways_of 0 (is_name followed) (start_of options) in
     let shows = paused run followed follows.read.0 in
-    wrote_text ways name shows count run.seen run.watched run.outputs keeps_bytes
+    wrote_text ways name shows count (remains run.seen run.watched run.outputs) keeps_bytes
     (rw (bare, named, follows.well) at (rw (follows.read.1, follows.read.2) at follows.ends))
 
 pub tells_all : (run : Run) (options : EndsAsked) (followed : Followed) (name came : List ℕ) (file n : ℕ)

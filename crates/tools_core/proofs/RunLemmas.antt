@@ -39,12 +39,12 @@ use Rattle.words_core.specs.{
   Words.{HasBadOperands, asks_input, follows, looks},
 }
 use Rattle.words_core.proofs.{CallingLemmas.row_named-tool, LimitLemmas.read-can}
-use Rattle.follow_core.{proofs.LookedLemmas.{ends_by, most_made}, specs.{Ending.{no_room as no_room_yet, shows_by}, declared.run.Method.{Method, TheVariants.{Descriptor, Name, PresentName, FirstFile}}}}
+use Rattle.follow_core.{proofs.LookedLemmas.{ends_by, most_made}, specs.{Ending.{Remains, no_room as no_room_yet, remains, shows_by}, declared.run.Method.{Method, TheVariants.{Descriptor, Name, PresentName, FirstFile}}}}
 use Rattle.tools_core.specs.{
   Outcome.{refusal, refuser, speaker, RefusesFor, RunEndsAt, names_at},
   Tasks.{by, speaker_of, tool_of},
   About.{TellsText, no_text, text_cut},
-  Following.{FollowingEnds, FollowingEndsAt, FollowsTail, method_of, pause_by},
+  Following.{Caller, FollowingEnds, FollowingEndsAt, FollowsTail, called, method_of, pause_by},
   Program.{ProgramEnds, ProgramEndsAt, looks_at},
 }
 use Rattle.run_core.{
@@ -271,46 +271,45 @@ shows_by-waiting Cutters Name milliseconds shows = refl
 shows_by-waiting Cutters PresentName milliseconds shows = refl
 shows_by-waiting Cutters FirstFile milliseconds shows = refl
 
-module _ (calling : Calling) (fed told_in told : Bool) (words : List (List ℕ)) (looks : ℕ)
-    (shows : ℕ → Snapshot) (seen : List Snapshot) (watched : List Watched) (new : List Slot) (status : ℕ)
-    (unseen : seen ≡ []) (unwatched : watched ≡ []) where
+module _ (caller : Caller) (fed : Bool) (words : List (List ℕ)) (looks : ℕ) (shows : ℕ → Snapshot) (left : Remains)
+    (status : ℕ) (unseen : left.seen ≡ []) (unwatched : left.watched ≡ []) where
   -- Words that weren't read, since there was no memory.
 
   unread_tail : (asked : TailSettings) (followed : Option Followed) → speaker words ≡ tool.Tail
-      → RefusesFor calling told words Memory new status
-      → FollowsTail calling told_in told words asked followed looks shows seen watched new status
+      → RefusesFor caller.calling caller.told words Memory left.slots status
+      → FollowsTail caller words asked followed looks shows left status
   unread_tail asked None speaks refuses = (unseen, unwatched, refused_memory words (Usage BadFollow 0) refuses)
   unread_tail asked (Some followed) speaks refuses =
-      let (most, are, above) = most_made told_in asked.process
-      (λ n. waiting (max (pause_by calling asked.pause) 1) (shows_by calling (method_of followed) shows n)) looks 0 (omega arith) (λ t. omega arith) in
-      let (why, says) = worded_by calling speaks refuses.says in
+      let (most, are, above) = most_made caller.told_in asked.process
+      (λ n. waiting (max (pause_by caller.calling asked.pause) 1) (shows_by caller.calling (method_of followed) shows n)) looks 0 (omega arith) (λ t. omega arith) in
+      let (why, says) = worded_by caller.calling speaks refuses.says in
       ends_by asked.process most are (no_room_yet why unseen unwatched
       (λ output error since are. let is_error : standard_error ≡ error = ap (λ (slots : List Slot). slot_at slots 1) are in (
         refuses.error,
-        subst (λ first. SaysFor told (by calling tool.Tail) why (message_of Memory []) first refuses.error) is_error says,
+        subst (λ first. SaysFor caller.told (by caller.calling tool.Tail) why (message_of Memory []) first refuses.error) is_error says,
         refuses.slots ∙ ap (changed_at 1 (λ _. refuses.error)) are,
       )) refuses.failed)
 
-  unread_files : (meant : Result Settings Fault) → settings_of calling words ≡ meant
-      → RefusesFor calling told words Memory new status
-      → FollowingEndsAt calling fed told_in told words looks shows seen watched new status meant
-  unread_files (Ok (Tail asked)) is refuses = unread_tail asked (followed_by calling fed asked) (by_words calling words is).0 refuses
+  unread_files : (meant : Result Settings Fault) → settings_of caller.calling words ≡ meant
+      → RefusesFor caller.calling caller.told words Memory left.slots status
+      → FollowingEndsAt caller fed words looks shows left status meant
+  unread_files (Ok (Tail asked)) is refuses = unread_tail asked (followed_by caller.calling fed asked) (by_words caller.calling words is).0 refuses
   unread_files (Ok (Csplit asked)) is refuses = inr (unseen, unwatched, (Memory, lacks_memory asked, refuses))
   unread_files (Ok asked) is refuses = inl (tt, (unseen, unwatched, refused_memory words (Usage BadFollow 0) refuses))
   unread_files (Err fault) is refuses = (unseen, unwatched, refused_memory words fault refuses)
 
   operands_unread : (settings : Settings) (fault : Fault) → HasBadOperands settings fault
-      → RefusesFor calling told words fault new status
-      → FollowingEndsAt calling fed told_in told words looks shows seen watched new status (Ok settings)
+      → RefusesFor caller.calling caller.told words fault left.slots status
+      → FollowingEndsAt caller fed words looks shows left status (Ok settings)
   operands_unread (Csplit asked) fault bad refuses = inr (unseen, unwatched, (fault, bad, refuses))
   operands_unread asked fault bad refuses = absurd bad
 
-  pub refused_words : {fault : Fault} → IsRefused HasBadOperands (settings_of calling words) fault
-      → RefusesFor calling told words fault new status
-      → FollowingEnds calling fed told_in told words looks shows seen watched new status
+  pub refused_words : {fault : Fault} → IsRefused HasBadOperands (settings_of caller.calling words) fault
+      → RefusesFor caller.calling caller.told words fault left.slots status
+      → FollowingEnds caller fed words looks shows left status
   refused_words (inr (inl is)) refuses = rw is (unseen, unwatched, refuses)
   refused_words {fault} (inr (inr (settings, is, bad))) refuses = rw is (operands_unread settings fault bad refuses)
-  refused_words (inl is) refuses = unread_files (settings_of calling words) refl (rw is at refuses)
+  refused_words (inl is) refuses = unread_files (settings_of caller.calling words) refl (rw is at refuses)
 
 -- Which of the two kinds of runs the words ask for.
 
@@ -346,7 +345,8 @@ module _ (calling : Calling) (fed told_in told_watched told : Bool) (words : Lis
     (seen : List Snapshot) (watched : List Watched) (new : List Slot) (status : ℕ) where
   abbrev pub FollowsSo : Bool → ℕ → Settings → Type 0
   FollowsSo is_fed looks settings =
-      FollowingEndsAt calling is_fed told_watched told words looks shows seen watched new status (Ok settings)
+      FollowingEndsAt (called calling told_watched told) is_fed words looks shows (remains seen watched new) status
+      (Ok settings)
 
   ends_alike : (settings : Settings) (looks : ℕ) → FollowsSo (asks_input calling settings && fed) looks settings
       → FollowsSo fed looks settings
@@ -376,8 +376,11 @@ program_refuses calling fed told_in told_watched {told} words laid {sources} sho
       by : (asked : Option ℕ)
           → ProgramEndsAt calling fed told_in told_watched told words laid sources sources shows seen watched new
           status asked
-      by (Some looks) =
-          (refl, refused_words calling fed _ _ words looks shows _ _ _ _ unseen unwatched refused refuses)
+      by (Some looks) = (
+        refl,
+        refused_words (called calling told_watched told) fed words looks shows (remains seen watched new) _
+            unseen unwatched refused refuses,
+      )
       by None =
           let all = refused_or_memory calling told_in told words laid sources new status fresh refused refuses in
           (unseen, unwatched, all)

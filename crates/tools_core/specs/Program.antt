@@ -8,7 +8,8 @@ use Rattle.ports_core.specs.{
 use Rattle.run_core.specs.{RunEnds.RunsOver, RunSteps.world_of}
 use Rattle.watch_core.specs.{DirWatchState.any_files, Snapshot.Snapshot, Watched.Watched}
 use Rattle.words_core.specs.{declared.settings.Settings.Settings, Words.{follows, looks, settings_of}}
-use Rattle.tools_core.specs.{Following.FollowingEnds, Outcome.{RefusesFor, RunEnds, names_read}}
+use Rattle.follow_core.specs.Ending.{remains}
+use Rattle.tools_core.specs.{Following.{FollowingEnds, called}, Outcome.{RefusesFor, RunEnds, names_read}}
 
 -- In how many looks files are followed, where that is asked for; standard input is followed only where it is a file that
 -- can be watched: `fed` says so.
@@ -22,8 +23,8 @@ abbrev pub ProgramEndsAt : Calling → (fed told_in told_watched told : Bool) �
     → (ℕ → List ℕ → Option Content) → List Source → List Source → (ℕ → Snapshot) → List Snapshot → List Watched
     → List Slot → ℕ → Option ℕ → Type 0
 ProgramEndsAt calling fed told_in told_watched told words laid sources sources_new shows seen watched new status
-    (Some looks) = (sources_new ≡ sources) × FollowingEnds calling fed told_watched told words looks shows seen
-    watched new status
+    (Some looks) = (sources_new ≡ sources) × FollowingEnds (called calling told_watched told) fed words looks shows
+    (remains seen watched new) status
 ProgramEndsAt calling fed told_in told_watched told words laid sources sources_new shows seen watched new status
     None = (seen ≡ []) × (watched ≡ []) × RunsOver told_in (world_of laid sources) (names_read calling words)
     (λ found. RunEnds calling told_in told words found sources sources_new new status)

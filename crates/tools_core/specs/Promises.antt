@@ -62,9 +62,9 @@ use Rattle.words_core.specs.{
 }
 use Rattle.split_core.specs.{Chunks.{chunks_of, has_ended, pieces_in}, ChunkWork.{files_by, kept}}
 use Rattle.watch_core.specs.{Snapshot.Snapshot, Watched.Watched}
-use Rattle.follow_core.specs.Ending.{shows_by}
+use Rattle.follow_core.specs.Ending.{remains, shows_by}
 use Rattle.tools_core.specs.{
-  Following.{FollowingEnds, method_of},
+  Following.{FollowingEnds, called, method_of},
   Outcome.{DoesAsked, RunEnds, names_read, refusal},
   Program.ProgramEnds,
   Tasks.{csplit_task, has_headers, head_task, is_minus, is_plus, names_of, naming_of, speaker_of, split_task, tail_task},
@@ -651,8 +651,8 @@ AsksToFollow run options followed looks = (pause : ℕ)
 pub record Follows (run : Run) (count : ℕ) (options : EndsAsked) (followed : Followed) : Type 0 where
   pub looks : ℕ
   pub read : AsksToFollow run options followed looks
-  pub ends : FollowingEnds run.calling run.fed true true run.words count run.shows run.seen run.watched
-      run.outputs run.status
+  pub ends : FollowingEnds (called run.calling true true) run.fed run.words count run.shows
+      (remains run.seen run.watched run.outputs) run.status
   pub well : run.status ≡ 0
 
 -- what each look of it shows where it follows its names so

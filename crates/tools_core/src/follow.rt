@@ -2,7 +2,8 @@
 ghost use Rattle.std.specs.Prelude.{◌≡◌, [], Ok, false, map};
 ghost use Rattle.ports_core.specs.Slot.{streams};
 ghost use Rattle.words_core.specs.Words.{HasOperands};
-ghost use Rattle.tools_core.specs.Following.{FollowingEnds, FollowingEndsAt, FollowsAs, method_of, pause_by, start_of};
+ghost use Rattle.tools_core.specs.Following.{FollowingEnds, FollowingEndsAt, FollowsAs, called, method_of, pause_by, start_of};
+ghost use Rattle.follow_core.specs.Ending.{remains};
 
 use crate::ends::{has_headers, is_plus};
 use crate::run::refuse_words;
@@ -33,9 +34,8 @@ pub fn run_follow<W: Watch, O: Outs>(
     requires unseen { W.seen watch.old ≡ [] }
     requires unwatched { W.watched watch.old ≡ [] }
     requires outputs { O.slots outs.old ≡ streams }
-    ensures { FollowingEnds Calling.Cutters false W.told O.told (map (λ word. word.now) words.now) looks
-        (W.shows watch.old)
-        (W.seen watch.new) (W.watched watch.new) (O.slots outs.new) result }
+    ensures { FollowingEnds (called Calling.Cutters W.told O.told) false (map (λ word. word.now) words.now) looks
+        (W.shows watch.old) (remains (W.seen watch.new) (W.watched watch.new) (O.slots outs.new)) result }
 {
     match read_words(alloc, words) {
         Ok(settings) => follow_asked(
@@ -68,9 +68,9 @@ pub(crate) fn follow_asked<W: Watch, O: Outs>(
     requires unwatched { W.watched watch.old ≡ [] }
     requires outputs { O.slots outs.old ≡ streams }
     requires operands { HasOperands settings.now }
-    ensures { FollowingEndsAt calling fed W.told O.told (map (λ word. word.now) words.now) looks
-        (W.shows watch.old)
-        (W.seen watch.new) (W.watched watch.new) (O.slots outs.new) result (Ok settings.now) }
+    ensures { FollowingEndsAt (called calling W.told O.told) fed (map (λ word. word.now) words.now) looks
+        (W.shows watch.old) (remains (W.seen watch.new) (W.watched watch.new) (O.slots outs.new)) result
+        (Ok settings.now) }
 {
     match settings {
         Settings::Tail(tail) => match tail.followed_by(calling, fed) {
@@ -94,8 +94,8 @@ fn follow_tail<W: Watch, O: Outs>(
     requires unseen { W.seen watch.old ≡ [] }
     requires unwatched { W.watched watch.old ≡ [] }
     requires outputs { O.slots outs.old ≡ streams }
-    ensures { FollowsAs calling W.told O.told settings.now followed looks (W.shows watch.old)
-        (W.seen watch.new) (W.watched watch.new) (O.slots outs.new) result }
+    ensures { FollowsAs (called calling W.told O.told) settings.now followed looks (W.shows watch.old)
+        (remains (W.seen watch.new) (W.watched watch.new) (O.slots outs.new)) result }
 {
     watch.wait_at_most(pause_by(calling, settings.pause));
     let limits = Limits {

@@ -1,26 +1,21 @@
 -- What a look gives for one name, call by call: bytes on standard output, under headers, and lines on standard error.
 -- Of each call on a name: what it owes, and what is due of it.
 use Rattle.std.specs.{
-  Prelude.{◌≡◌, ◌<◌, ◌-◌, Bool, true, false, ℕ, List, Option, Some, None, Result, Ok, Err, ◌⊎◌, nat_lt, [], ◌∷◌},
-  Prelude.{◌++◌, drop, length, if◌then◌else◌, IfOk, is_some},
+  Prelude.{◌≡◌, Bool, true, false, ℕ, List, Option, Some, None, Result, Ok, Err, ◌⊎◌, []},
+  Prelude.{◌++◌, if◌then◌else◌, IfOk, is_some},
 }
 use Rattle.ports_core.specs.{declared.{reason.Reason.Reason, fault.Fault.Fault}, Slot.{Slot, changed_at, slot_at}}
-use Rattle.watch_core.specs.{Snapshot.Snapshot, Watched.{NameBreaks, Watched, open_contents, opens, watched_at}}
+use Rattle.watch_core.specs.{Snapshot.Snapshot, Watched.{NameBreaks, Watched, opens, watched_at}}
 use Rattle.follow_core.specs.{
-  declared.{
-    notice.Notice.{Notice, TheVariants.{Truncated, Replaced, Inaccessible, Appeared}},
-    visitor.Stop.{Stop, TheVariants.{Broke, Over}},
-  },
-  Event.{Begins, Event, all_but, bytes_in, events_later, gives, lines_in, notes},
+  declared.visitor.Stop.{Stop, TheVariants.{Broke, Over}},
+  Event.{Begins, Event, bytes_in, lines_in},
   Followed.{last_with, text_with},
-  Gain.last_from,
-  Look.{Fate, sound, unmeasured, unsought, unread, can_meet, failed_by},
+  Look.{Fate, sound, unmeasured, unsought, unread, failed_by},
   Printing.PrinterState,
-  Reading.{AllGive, IsRead, IsSeen, IsWhole},
-  Share.{Share, bytes_of, came_before, is_kept, led_before, lines_of},
+  Reading.{Caught, First, IsLong, LedTo, ReadOn},
+  Share.{Share, bytes_of, lines_of},
   Sharing.{WroteBy, CanPrint, HasError},
-  Standing.{IsLong, StandsAt},
-  Version.{Entry, entries_led, entries_open, held_at, is_file},
+  Version.open_after_look,
 }
 use Rattle.ports_core.specs.declared.fault.Fault.TheVariants as fault
 use Rattle.watch_core.specs.declared.watch.Broken.TheVariants as broken
@@ -75,65 +70,9 @@ pub record Puts (told is_opened : Bool) (printer : PrinterState) (name due : Lis
   pub are : ArePut over bytes due
   pub came : Came told printer is_opened name bytes [] old after new over
 
--- the events are those that are due; if a call on the name failed, those before it; if following ended, a beginning
-abbrev pub AreGiven : Option Stop → List Event → (due before : List Event) → Type 0
-AreGiven None events due before = events ≡ due
-AreGiven (Some (Broke why)) events due before = events ≡ before
-AreGiven (Some (Over why)) events due before = Begins events due
-
--- What is due of a name was given; if a call on the name failed, what comes before that call; if following ended, a
--- beginning. `Is` is true of what was given, even if what looks see isn't visible.
-pub record GivesDue (told_in : Bool) (Is : List Event → Type 0) (told is_opened : Bool) (printer : PrinterState)
-    (name : List ℕ) (due before : List Event) (old : List Slot) (after : PrinterState) (new : List Slot)
-    (stop : Option Stop) : Type 0 where
-  pub events : List Event
-  pub are : told_in ≡ true → AreGiven stop events due before
-  pub found : Is events
-  pub came : Came told printer is_opened name (bytes_in events) (lines_in name events) old after new (over_by stop)
-
--- the events are lines alone, and `Tells` is true of each line
-abbrev pub Noted : (Notice → Type 0) → List Event → Type 0
-Noted Tells events = AllGive Tells (λ bytes. ⊥) events
-
--- `Tells` is true of each line that was given, and the bytes are what reads of files gave, from a place for which
--- `Starts` is true. If following ended, the events are a beginning of such events. A call failed only if this look lets
--- a call fail.
-pub data WereFound (Tells : Notice → Type 0) (Starts : Option ℕ → ℕ → Type 0) (snapshot : Snapshot) (name : List ℕ)
-    (fate : Fate) : Option Stop → List Event → Type 0 where
-  found_all : {events : List Event} → AllGive Tells (IsWhole Starts snapshot name sound) events
-      → WereFound Tells Starts snapshot name fate None events
-  found_before : {events : List Event} {why : Fault} → snapshot.breaks name ≡ true
-      → AllGive Tells (IsWhole Starts snapshot name fate) events
-      → WereFound Tells Starts snapshot name fate (Some (Broke why)) events
-  found_begun : {events : List Event} {why : Fault} (all : List Event) → Begins events all
-      → AllGive Tells (IsRead Starts snapshot name) all
-      → WereFound Tells Starts snapshot name fate (Some (Over why)) events
-
--- reads of the open file begin at this place
-abbrev pub FromThere : Option ℕ → ℕ → Option ℕ → ℕ → Type 0
-FromThere opened place file from = (file ≡ opened) × (from ≡ place)
-
--- reads of the open file begin at the front or at the position
-abbrev pub FromEither : Option ℕ → (position : ℕ) → Option ℕ → ℕ → Type 0
-FromEither opened position file from =
-    (file ≡ opened) × (is_some opened ≡ true) × ((from ≡ 0) ⊎ (from ≡ position))
-
 -- if a file is open, it was found to hold this many bytes
-abbrev pub HoldsMany : Snapshot → Watched → ℕ → Type 0
-HoldsMany snapshot watched len = IsLong false snapshot watched.name watched.opened len
-
--- no line is given
-abbrev pub Nothing : Notice → Type 0
-Nothing notice = ⊥
-
--- the line reports that the open file is shorter, and that was found
-abbrev pub ToldShort : Snapshot → Watched → (held : ℕ) → Notice → Type 0
-ToldShort snapshot known held notice = (notice ≡ Truncated) × IsSeen snapshot known.name known.opened held Truncated
-
--- the line reports where the name leads, and that was found; names are followed
-abbrev pub ToldLed : (by_name : Bool) → Snapshot → Watched → Notice → Type 0
-ToldLed by_name snapshot known notice = (by_name ≡ true)
-    × ((held : ℕ) → IsSeen snapshot known.name known.opened held notice)
+abbrev pub HoldsMany : (told : Bool) → Snapshot → Watched → ℕ → Type 0
+HoldsMany told snapshot watched len = IsLong told false snapshot watched.name watched.opened len
 
 -- following is over: there was no memory, or standard output is broken; standard error can still get a message
 abbrev pub HasStopped : Fault → List Slot → Type 0
@@ -182,98 +121,77 @@ Follows told led place old new fate None = (file : Option ℕ) × (new ≡ chang
 Follows told led place old new fate (Some (Broke why)) = BrokeAt place old new fate why
 Follows told led place old new fate (Some (Over why)) = (file : Option ℕ) × (new ≡ changed_at place (opens file) old)
 
--- if a call on the name failed, then this is so
-abbrev pub IfBroke : Option Stop → Type 0 → Type 0
-IfBroke None so = Unit {0}
-IfBroke (Some (Broke why)) so = so
-IfBroke (Some (Over why)) so = Unit {0}
+-- what a look sees, and whether that and the outputs are visible
+pub record Sight : Type 0 where
+  pub told_in : Bool
+  pub told : Bool
+  pub snapshot : Snapshot
 
--- the call that failed asks how long this file is, or reads it to write its bytes
-pub data ReadsOf (opened : Option ℕ) : Fate → Type 0 where
-  measures : is_some opened ≡ true → ReadsOf opened (unmeasured opened)
-  reads_on : {from : ℕ} → is_some opened ≡ true → ReadsOf opened (unread opened from)
+abbrev pub sight : (told_in told : Bool) → Snapshot → Sight
+sight told_in told snapshot = record { told_in = told_in; told = told; snapshot = snapshot }
 
--- Bytes of the open file were written from the place `from` on. If a read failed, it was the read at the place `at`.
-pub record Copies (told_in told : Bool) (snapshot : Snapshot) (from : ℕ) (place : ℕ) (name : List ℕ)
-    (watched : List Watched) (printer : PrinterState) (slots : List Slot) (watched_new : List Watched)
-    (after : PrinterState) (slots_new : List Slot) (stop : Option Stop) : Type 0 where
-  pub at : ℕ
-  pub ends : let opened = watched_at watched place in let contents = open_contents snapshot opened in
-      GivesDue told_in
-      (WereFound Nothing (FromThere opened.opened from) snapshot opened.name (unread opened.opened at) stop)
-      told false printer name (gives (drop from contents) ∷ [])
-      (all_but (length contents - at) (gives (drop from contents) ∷ [])) slots after slots_new stop
-  pub keeps : Keeps place watched watched_new (unread (watched_at watched place).opened at) stop
+-- the watched names, the printer and the outputs between two calls
+pub record Moment : Type 0 where
+  pub watched : List Watched
+  pub printer : PrinterState
+  pub slots : List Slot
 
--- reads begin anywhere
-abbrev pub Anywhere : Option ℕ → ℕ → Type 0
-Anywhere file from = Unit {0}
+abbrev pub moment : List Watched → PrinterState → List Slot → Moment
+moment watched printer slots = record { watched = watched; printer = printer; slots = slots }
+
+-- What is given by how far calls came: all; if a call on the name failed with this fate, what comes before it; if
+-- following ended, a beginning.
+abbrev pub ByStop : (Option Fate → List Event → Type 0) → Fate → Option Stop → List Event → Type 0
+ByStop Is fate None events = Is (Some sound) events
+ByStop Is fate (Some (Broke why)) events = Is (Some fate) events
+ByStop Is fate (Some (Over why)) events = (all : List Event) × Is None all × Begins events all
+
+-- the outputs got events of a name
+pub record Gives (told : Bool) (Is : Option Fate → List Event → Type 0) (fate : Fate) (is_opened : Bool)
+    (name : List ℕ) (old new : Moment) (stop : Option Stop) : Type 0 where
+  pub events : List Event
+  pub given : ByStop Is fate stop events
+  pub came : Came told old.printer is_opened name (bytes_in events) (lines_in name events) old.slots new.printer new.slots
+      (over_by stop)
+
+-- these are the events, however far calls came
+abbrev pub Are : List Event → Option Fate → List Event → Type 0
+Are due reach events = events ≡ due
+
+-- Bytes of the open file, of this length, were written from the place `from` on.
+pub record Copies (see : Sight) (from place : ℕ) (name : List ℕ) (len : ℕ) (old new : Moment) (stop : Option Stop)
+    : Type 0 where
+  pub fate : Fate
+  pub ends : let known = watched_at old.watched place in
+      Gives see.told (ReadOn see.told_in see.snapshot known.name known.opened from len) fate false name old new stop
+  pub keeps : Keeps place old.watched new.watched fate stop
 
 -- The first look wrote its part of the open file. Before that it sought where this part begins, if `seeks` says so.
-pub record Starts (told_in told seeks : Bool) (snapshot : Snapshot) (start : List ℕ → List ℕ) (place : ℕ)
-    (name : List ℕ)
-    (watched : List Watched) (printer : PrinterState) (slots : List Slot) (watched_new : List Watched)
-    (after : PrinterState) (slots_new : List Slot) (stop : Option Stop) : Type 0 where
+pub record Starts (see : Sight) (seeks : Bool) (start : List ℕ → List ℕ) (place : ℕ) (name : List ℕ)
+    (old new : Moment) (stop : Option Stop) : Type 0 where
   pub fate : Fate
-  pub ends : let due = gives (start (held_at snapshot (watched_at watched place).opened)) ∷ [] in
-      GivesDue told_in
-      (WereFound Nothing Anywhere snapshot (watched_at watched place).name fate stop) told false printer name due
-      (led_before snapshot fate due) slots after slots_new stop
-  pub keeps : Keeps place watched watched_new fate stop
-  pub met : IfBroke stop ((by_name : Bool) → can_meet true by_name seeks fate ≡ true)
+  pub ends : let known = watched_at old.watched place in
+      Gives see.told (First see.told_in see.snapshot known.name known.opened seeks start) fate false name old new stop
+  pub keeps : Keeps place old.watched new.watched fate stop
 
--- the line reports that an open file is shorter than what was seen of it, and it is
-abbrev pub IsPast : ℕ → ℕ → Notice → Type 0
-IsPast position len notice = (notice ≡ Truncated) × (len < position)
-
--- the line that an open file is shorter than what was seen of it, if it is
-abbrev pub notes_past : ℕ → ℕ → List Event
-notes_past position len = if nat_lt len position then notes Truncated ∷ [] else []
-
--- what changed, if the first file is open and the name leads to the second
-abbrev pub change_between : Option ℕ → Option ℕ → Option Notice
-change_between None None = None
-change_between (Some opened) None = Some Inaccessible
-change_between opened (Some file) = if is_file file opened then None
-    else Some (if is_some opened then Replaced else Appeared)
-
--- A call gave what the open file adds to a name. Before the call the name stood at its last entry, with this file open
--- and `position` bytes of it seen. After the call it stands at its new last entry.
-pub record Adds (told_in told : Bool) (snapshot : Snapshot) (place : ℕ) (name : List ℕ) (position : ℕ)
-    (watched : List Watched) (printer : PrinterState) (slots : List Slot) (watched_new : List Watched)
-    (after : PrinterState) (slots_new : List Slot) (result : Result ℕ Stop) : Type 0 where
+-- A call gave what the open file adds to a name. Before the call `position` bytes of it were seen, and after it all.
+pub record Adds (see : Sight) (place : ℕ) (name : List ℕ) (position : ℕ) (old new : Moment)
+    (result : Result ℕ Stop) : Type 0 where
   pub fate : Fate
-  pub ends : let known = watched_at watched place in (last : Entry)
-      → (told_in ≡ true → StandsAt last known.opened position)
-      → let due = events_later last (entries_open snapshot known.opened) in
-      GivesDue told_in
-      (WereFound (ToldShort snapshot known position) (FromEither known.opened position) snapshot known.name fate
-      (stop_in result)) told false printer name due (came_before snapshot fate due) slots after slots_new
+  pub ends : let known = watched_at old.watched place in
+      Gives see.told (Caught see.told_in see.snapshot known.name known.opened position) fate false name old new
       (stop_in result)
-  pub stands : let opened = (watched_at watched place).opened in IfOk result (λ len. told_in ≡ true → (last : Entry)
-      → StandsAt last opened position → StandsAt (last_from last (entries_open snapshot opened)) opened len)
-  pub long : IfOk result (HoldsMany snapshot (watched_at watched place))
-  pub keeps : Keeps place watched watched_new fate (stop_in result)
-  pub reads : IfBroke (stop_in result) (ReadsOf (watched_at watched place).opened fate)
+  pub long : IfOk result (HoldsMany see.told_in see.snapshot (watched_at old.watched place))
+  pub keeps : Keeps place old.watched new.watched fate (stop_in result)
 
--- reads begin at the front
-abbrev pub FromFront : Option ℕ → ℕ → Type 0
-FromFront file from = from ≡ 0
-
--- a call gave what the file adds to which the name leads, and followed the name to this file, or to none
-pub record Leads (told_in told by_name : Bool) (snapshot : Snapshot) (led : Option ℕ) (place : ℕ) (name : List ℕ)
-    (position : ℕ) (watched : List Watched) (printer : PrinterState) (slots : List Slot) (watched_new : List Watched)
-    (after : PrinterState) (slots_new : List Slot) (result : Result ℕ Stop) : Type 0 where
+-- a call gave what came of where the name leads, and followed the name there, if names are followed
+pub record Leads (see : Sight) (by_name : Bool) (place : ℕ) (name : List ℕ) (position : ℕ) (old new : Moment)
+    (result : Result ℕ Stop) : Type 0 where
   pub fate : Fate
-  pub ends : let known = watched_at watched place in (last : Entry)
-      → (told_in ≡ true → StandsAt last known.opened position)
-      → let due = events_later last (entries_led snapshot known.opened led) in
-      GivesDue told_in (WereFound (ToldLed by_name snapshot known) FromFront snapshot known.name fate (stop_in result))
-      told false printer name due (led_before snapshot fate due) slots after slots_new (stop_in result)
-  pub stands : let opened = (watched_at watched place).opened in IfOk result (λ len. told_in ≡ true → (last : Entry)
-      → StandsAt last opened position → StandsAt (last_from last (entries_led snapshot opened led)) led len)
-  pub long : HoldsMany snapshot (watched_at watched place) position → let now = watched_at watched_new place in
-      IfOk result (IsLong by_name snapshot now.name now.opened)
-  pub follows : Follows told_in led place watched watched_new fate (stop_in result)
-  pub other : IfBroke (stop_in result) (told_in ≡ true → is_kept (watched_at watched place).opened fate ≡ false)
-  pub met : IfBroke (stop_in result) ((seeks : Bool) → can_meet false true seeks fate ≡ true)
+  pub ends : let known = watched_at old.watched place in
+      Gives see.told (LedTo see.told_in by_name see.snapshot known.name known.opened) fate false name old new
+      (stop_in result)
+  pub long : HoldsMany see.told_in see.snapshot (watched_at old.watched place) position
+      → let now = watched_at new.watched place in IfOk result (IsLong see.told_in by_name see.snapshot now.name now.opened)
+  pub follows : Follows see.told_in (open_after_look by_name name (watched_at old.watched place).opened see.snapshot)
+      place old.watched new.watched fate (stop_in result)

@@ -7,20 +7,21 @@ use Rattle.follow_core.specs.{
   declared.{
     name.Standing.{Standing, TheVariants.{New, Followed, Left}},
     visitor.Stop.{Stop, TheVariants.{Broke, Over}},
-    start.Start.Start,
     follow.Phase.TheVariants.{Fresh, Looking, Over},
+    run.{End.{End, TheVariants.{Looked, Unread}}, Limits.Limits},
   },
   Standing.{NameState, NoneGoesOn, AllStand, CanVisit, Stands, StandsAmong, texts},
   Telling.{failure_message, tail_by},
-  Share.{BeginsShare, Share, share_by, share_of, shares_at_look_from},
-  Look.{Fate, Look, Ways, sound, fate_at, is_dropped, ways_of, snapshots},
+  Share.{BeginsShare, Share, share_by},
+  Look.{Fate, Look, Ways, sound, fate_at, is_dropped, snapshots},
   Printing.PrinterState,
   Reading.{AreAtLook, IsBegun, IsGiven},
-  inner.Giving.{IsFront, Shared, HasStopped},
+  inner.Giving.{IsFront, HasStopped, Moment, Shared, Sight},
   Followed.any_failed,
-  FollowState.{AllReady, Begun, FollowState, Holds, IsCause, IsOther, LooksOn, SawOrNot, StopsOn, is_alive},
+  FollowState.{AllReady, Asked, Begun, FollowState, Holds, IsCause, IsOther, LooksOn, Point, SawOrNot, StopsOn},
+  FollowState.{is_alive, point},
   Sharing.{AllShared, AllShort, CanPrint, HasError},
-  Ending.Made,
+  Ending.{AreMost, Made, StoppedIn, remains},
 }
 use Rattle.ports_core.specs.{
   Slot.{Slot, changed_at, with_broken},
@@ -41,14 +42,13 @@ any_goes_on by_name [] = false
 any_goes_on by_name (name ∷ names) = goes_on_as by_name name.standing || any_goes_on by_name names
 
 -- the look at the name was stopped: the outputs have a beginning of what it gives
-pub record Stopped (told_in told : Bool) (ways : Ways) (before : List Look) (snapshot : Snapshot) (name : List ℕ)
-    (printer : PrinterState) (old new : List Slot) (why : Fault) : Type 0 where
+pub record Stopped (see : Sight) (ways : Ways) (before : List Look) (name : List ℕ) (old new : Moment) (why : Fault)
+    : Type 0 where
   pub share : Share
-  pub after : PrinterState
-  pub begins : told_in ≡ true → (fates : List Fate)
-      → BeginsShare share (share_by ways name before (record { snapshot = snapshot; fates = fates }) sound)
-  pub found : IsBegun before snapshot name share
-  pub short : Shared told printer share old after new (Some why)
+  pub begins : see.told_in ≡ true → (fates : List Fate)
+      → BeginsShare share (share_by ways name before (record { snapshot = see.snapshot; fates = fates }) sound)
+  pub found : IsBegun see.told_in ways before see.snapshot name share
+  pub short : Shared see.told old.printer share old.slots new.printer new.slots (Some why)
 
 -- A call on the name failed: that is reported, and the name is dropped. Or following ends: nothing more is reported.
 abbrev pub TellsStop : Bool → Calling → List ℕ → List Slot → Standing → List Slot → Stop → Result Bool Fault → Type 0
@@ -65,59 +65,51 @@ pub record KeepsOthers (place : ℕ) (old new : List Watched) : Type 0 where
   pub count : length new ≡ length old
   pub others : (other : ℕ) → (other ≡ place → ⊥) → watched_at new other ≡ watched_at old other
 
--- The outputs have what the look gives for the name at this place by its fate, and the name stands as after that look.
-pub record Visited (told_in told : Bool) (ways : Ways) (looks : List Look) (snapshot : Snapshot) (place : ℕ)
-    (name : List ℕ) (printer : PrinterState) (old : List Slot) (after : PrinterState) (new : List Slot)
-    (watched : Watched) (standing : Standing) (failed : Bool) : Type 0 where
+-- The outputs have what the look gives for the name of this number by its fate, and the name stands as after that look.
+pub record Visited (see : Sight) (ways : Ways) (looks : List Look) (place : ℕ) (now : NameState) (old new : Moment)
+    (failed : Bool) : Type 0 where
   pub fate : Fate
   pub share : Share
-  pub is_share : told_in ≡ true → (fates : List Fate)
-      → fate_at place (record { snapshot = snapshot; fates = fates }) ≡ fate
-      → share ≡ share_of ways looks (record { snapshot = snapshot; fates = fates }) place name
-  pub found : (fates : List Fate) → fate_at place (record { snapshot = snapshot; fates = fates }) ≡ fate
-      → IsGiven looks (record { snapshot = snapshot; fates = fates }) place name share
+  pub found : (fates : List Fate) → fate_at place (record { snapshot = see.snapshot; fates = fates }) ≡ fate
+      → IsGiven see.told_in ways looks (record { snapshot = see.snapshot; fates = fates }) place now.text share
   pub is_failed : is_some share.failure ≡ failed
-  pub shared : Shared told printer share old after new None
-  pub stands : (fates : List Fate) → fate_at place (record { snapshot = snapshot; fates = fates }) ≡ fate
-      → Stands told_in ways (looks ++ record { snapshot = snapshot; fates = fates } ∷ []) place name watched standing
+  pub shared : Shared see.told old.printer share old.slots new.printer new.slots None
+  pub stands : (fates : List Fate) → fate_at place (record { snapshot = see.snapshot; fates = fates }) ≡ fate
+      → Stands see.told_in ways (looks ++ record { snapshot = see.snapshot; fates = fates } ∷ []) place now.text
+      (watched_at new.watched place) now.standing
 
 -- What a look leaves at one name, by how the name stood, whatever looks were made before. The outputs have what the
 -- look gives for the name; or the look was stopped. If it wasn't, the name can be looked at again, or is looked at no
 -- more.
-pub record Visits (told_in told : Bool) (ways : Ways) (snapshot : Snapshot) (place : ℕ) (name : List ℕ)
-    (standing : Standing) (watched : List Watched) (printer : PrinterState) (slots : List Slot)
-    (standing_new : Standing) (watched_new : List Watched) (printer_new : PrinterState) (slots_new : List Slot)
-    (result : Result Bool Fault) : Type 0 where
+pub record Visits (see : Sight) (ways : Ways) (place : ℕ) (one : NameState) (old : Moment) (standing : Standing)
+    (new : Moment) (result : Result Bool Fault) : Type 0 where
   pub visited : IfOk result (λ failed. (looks : List Look)
-      → Stands told_in ways looks place name (watched_at watched place) standing
-      → Visited told_in told ways looks snapshot place name printer slots printer_new slots_new
-      (watched_at watched_new place) standing_new failed)
+      → Stands see.told_in ways looks place one.text (watched_at old.watched place) one.standing
+      → Visited see ways looks place (record one { standing = standing }) old new failed)
   pub stopped : IfErr result (λ why. (looks : List Look)
-      → Stands told_in ways looks place name (watched_at watched place) standing
-      → (is_dropped place looks ≡ false) × Stopped told_in told ways looks snapshot name printer slots slots_new why)
-  pub ready : OnOk result (CanVisit (record { text = name; standing = standing_new }) (watched_at watched_new place))
-  pub others : OnOk result (KeepsOthers place watched watched_new)
-  pub halts : IfErr result (λ why. Opened place watched watched_new)
+      → Stands see.told_in ways looks place one.text (watched_at old.watched place) one.standing
+      → (is_dropped place looks ≡ false) × Stopped see ways looks one.text old new why)
+  pub ready : OnOk result (CanVisit (record one { standing = standing }) (watched_at new.watched place))
+  pub others : OnOk result (KeepsOthers place old.watched new.watched)
+  pub halts : IfErr result (λ why. Opened place old.watched new.watched)
 
 -- The outputs have what the look gives for the names before this place, whatever fates the other names have. The names
 -- before this place stand as after that look, and the others as before it.
-pub record VisitedTo (told_in told : Bool) (ways : Ways) (looks : List Look) (snapshot : Snapshot) (place : ℕ)
-    (names : List NameState) (printer : PrinterState) (old : List Slot) (after : PrinterState) (new : List Slot)
-    (watched : List Watched) (names_now : List NameState) (failed : Bool) : Type 0 where
+pub record VisitedTo (see : Sight) (ways : Ways) (looks : List Look) (place : ℕ) (names : List NameState)
+    (old new : Moment) (failed : Bool) : Type 0 where
   pub fates : List Fate
   pub shares : List Share
   pub count : length fates ≡ ways.first + place
-  pub are : told_in ≡ true → (all : List Fate) → IsFront fates all → shares ≡ shares_at_look_from ways looks
-      (record { snapshot = snapshot; fates = all }) ways.first (take place (texts names))
-  pub found : (all : List Fate) → IsFront fates all → AreAtLook looks (record { snapshot = snapshot; fates = all })
-      ways.first (take place (texts names)) shares
+  pub found : (all : List Fate) → IsFront fates all
+      → AreAtLook see.told_in ways looks (record { snapshot = see.snapshot; fates = all }) ways.first
+      (take place (texts names)) shares
   pub is_failed : any_failed shares ≡ failed
-  pub shared : AllShared told printer shares old after new
-  pub same : texts names_now ≡ texts names
+  pub shared : AllShared see.told old.printer shares old.slots new.printer new.slots
   pub done : (all : List Fate) → IsFront fates all → (other : ℕ) → other < place
-      → StandsAmong told_in ways (looks ++ record { snapshot = snapshot; fates = all } ∷ []) names_now watched other
-  pub rest : (other : ℕ) → place ≤ other → other < length names_now
-      → StandsAmong told_in ways looks names_now watched other
+      → StandsAmong see.told_in ways (looks ++ record { snapshot = see.snapshot; fates = all } ∷ []) names new.watched
+      other
+  pub rest : (other : ℕ) → place ≤ other → other < length names
+      → StandsAmong see.told_in ways looks names new.watched other
 
 -- the names stand as after these looks, and the first of them has this number
 pub record StandFrom (told_in : Bool) (ways : Ways) (looks : List Look) (first : ℕ) (names : List NameState)
@@ -127,26 +119,23 @@ pub record StandFrom (told_in : Bool) (ways : Ways) (looks : List Look) (first :
   pub many : length watched ≡ ways.first + length names
 
 -- What a look at all these names leaves, whatever looks were made before. The first name has this number.
-pub record VisitsAll (told_in told : Bool) (snapshot : Snapshot) (by_name : Bool) (start : Start) (first : ℕ)
-    (names : List NameState) (watched : List Watched) (printer : PrinterState) (slots : List Slot)
-    (names_new : List NameState) (watched_new : List Watched) (printer_new : PrinterState) (slots_new : List Slot)
-    (result : Result Bool Fault) : Type 0 where
+pub record VisitsAll (see : Sight) (ways : ℕ → Ways) (first : ℕ) (names : List NameState) (old : Moment)
+    (names_new : List NameState) (new : Moment) (result : Result Bool Fault) : Type 0 where
+  pub same : OnOk result (texts names_new ≡ texts names)
   pub visited : IfOk result (λ failed. (from : ℕ) (looks : List Look)
-      → StandFrom told_in (ways_of from by_name start) looks first names watched
-      → VisitedTo told_in told (ways_of from by_name start) looks snapshot (length names) names printer slots
-      printer_new slots_new watched_new names_new failed)
+      → StandFrom see.told_in (ways from) looks first names old.watched
+      → VisitedTo see (ways from) looks (length names) names_new old new failed)
   pub stopped : IfErr result (λ why. (from : ℕ) (looks : List Look)
-      → StandFrom told_in (ways_of from by_name start) looks first names watched
-      → (whole part : List Share)
-      × Begun told_in (ways_of from by_name start) (texts names) looks snapshot watched_new whole part
-      × (mid : PrinterState) × (reached : List Slot) × AllShared told printer whole slots mid reached
-      × AllShort told mid part reached slots_new why)
-  pub ready : OnOk result (AllReady names_new first watched_new)
-  pub count : length watched_new ≡ length watched
+      → StandFrom see.told_in (ways from) looks first names old.watched → (whole part : List Share)
+      × Begun see.told_in (ways from) (texts names) looks see.snapshot new.watched whole part
+      × (mid : PrinterState) × (reached : List Slot)
+      × AllShared see.told old.printer whole old.slots mid reached × AllShort see.told mid part reached new.slots why)
+  pub ready : OnOk result (AllReady names_new first new.watched)
+  pub count : length new.watched ≡ length old.watched
   pub others : (number : ℕ) → ((place : ℕ) → place < length names → number ≡ first + place → ⊥)
-      → watched_at watched_new number ≡ watched_at watched number
-  pub can : OnOk result (CanPrint slots_new)
-  pub error : IfErr result (λ why. HasStopped why slots_new)
+      → watched_at new.watched number ≡ watched_at old.watched number
+  pub can : OnOk result (CanPrint new.slots)
+  pub error : IfErr result (λ why. HasStopped why new.slots)
 
 -- some of these names, from the first on, were added to the watched names
 pub record AddsSome (names : List (List ℕ)) (old new : List Watched) : Type 0 where
@@ -168,53 +157,62 @@ pub record BeginsLook (told_in : Bool) (old : FollowState) (watched : List Watch
   pub ready : AllReady new.names new.first watched_new
   pub others : (number : ℕ) → IsOther old watched number
       → IsOther new watched_new number × (watched_at watched_new number ≡ watched_at watched number)
-  pub holds : (told : Bool) (calling : Calling) (ways : Ways) (headers : Bool) (names : List (List ℕ))
-      (looks : List Look) (first slots : List Slot)
-      → Holds told_in told calling ways headers names looks first old watched slots
-      → Holds told_in told calling ways headers names looks first new watched_new slots
+  pub holds : (told : Bool) (asked : Asked) (looks : List Look) (slots : List Slot)
+      → Holds told_in told asked looks (point old watched slots)
+      → Holds told_in told asked looks (point new watched_new slots)
 
 -- one more look was made, which saw this, and `result` says whether it failed; or the look was stopped
-pub record MakesLook (told_in told : Bool) (snapshot : Snapshot) (seen : List Snapshot) (old : FollowState)
-    (watched : List Watched) (slots : List Slot)
-    (seen_new : List Snapshot) (new : FollowState) (watched_new : List Watched) (slots_new : List Slot)
-    (result : Result Bool Fault) : Type 0 where
-  pub looked : IfOk result (λ failed. LooksOn told_in told snapshot old watched slots
-      (record new { has_failed = new.has_failed || failed }) watched_new slots_new)
-  pub stopped : IfErr result (StopsOn told_in told snapshot old watched slots watched_new slots_new)
+pub record MakesLook (told_in told : Bool) (snapshot : Snapshot) (seen : List Snapshot) (old : Point)
+    (seen_new : List Snapshot) (new : Point) (result : Result Bool Fault) : Type 0 where
+  pub looked : IfOk result (λ failed. LooksOn told_in told snapshot old
+      (record new { follow = record new.follow { has_failed = new.follow.has_failed || failed } }))
+  pub stopped : IfErr result (StopsOn told_in told snapshot old new.watched new.slots)
   pub seen_is : OnOk result (seen_new ≡ seen ++ snapshot ∷ [])
   pub saw : IfErr result (λ why. SawOrNot seen snapshot seen_new)
-  pub phase : OnOk result (new.phase ≡ Looking)
-  pub ready : OnOk result (AllReady new.names new.first watched_new)
-  pub can : OnOk result (CanPrint slots_new)
-  pub cause : IfErr result (IsCause old slots slots_new)
-  pub error : HasError slots_new
-  pub others : (number : ℕ) → IsOther old watched number → watched_at watched_new number ≡ watched_at watched number
+  pub phase : OnOk result (new.follow.phase ≡ Looking)
+  pub ready : OnOk result (AllReady new.follow.names new.follow.first new.watched)
+  pub can : OnOk result (CanPrint new.slots)
+  pub cause : IfErr result (IsCause old.follow old.slots new.slots)
+  pub error : HasError new.slots
+  pub others : (number : ℕ) → IsOther old.follow old.watched number
+      → watched_at new.watched number ≡ watched_at old.watched number
 
 -- As many looks were made as were asked for, or fewer, after which nothing more can come. The outputs have what these
 -- looks give.
-pub record LookedAll (told_in told : Bool) (calling : Calling) (ways : Ways) (headers : Bool) (names : List (List ℕ))
-    (count : ℕ)
-    (shows : ℕ → Snapshot) (first : List Slot) (follow : FollowState) (seen : List Snapshot) (watched : List Watched)
-    (slots : List Slot) : Type 0 where
+pub record LookedAll (told_in told : Bool) (asked : Asked) (count : ℕ) (shows : ℕ → Snapshot) (now : Point)
+    (seen : List Snapshot) : Type 0 where
   pub looks : List Look
   pub observed : seen ≡ snapshots looks
-  pub made : Made told_in ways names shows looks
+  pub made : Made told_in asked.ways asked.names shows looks
   pub within : length looks ≤ count
-  pub over : length looks < count → (0 < length looks) × (told_in ≡ true → is_alive ways names looks ≡ false)
-      × NoneGoesOn ways watched
-  pub holds : Holds told_in told calling ways headers names looks first follow watched slots
+  pub over : length looks < count → (0 < length looks)
+      × (told_in ≡ true → is_alive asked.ways asked.names looks ≡ false) × NoneGoesOn asked.ways now.watched
+  pub holds : Holds told_in told asked looks now
 
 -- Fewer looks were made than were asked for, and a further look could give something. Then it was found that nobody
 -- reads standard output any more, and nothing was written but what these looks give.
-pub record FoundUnread (told_in told : Bool) (calling : Calling) (ways : Ways) (headers : Bool)
-    (names : List (List ℕ)) (count : ℕ)
-    (shows : ℕ → Snapshot) (first : List Slot) (follow : FollowState) (seen : List Snapshot) (watched : List Watched)
-    (slots : List Slot) : Type 0 where
+pub record FoundUnread (told_in told : Bool) (asked : Asked) (count : ℕ) (shows : ℕ → Snapshot) (now : Point)
+    (seen : List Snapshot) : Type 0 where
   pub looks : List Look
   pub observed : seen ≡ snapshots looks
-  pub made : Made told_in ways names shows looks
+  pub made : Made told_in asked.ways asked.names shows looks
   pub fewer : length looks < count
-  pub alive : told_in ≡ true → 0 < length looks → is_alive ways names looks ≡ true
+  pub alive : told_in ≡ true → 0 < length looks → is_alive asked.ways asked.names looks ≡ true
   pub before : List Slot
-  pub broke : slots ≡ with_broken Gone 0 before
-  pub holds : Holds told_in told calling ways headers names looks first follow watched before
+  pub broke : now.slots ≡ with_broken Gone 0 before
+  pub holds : Holds told_in told asked looks (record now { slots = before })
+
+-- how looks in turn came to their end, by what they return
+abbrev pub MadeLooks : (told_in told : Bool) → Asked → (count : ℕ) → (ℕ → Snapshot) → Point → List Snapshot
+    → Result End Fault → Type 0
+MadeLooks told_in told asked count shows now seen (Ok Looked) = LookedAll told_in told asked count shows now seen
+MadeLooks told_in told asked count shows now seen (Ok Unread) = FoundUnread told_in told asked count shows now seen
+MadeLooks told_in told asked count shows now seen (Err why) =
+    StoppedIn told_in told asked count shows (remains seen now.watched now.slots) why
+
+-- looks in turn were made up to these limits, and came to their end
+abbrev pub LooksInTurn : (told_in told : Bool) → Limits → (ℕ → Snapshot) → (old new : Point) → List Snapshot
+    → Result End Fault → Type 0
+LooksInTurn told_in told limits shows old new seen result = (most : ℕ)
+    × AreMost told_in limits.process shows limits.looks most
+    × ((asked : Asked) → Holds told_in told asked [] old → MadeLooks told_in told asked most shows new seen result)

@@ -1,5 +1,5 @@
 use Rattle.std.proofs.{
-  Common.{◌≡◌, ◌<◌, ◌≤◌, ◌+◌, length, refl, replicate, [], sym, ◌∙◌, subst, arith},
+  Common.{◌≡◌, ◌<◌, ◌≤◌, ◌+◌, length, ap, refl, replicate, [], sym, ◌∙◌, subst, arith},
   lemmas.List.{length-set, get_or_default, length-replicate},
 }
 use Rattle.watch_core.specs.Watched.{opens}
@@ -21,11 +21,9 @@ loop-place-init g c = record {
     fates = replicate from sound;
     shares = [];
     count = length-replicate from sound ∙ omega arith;
-    are = λ t all front. refl;
     found = λ all front. no_names;
     is_failed = refl;
     shared = nothing_shared;
-    same = refl;
     done = λ all front other below. absurd (omega arith);
     rest = λ other above within. stood.stand other within;
   };
@@ -45,13 +43,14 @@ returns-in-Err-clause-visits g c =
     let others = keeps_others (opens halts.0) halts.1 in
     record {
       visited = tt;
-      stopped = λ from looks stood. visited_short test
+      same = tt;
+      stopped = λ from looks stood. rw l.invariant.same at (visited_short test
           (rw (
             l.invariant.seen,
             get_or_default l.names l.place c.index-names-place.result no_state test,
             stood.numbered (omega arith),
           ) at (c.in-Err.ensures.visits from))
-          (l.invariant.visited from looks stood) (others.count ∙ l.invariant.count ∙ stood.many);
+          (l.invariant.visited from looks stood) (others.count ∙ l.invariant.count ∙ stood.many ∙ ap (λ n. from + n) many));
       ready = tt;
       count = others.count ∙ l.invariant.count;
       others = λ number other. others.others number (other l.place (omega arith)) ∙ l.invariant.others number other;
@@ -87,6 +86,7 @@ returns-clause-visits g c =
     (let many = same_length c.args.names.now l.names l.invariant.same in let past = c.loop-place-test.false in
     let within = l.invariant.within in omega arith) in
     record {
+      same = l.invariant.same;
       visited = λ from looks stood. rw end at (l.invariant.visited from looks stood);
       stopped = tt;
       ready = l.invariant.ready;

@@ -1,6 +1,6 @@
 use Rattle.std.proofs.Common.{◌≡◌, ◌+◌, ◌-◌, ◌<◌, ◌≤◌, ℕ, List, length}
 use Rattle.follow_core.specs.{
-  inner.Visits.{StandFrom, VisitedTo},
+  inner.{Giving.{moment, sight}, Visits.{StandFrom, VisitedTo}},
   Sharing.CanPrint,
   Look.{Look, ways_of},
   FollowState.AllReady,
@@ -17,9 +17,9 @@ invariant-loop-place g l = let snapshot = latest (g.W.Watch.seen l.fn.watch) in 
   visited : (from : ℕ) (looks : List Look)
       → StandFrom g.W.Watch.told (ways_of from l.fn.by_name l.fn.start) looks l.fn.first l.fn.names
       (g.W.Watch.watched l.fn.watch)
-      → VisitedTo g.W.Watch.told g.O.Outs.told
-      (ways_of from l.fn.by_name l.fn.start) looks snapshot l.place l.fn.names l.fn.visitor
-      (g.O.Outs.slots l.fn.outs) l.visitor (g.O.Outs.slots l.outs) (g.W.Watch.watched l.watch) l.names l.has_failed;
+      → VisitedTo (sight g.W.Watch.told g.O.Outs.told snapshot) (ways_of from l.fn.by_name l.fn.start) looks l.place l.names
+      (moment (g.W.Watch.watched l.fn.watch) l.fn.visitor (g.O.Outs.slots l.fn.outs))
+      (moment (g.W.Watch.watched l.watch) l.visitor (g.O.Outs.slots l.outs)) l.has_failed;
   count : length (g.W.Watch.watched l.watch) ≡ length (g.W.Watch.watched l.fn.watch);
   others : (number : ℕ) → ((place : ℕ) → place < length l.fn.names → number ≡ l.fn.first + place → ⊥)
       → watched_at (g.W.Watch.watched l.watch) number ≡ watched_at (g.W.Watch.watched l.fn.watch) number;

@@ -1,21 +1,18 @@
 use Rattle.ports_core.{proofs.Runs.as_status, specs.declared.reason.Reason.TheVariants.Other}
-use Rattle.std.proofs.Common.{Bor, arith, ℕ, List, map, ◌∙◌, ap, sym, refl, if◌then◌else◌}
+use Rattle.std.proofs.Common.{arith, ◌∙◌, ap, sym, refl, if◌then◌else◌}
 use Rattle.follow_core.{
-  specs.{Ending.{stopped, looked, unread, no_room, is_by_name, shows_by}, Look.ways_of},
+  specs.Ending.{stopped, looked, unread, no_room, shows_by},
   proofs.LookedLemmas.{ends_by, most_made, open_holds, watched_are},
 }
 use Rattle.follow_core.proofs.run.follow_files.Goals as goal
 
 pub returns-in-Ok-Looked : goal.returns-in-Ok-Looked
 returns-in-Ok-Looked g c =
-    let names : List (List ℕ) = map (λ (name : Bor (List ℕ)). name.now) c.args.names.now in
-    let ways = ways_of 0 (is_by_name c.args.method) c.args.start in
-    let slots = g.O.Outs.slots c.args.outs.now in
-    let (most, are, gave) = c.make_looks.ensures.looked (rw c.in-Ok-Looked.field-0-is at c.in-Ok-Looked.is) in
-    let all = gave c.args.calling ways c.args.headers names slots
+    let (most, are, gave) = rw (c.in-Ok-Looked.is, c.in-Ok-Looked.field-0-is) at c.make_looks.ensures.ends in
+    let all = gave _
     (open_holds (rw c.is_by_name-by_name.ensures at c.in-Ok.ensures.ok) (c.treat_by.ensures.watched ∙ c.requires.unwatched)) in
     rw (← c.treat_by.ensures.shows) (ends_by c.args.limits.process most are
-    (looked all.looks all.holds.shares all.observed (watched_are all.holds) all.made all.within all.over all.holds.are all.holds.found
+    (looked all.looks all.holds.shares all.observed (watched_are all.holds) all.made all.within all.over all.holds.found
     (record {
       wrote = all.holds.shared.slots;
       status_is = c.from.ensures ∙ as_status c.failed.result ∙ ap (λ those. if those then 1 else 0) (c.failed.ensures ∙ sym all.holds.failed);
@@ -23,27 +20,21 @@ returns-in-Ok-Looked g c =
 
 pub returns-in-Ok-Unread : goal.returns-in-Ok-Unread
 returns-in-Ok-Unread g c =
-    let names : List (List ℕ) = map (λ (name : Bor (List ℕ)). name.now) c.args.names.now in
-    let ways = ways_of 0 (is_by_name c.args.method) c.args.start in
-    let slots = g.O.Outs.slots c.args.outs.now in
-    let (own, (most, are, gave)) = c.make_looks.ensures.unread (rw c.in-Ok-Unread.field-0-is at c.in-Ok-Unread.is) in
-    let found = gave c.args.calling ways c.args.headers names slots
+    let own = c.make_looks.ensures.unread (rw c.in-Ok-Unread.field-0-is at c.in-Ok-Unread.is) in
+    let (most, are, gave) = rw (c.in-Ok-Unread.is, c.in-Ok-Unread.field-0-is) at c.make_looks.ensures.ends in
+    let found = gave _
     (open_holds (rw c.is_by_name-by_name.ensures at c.in-Ok.ensures.ok) (c.treat_by.ensures.watched ∙ c.requires.unwatched)) in
     rw (← c.treat_by.ensures.shows) (ends_by c.args.limits.process most are
     (unread found.looks found.holds.shares found.before own found.observed (watched_are found.holds) found.made found.fewer
-    found.alive found.holds.are found.holds.found found.holds.shared.slots found.broke refl))
+    found.alive found.holds.found found.holds.shared.slots found.broke refl))
 
 pub returns : goal.returns
 returns g c =
-    let names : List (List ℕ) = map (λ (name : Bor (List ℕ)). name.now) c.args.names.now in
-    let ways = ways_of 0 (is_by_name c.args.method) c.args.start in
-    let slots = g.O.Outs.slots c.args.outs.now in
-    let (most, are, stops) = c.in-Err-make_looks.ensures.stopped in
+    let (most, are, stops) = c.in-Err-make_looks.ensures.ends in
     let tells = c.tell-in-Err-make_looks.ensures in
     let holds = open_holds (rw c.is_by_name-by_name.ensures at c.in-Ok.ensures.ok) (c.treat_by.ensures.watched ∙ c.requires.unwatched) in
     rw (← c.treat_by.ensures.shows) (ends_by c.args.limits.process most are
-    (stopped (g.O.Outs.slots c.make_looks.new.outs) c.in-Err-make_looks.fault
-    (stops c.args.calling ways c.args.headers names slots holds) tells.told tells.status))
+    (stopped (g.O.Outs.slots c.make_looks.new.outs) c.in-Err-make_looks.fault (stops _ holds) tells.told tells.status))
 
 pub returns-in-Err : goal.returns-in-Err
 returns-in-Err g c =

@@ -13,7 +13,7 @@ loop-made-init g c = record {
   can = c.requires.can;
   print = c.requires.print;
   shows = refl;
-  progress = λ calling ways headers names first holds. record {
+  progress = λ asked holds. record {
     looks = [];
     count = refl;
     observed = c.requires.unseen;
@@ -24,51 +24,51 @@ loop-made-init g c = record {
   };
 }
 
-pub returns-in-Err-clause-stopped : goal.returns-in-Err-clause-stopped
-returns-in-Err-clause-stopped g c =
+pub returns-in-Err-clause-ends : goal.returns-in-Err-clause-ends
+returns-in-Err-clause-ends g c =
     let l = c.loop-made in
     let below = c.loop-made-test.true in
     let (most, are, above) = most_more {process = c.args.limits.process} l.invariant.left below in (
       most,
       are,
-      (λ calling ways headers names first holds.
+      (λ asked holds.
           let p = rw (← c.has_ended-is_last.ensures.watched, ← c.has_ended-is_last.ensures.seen, ← c.is_unread.ensures.read c.if-is_unread.false) at
-          (l.invariant.progress calling ways headers names first holds) in
+          (l.invariant.progress asked holds) in
           let shows = c.has_ended-is_last.ensures.shows ∙ l.invariant.shows in record {
             looks = p.looks;
             saw = rw (shows, p.observed, length-map) at c.in-Err.ensures.saw;
             made = p.is_made;
             within = rw p.count (omega arith);
             alive = p.alive;
-            halted = rw (shows, p.observed, length-map) at (c.in-Err.ensures.stopped calling ways headers names p.looks first p.holds);
+            halted = rw (shows, p.observed, length-map) at (c.in-Err.ensures.stopped asked p.looks p.holds);
           }),
     )
 
-pub returns-then-not-alive-clause-looked : goal.returns-then-not-alive-clause-looked
-returns-then-not-alive-clause-looked g c is =
+pub returns-then-not-alive-clause-ends : goal.returns-then-not-alive-clause-ends
+returns-then-not-alive-clause-ends g c =
     let l = c.loop-made in
     let below = c.loop-made-test.true in
     let (most, are, above) = most_more {process = c.args.limits.process} l.invariant.left below in (
       most,
       are,
-      (λ calling ways headers names first holds. ended above (λ fewer. (omega arith, c.if-not-alive.true))
+      (λ asked holds. ended above (λ fewer. (omega arith, c.if-not-alive.true))
           (one_more (c.has_ended-is_last.ensures.shows ∙ l.invariant.shows)
           (rw (← c.has_ended-is_last.ensures.watched, ← c.has_ended-is_last.ensures.seen, ← c.is_unread.ensures.read c.if-is_unread.false) at
-          (l.invariant.progress calling ways headers names first holds)) c.in_default.ensures.looked c.in_default.ensures.seen
+          (l.invariant.progress asked holds)) c.in_default.ensures.looked c.in_default.ensures.seen
           c.alive.ensures.alive c.alive.ensures.none)),
     )
 
-pub returns-then-is_last-clause-looked : goal.returns-then-is_last-clause-looked
-returns-then-is_last-clause-looked g c is =
+pub returns-then-is_last-clause-ends : goal.returns-then-is_last-clause-ends
+returns-then-is_last-clause-ends g c =
     let l = c.loop-made in
     let are = until_last {process = c.args.limits.process} l.invariant.left c.loop-made-test.true c.has_ended-is_last.ensures.found
     c.if-is_last.true l.invariant.shows l.invariant.count in (
       l.made + 1,
       are,
-      (λ calling ways headers names first holds. ended (omega arith) (λ fewer. absurd (omega arith))
+      (λ asked holds. ended (omega arith) (λ fewer. absurd (omega arith))
           (rw c.if-not-alive.false at (one_more (c.has_ended-is_last.ensures.shows ∙ l.invariant.shows)
           (rw (← c.has_ended-is_last.ensures.watched, ← c.has_ended-is_last.ensures.seen, ← c.is_unread.ensures.read c.if-is_unread.false) at
-          (l.invariant.progress calling ways headers names first holds)) c.in_default.ensures.looked c.in_default.ensures.seen
+          (l.invariant.progress asked holds)) c.in_default.ensures.looked c.in_default.ensures.seen
           c.alive.ensures.alive c.alive.ensures.none))),
     )
 
@@ -86,15 +86,15 @@ loop-made-preserved g c =
       can = c.in_default.ensures.can;
       print = (rw c.in_default.ensures.phase at c.in_default.ensures.can).1;
       shows = c.look.ensures.shows ∙ c.has_ended-is_last.ensures.shows ∙ l.invariant.shows;
-      progress = λ calling ways headers names first holds. rw c.if-not-alive.false at
+      progress = λ asked holds. rw c.if-not-alive.false at
           (one_more (c.has_ended-is_last.ensures.shows ∙ l.invariant.shows)
           (rw (← c.has_ended-is_last.ensures.watched, ← c.has_ended-is_last.ensures.seen, ← c.is_unread.ensures.read c.if-is_unread.false) at
-          (l.invariant.progress calling ways headers names first holds)) c.in_default.ensures.looked c.in_default.ensures.seen
+          (l.invariant.progress asked holds)) c.in_default.ensures.looked c.in_default.ensures.seen
           c.alive.ensures.alive c.alive.ensures.none);
     }
 
-pub returns-clause-looked : goal.returns-clause-looked
-returns-clause-looked g c is =
+pub returns-clause-ends : goal.returns-clause-ends
+returns-clause-ends g c =
     let l = c.loop-made in
     let past = c.loop-made-test.false in
     let within = l.invariant.within in
@@ -103,30 +103,25 @@ returns-clause-looked g c is =
     let most_within = are.within in (
       most,
       are,
-      (λ calling ways headers names first holds. ended above (λ fewer. absurd (omega arith))
-          (l.invariant.progress calling ways headers names first holds)),
+      (λ asked holds. ended above (λ fewer. absurd (omega arith))
+          (l.invariant.progress asked holds)),
     )
 
-pub returns-then-is_unread-clause-unread : goal.returns-then-is_unread-clause-unread
-returns-then-is_unread-clause-unread g c is =
+pub returns-then-is_unread-clause-ends : goal.returns-then-is_unread-clause-ends
+returns-then-is_unread-clause-ends g c =
     let l = c.loop-made in
     let below = c.loop-made-test.true in
-    let (own, broke) = c.is_unread.ensures.unread c.if-is_unread.true in
     let (most, are, above) = most_more {process = c.args.limits.process} l.invariant.left below in (
-      own,
-      (
-        most,
-        are,
-        (λ calling ways headers names first holds.
-            let p = l.invariant.progress calling ways headers names first holds in record {
-              looks = p.looks;
-              observed = p.observed;
-              made = p.is_made;
-              fewer = rw p.count (omega arith);
-              alive = p.alive;
-              before = g.O.Outs.slots l.outs;
-              broke = broke;
-              holds = p.holds;
-            }),
-      ),
+      most,
+      are,
+      (λ asked holds. let p = l.invariant.progress asked holds in record {
+        looks = p.looks;
+        observed = p.observed;
+        made = p.is_made;
+        fewer = rw p.count (omega arith);
+        alive = p.alive;
+        before = g.O.Outs.slots l.outs;
+        broke = (c.is_unread.ensures.unread c.if-is_unread.true).1;
+        holds = p.holds;
+      }),
     )

@@ -1,9 +1,8 @@
-use Rattle.std.proofs.Common.{◌≡◌, ◌≤◌, ◌+◌, ◌-◌, ℕ, Bool, true, List, [], length}
+use Rattle.std.proofs.Common.{◌≡◌, ◌≤◌, ◌+◌, ◌-◌, true, [], length}
 use Rattle.follow_core.{
-  specs.{Ending.until_over, Sharing.CanPrint, FollowState.{CanLook, Holds}, Look.Ways},
+  specs.{Ending.until_over, Sharing.CanPrint, FollowState.{Asked, CanLook, Holds, point}},
   proofs.LookedLemmas.Progress,
 }
-use Rattle.ports_core.specs.{Slot.Slot, declared.calling.Calling.Calling}
 use Rattle.follow_core.proofs.run.make_looks.Given as goal
 
 abbrev pub invariant-loop-made : goal.invariant-loop-made
@@ -15,12 +14,11 @@ invariant-loop-made g l = record {
   can : CanLook l.follow (g.W.Watch.watched l.watch) (g.O.Outs.slots l.outs);
   print : CanPrint (g.O.Outs.slots l.outs);
   shows : g.W.Watch.shows l.watch ≡ g.W.Watch.shows l.fn.watch;
-  progress : (calling : Calling) (ways : Ways) (headers : Bool) (names : List (List ℕ)) (first : List Slot)
-      → Holds g.W.Watch.told g.O.Outs.told calling ways headers names [] first l.fn.follow
-      (g.W.Watch.watched l.fn.watch) (g.O.Outs.slots l.fn.outs)
-      → Progress g.W.Watch.told g.O.Outs.told calling ways headers names
-      (g.W.Watch.shows l.fn.watch) first l.made true l.follow (g.W.Watch.seen l.watch) (g.W.Watch.watched l.watch)
-      (g.O.Outs.slots l.outs);
+  progress : (asked : Asked)
+      → Holds g.W.Watch.told g.O.Outs.told asked []
+      (point l.fn.follow (g.W.Watch.watched l.fn.watch) (g.O.Outs.slots l.fn.outs))
+      → Progress g.W.Watch.told g.O.Outs.told asked (g.W.Watch.shows l.fn.watch) l.made true
+      (point l.follow (g.W.Watch.watched l.watch) (g.O.Outs.slots l.outs)) (g.W.Watch.seen l.watch);
 }
 
 abbrev pub decreases-loop-made : goal.decreases-loop-made

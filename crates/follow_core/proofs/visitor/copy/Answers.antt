@@ -1,10 +1,5 @@
-use Rattle.std.proofs.{
-  Common.{arith, false, drop, ◌∙◌, inl, inr},
-  lemmas.{List.{take_all, length-drop}, Grind.common_steps, Bool.and_parts},
-}
-use Rattle.follow_core.proofs.{
-  CallGivesLemmas.{copied_more, copied_none, copies_all, copies_part, copies_short, held_many, some_read},
-}
+use Rattle.std.proofs.{Common.{arith, drop, ◌∙◌, inl, inr}, lemmas.Grind.common_steps}
+use Rattle.follow_core.proofs.CallGivesLemmas.{copied_more, copied_none, copies_all, copies_part, copies_short, read_saw}
 use Rattle.watch_core.specs.{Snapshot.latest, Watched.watched_at}
 use Rattle.follow_core.proofs.visitor.copy.Goals as goal
 
@@ -13,12 +8,11 @@ loop-at-init g c = grind (arith, common_steps, copied_none)
 
 pub loop-at-preserved : goal.loop-at-preserved
 loop-at-preserved g c =
-    let l = c.loop-at in
-    let past = l.invariant.past in record {
-      copied = copied_more (drop c.min-room.result l.buffer) past
-          c.in-Ok.ensures.bound c.read_at.ensures.length (λ t. rw (l.invariant.seen, l.invariant.watched) at (c.in-Ok.ensures.bytes t))
-          (rw (l.invariant.seen, l.invariant.watched) at (c.in-Ok.ensures.found (grind (arith, common_steps)))) l.invariant.copied
-          c.in-Ok-put.ensures.puts;
+    let l = c.loop-at in record {
+      copied = copied_more (drop c.min-room.result l.buffer) c.in-Ok.ensures.bound c.read_at.ensures.length
+          (grind (arith, common_steps)) (λ t. rw (l.invariant.seen, l.invariant.watched) at (c.in-Ok.ensures.bytes t))
+          (rw (l.invariant.seen, l.invariant.watched) at (c.in-Ok.ensures.found (grind (arith, common_steps))))
+          l.invariant.copied c.in-Ok-put.ensures.puts;
       writable = c.in-Ok-put.ensures.writable;
       within = grind (arith, common_steps);
       past = omega arith;
@@ -30,34 +24,27 @@ loop-at-preserved g c =
 
 pub returns-in-Err-clause-copies : goal.returns-in-Err-clause-copies
 returns-in-Err-clause-copies g c = let l = c.loop-at in
-    copies_part l.at l.invariant.past c.loop-at-test.true c.requires.whole l.invariant.copied l.invariant.watched c.in-Err.ensures.err.0
+    copies_part l.at c.loop-at-test.true l.invariant.copied l.invariant.watched c.in-Err.ensures.err.0
     c.in-Err.ensures.err.1 (rw (l.invariant.seen, l.invariant.watched) at c.in-Err.ensures.breaks)
 
 pub returns-in-Err-put-clause-copies : goal.returns-in-Err-put-clause-copies
 returns-in-Err-put-clause-copies g c =
     let l = c.loop-at in
-    copies_short _ (copied_more (drop c.min-room.result l.buffer) l.invariant.past
-    c.in-Ok.ensures.bound c.read_at.ensures.length (λ t. rw (l.invariant.seen, l.invariant.watched) at (c.in-Ok.ensures.bytes t))
-    (rw (l.invariant.seen, l.invariant.watched) at (c.in-Ok.ensures.found (grind (arith, common_steps)))) l.invariant.copied
-    c.in-Err-put.ensures.puts) (c.in-Ok.ensures.same ∙ l.invariant.watched)
+    copies_short _ (copied_more (drop c.min-room.result l.buffer) c.in-Ok.ensures.bound c.read_at.ensures.length
+    (grind (arith, common_steps)) (λ t. rw (l.invariant.seen, l.invariant.watched) at (c.in-Ok.ensures.bytes t))
+    (rw (l.invariant.seen, l.invariant.watched) at (c.in-Ok.ensures.found (grind (arith, common_steps))))
+    l.invariant.copied c.in-Err-put.ensures.puts) (c.in-Ok.ensures.same ∙ l.invariant.watched)
 
 pub returns-clause-copies : goal.returns-clause-copies
-returns-clause-copies g c =
-    let l = c.loop-at in let past = c.loop-at-test.false in
-    copies_all l.at (λ t. grind (arith, common_steps, take_all, length-drop, c.requires.whole t)) l.invariant.copied
-    (inl (
-      c.args.len,
-      held_many false (latest (g.W.Watch.seen c.args.watch.now))
-          (watched_at (g.W.Watch.watched c.args.watch.now) c.args.place).name c.args.len
-          (watched_at (g.W.Watch.watched c.args.watch.now) c.args.place).opened
-          (and_parts _ _ c.requires.readable).0 c.requires.found,
-      omega arith,
-    )) l.invariant.watched
+returns-clause-copies g c = let l = c.loop-at in let past = c.loop-at-test.false in
+    copies_all l.at l.invariant.copied (inl (omega arith)) l.invariant.watched
 
 pub returns-in-Ok-eq0-clause-copies : goal.returns-in-Ok-eq0-clause-copies
 returns-in-Ok-eq0-clause-copies g c =
     let l = c.loop-at in
-    copies_all l.at (λ t. absurd (some_read _ (c.requires.whole t) c.loop-at-test.true c.in-Ok-eq0.field-0-test
-    (grind (arith, common_steps)) (rw (l.invariant.seen, l.invariant.watched) at (c.in-Ok-eq0.ensures.bytes t)))) l.invariant.copied
-    (inr (rw (l.invariant.seen, l.invariant.watched, c.in-Ok-eq0.field-0-test) at
-    (c.in-Ok-eq0.ensures.found (grind (arith, common_steps))))) (c.in-Ok-eq0.ensures.same ∙ l.invariant.watched)
+    copies_all l.at l.invariant.copied (inr (rw c.in-Ok-eq0.field-0-test at
+    (read_saw (latest (g.W.Watch.seen c.args.watch.now)) (watched_at (g.W.Watch.watched c.args.watch.now) c.args.place)
+    c.in-Ok-eq0.ensures.bound c.read_at.ensures.length (grind (arith, common_steps))
+    (λ t. rw (l.invariant.seen, l.invariant.watched) at (c.in-Ok-eq0.ensures.bytes t))
+    (rw (l.invariant.seen, l.invariant.watched) at (c.in-Ok-eq0.ensures.found (grind (arith, common_steps)))))))
+    (c.in-Ok-eq0.ensures.same ∙ l.invariant.watched)

@@ -7,10 +7,9 @@ use Rattle.ports_core.specs.declared.fault.Fault.TheVariants as fault
 use Rattle.follow_core.proofs.visitor.tell.Goals as goal
 
 pub returns-in-Ok-clause-ends : goal.returns-in-Ok-clause-ends
-returns-in-Ok-clause-ends g c told_in printer = record {
+returns-in-Ok-clause-ends g c watched printer = record {
   events = notes c.args.found ∷ [];
-  are = λ t. refl;
-  found = (refl, tt);
+  given = refl;
   came = record {
     printer_is = λ none. rw (and-false printer.headers) refl;
     slots = rw (and-false printer.headers) (wrote_line (λ output error others are.
@@ -24,10 +23,9 @@ returns-in-Ok-clause-ends g c told_in printer = record {
 
 -- there was no memory for the first line
 pub returns-in-Err-clause-ends : goal.returns-in-Err-clause-ends
-returns-in-Err-clause-ends g c told_in printer = rw c.in-Err.ensures.err (record {
+returns-in-Err-clause-ends g c watched printer = rw c.in-Err.ensures.err (record {
   events = [];
-  are = λ t. begins_none;
-  found = tt;
+  given = (notes c.args.found ∷ [], refl, begins_none);
   came = record {
     printer_is = λ none. absurd (none-some _ (sym none));
     slots = wrote_text g.O.Outs.told printer.calling _ _ (Some fault.Memory) no_memory;

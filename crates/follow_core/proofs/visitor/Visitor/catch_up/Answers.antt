@@ -1,85 +1,67 @@
 use Rattle.std.proofs.{
-  Common.{◌∙◌, ap, sym, arith, refl, is_some, Some, None, ◌∷◌, [], ◌≡◌, length},
-  lemmas.{Grind.common_steps, Bool.false≢true, Result.IfOk-weaker},
+  Common.{◌∙◌, ap, refl, sym, arith, is_some, false, ◌≡◌},
+  lemmas.{Grind.common_steps, Bool.false≢true, List.append-nil, Result.IfOk-weaker},
 }
-use Rattle.follow_core.proofs.{
-  CallGivesLemmas.{ends_can, is_held, if_so, due_by, nothing_due, broke_first, broke_at, stops_early, noted_found},
-  CallGivesLemmas.{goes_after, found_as},
-  CatchLemmas.{begins_so, caught_open},
+use Rattle.follow_core.proofs.CallGivesLemmas.{
+  broke_at,
+  ends_can,
+  gives_at,
+  gives_both,
+  gives_failed,
+  gives_none,
+  gives_over,
+  is_held,
 }
 use Rattle.watch_core.specs.{Snapshot.latest, Watched.watched_at, declared.watch.Broken.TheVariants.Len}
 use Rattle.follow_core.specs.{
-  inner.Giving.{found_all, found_before, measures, reads_on, stop_in},
-  Event.gives,
-  Look.{sound, unmeasured, unread},
-  Version.held_at,
+  Event.notes_past,
+  Reading.{not_open, measured, not_measured, read_none},
+  Look.{sound, unmeasured},
 }
 use Rattle.follow_core.proofs.visitor.Visitor.catch_up.Goals as goal
 
 pub returns-in_default-clause-adds : goal.returns-in_default-clause-adds
 returns-in_default-clause-adds g c = let is = sym c.open_id.ensures ∙ c.in_default.is in record {
   fate = sound;
-  ends = λ last stands. due_by {before = []} (λ t. rw is (refl, tt)) (nothing_due (found_all tt));
-  stands = rw is (λ t last stands. stands);
+  ends = gives_none sound (not_open is);
   long = rw is (λ no. absurd (false≢true no));
   keeps = refl;
-  reads = tt;
 }
 
 pub returns-in-Err-clause-adds : goal.returns-in-Err-clause-adds
 returns-in-Err-clause-adds g c = record {
   fate = unmeasured _;
-  ends = λ last stands. broke_first (found_before c.in-Err.ensures.breaks tt);
-  stands = tt;
+  ends = gives_failed (unmeasured _) (not_measured (ap is_some (sym c.open_id.ensures ∙ c.in-Some.is)) c.in-Err.ensures.breaks);
   long = tt;
   keeps = (broke_at (λ file. Len file) refl refl c.in-Err.ensures.err.0 c.in-Err.ensures.err.1, refl);
-  reads = measures (ap is_some (sym c.open_id.ensures ∙ c.in-Some.is));
 }
 
+-- no line could be written about a file that is shorter; nothing was read of it
 pub returns-in-Err-begin_at-clause-adds : goal.returns-in-Err-begin_at-clause-adds
-returns-in-Err-begin_at-clause-adds g c = let is = sym c.open_id.ensures ∙ c.in-Some.is in let seen = latest (g.W.Watch.seen c.args.watch.now) in
-    let known = watched_at (g.W.Watch.watched c.args.watch.now) c.args.place in record {
-      fate = sound;
-      ends = λ last stands. due_by (λ t. ((caught_open seen last 0 is (stands t) (c.in-Ok.ensures.ok t) refl).0, tt))
-          (stops_early (gives _ ∷ []) (noted_found (Some c.in-Err-begin_at.fault)
-          (λ notice those. (those.0, (ap is_some is, _, c.in-Ok.ensures.found, those.1)))
-          (c.in-Err-begin_at.ensures.ends g.W.Watch.told c.args.self.now)));
-      stands = tt;
-      long = tt;
-      keeps = c.in-Ok.ensures.same;
-      reads = tt;
-    }
+returns-in-Err-begin_at-clause-adds g c = record {
+  fate = sound;
+  ends = gives_over (λ events are. rw are (rw (← append-nil (notes_past c.args.position c.in-Ok.len))
+      (measured (ap is_some (sym c.open_id.ensures ∙ c.in-Some.is)) (c.in-Ok.ensures.found, c.in-Ok.ensures.ok) read_none)))
+      (gives_at (c.in-Err-begin_at.ensures.ends (g.W.Watch.watched c.args.watch.now) c.args.self.now));
+  long = tt;
+  keeps = c.in-Ok.ensures.same;
+}
 
 pub invariant_of-self : goal.invariant_of-self
 invariant_of-self g c = grind (arith, common_steps)
 
-pub copy-requires-clause-found : goal.copy-requires-clause-found
-copy-requires-clause-found g c = rw (c.open_len.ensures.seen, c.in-Ok.ensures.same)
-    (is_held (latest (g.W.Watch.seen c.args.watch.now))
-    (watched_at (g.W.Watch.watched c.args.watch.now) c.args.place) c.in-Ok.len c.in-Ok.ensures.found)
-
 -- the line that the file is shorter, and then the bytes from the front; or the bytes from the position on
 pub returns-clause-adds : goal.returns-clause-adds
 returns-clause-adds g c =
-    let is = sym c.open_id.ensures ∙ c.in-Some.is in let seen = latest (g.W.Watch.seen c.args.watch.now) in
-    let known = watched_at (g.W.Watch.watched c.args.watch.now) c.args.place in
-    let copies = rw (c.open_len.ensures.seen, c.in-Ok.ensures.same) at c.copy.ensures.copies in
+    let some = ap is_some (sym c.open_id.ensures ∙ c.in-Some.is) in
+    let copies = rw (c.open_len.ensures.seen, c.in-Ok.ensures.same, c.in-Ok-begin_at.ensures.from) at c.copy.ensures.copies in
     rw (← c.self.view_is) (record {
-      fate = unread _ copies.at;
-      ends = λ last stands. due_by (λ t. let (all, part) = caught_open seen last copies.at is (stands t)
-          (c.in-Ok.ensures.ok t) c.in-Ok-begin_at.ensures.from in
-          (all, if_so (stop_in c.copy.result) part))
-          (goes_after (noted_found None (λ notice those. (those.0, (ap is_some is, _, c.in-Ok.ensures.found, those.1)))
-          (c.in-Ok-begin_at.ensures.ends g.W.Watch.told c.self.inside.printer))
-          (found_as (λ notice none. absurd none)
-          (λ file start those. (those.0, ap is_some is, begins_so _ c.in-Ok-begin_at.ensures.from those.1)) copies.ends));
-      stands = IfOk-weaker c.copy.result (λ n. n ≡ c.in-Ok.len) _ (λ n whole t last stands. rw is (record {
-        file = refl;
-        seen = whole ∙ c.in-Ok.ensures.ok t ∙ ap (λ file. length (held_at seen file)) is;
-      })) c.copy.ensures.len;
-      long = grind (arith, common_steps, is_held, c.copy.result, c.in-Ok.len, c.in-Ok.ensures.found, c.copy.ensures.len);
+      fate = copies.fate;
+      ends = gives_both (λ reach events more are read. rw are (measured some (c.in-Ok.ensures.found, c.in-Ok.ensures.ok) read))
+          (c.in-Ok-begin_at.ensures.ends (g.W.Watch.watched c.args.watch.now) c.self.inside.printer) copies.ends;
+      long = IfOk-weaker c.copy.result (λ n. n ≡ c.in-Ok.len) _ (λ n whole. rw whole (is_held false (latest (g.W.Watch.seen c.args.watch.now)) _
+          (watched_at (g.W.Watch.watched c.args.watch.now) c.args.place).opened some (c.in-Ok.ensures.found, c.in-Ok.ensures.ok))) c.copy.ensures.len;
       keeps = copies.keeps;
-      reads = if_so (stop_in c.copy.result) (reads_on (ap is_some is));
     })
 
 pub returns-clause-can : goal.returns-clause-can

@@ -1,16 +1,12 @@
-use Rattle.std.proofs.{
-  lemmas.Grind.common_steps,
-  Common.{◌≡◌, ◌∙◌, ap, refl, false, None, Some, [], if◌then◌else◌, arith},
-}
+use Rattle.std.proofs.{lemmas.Grind.common_steps, Common.{◌≡◌, ◌∙◌, ap, arith, refl, None, Some, if◌then◌else◌}}
 use Rattle.watch_core.specs.Snapshot.{latest}
 use Rattle.follow_core.{
   specs.{
     declared.{name.Standing.TheVariants.{Followed, Left}, visitor.Stop.TheVariants.Over},
-    Event.begins_none,
     Look.sound,
-    inner.Giving.{Noted, Nothing, found_begun},
+    Reading.not_begun,
   },
-  proofs.CallGivesLemmas.{ends_can, follows_from, header_only, stops_early, opened_there},
+  proofs.CallGivesLemmas.{follows_from, gives_over, header_only, opened_there, puts_can},
   proofs.LookGivesLemmas.{first_gave, first_long, first_missing, first_started, first_unopened, gave_fails},
   proofs.LookGivesLemmas.gave_through,
 }
@@ -33,28 +29,26 @@ returns-in-Err-clause-visits g c first = first_unopened c.requires.name c.requir
 pub returns-in-Err-put-clause-visits : goal.returns-in-Err-put-clause-visits
 returns-in-Err-put-clause-visits g c first = gave_fails sound (Over c.in-Err-put.fault) c.requires.name c.requires.watchable
     (c.in-Ok-true.ensures.ok.file, c.in-Ok-true.ensures.ok.names)
-    (first_gave _ c.self.view_is c.in-Ok-true.ensures.ok c.in-Ok-true.field-0-test c.requires.name (λ t. refl)
-    refl tt tt (stops_early _ (header_only {before = _} (Some c.in-Err-put.fault) (found_begun [] begins_none tt)
-    c.in-Err-put.ensures.puts)))
+    (first_gave c.self.view_is c.in-Ok-true.ensures.ok c.in-Ok-true.field-0-test c.requires.name
+    (gives_over (λ events are. rw are not_begun) (header_only (Some c.in-Err-put.fault) c.in-Err-put.ensures.puts)))
     (refl, refl)
 
 pub write_start-requires-clause-readable : goal.write_start-requires-clause-readable
 write_start-requires-clause-readable g c = grind (arith, common_steps, opened_there)
 
 pub write_start-requires-clause-can : goal.write_start-requires-clause-can
-write_start-requires-clause-can g c = ends_can (header_only {told_in = false} {Is = Noted Nothing}
-    {before = []} None tt c.in_default.ensures.puts) c.requires.can
+write_start-requires-clause-can g c = puts_can None c.in_default.ensures.puts c.requires.can
 
 pub returns-in-Ok-clause-visits : goal.returns-in-Ok-clause-visits
 returns-in-Ok-clause-visits g c first = gave_through c.in-Ok.ensures.starts.fate c.requires.name c.requires.watchable
     (follows_from _ _ _ c.in-Ok.ensures.starts.fate None c.in-Ok-true.ensures.ok.names
     (λ none t. c.in-Ok-true.ensures.ok.leads t ∙ ap
     (latest (g.W.Watch.seen c.args.watch.now)).leads c.requires.name) c.in-Ok.ensures.starts.keeps)
-    (first_started _ c.self.view_is c.in-Ok-true.ensures.ok c.in-Ok-true.field-0-test c.requires.name c.requires.watchable
-    (ap latest c.reopen.ensures.seen)
-    (λ Is found. header_only {Is = Is} {before = []} None found c.in_default.ensures.puts) c.in-Ok.ensures.starts c.in-Ok.ensures.len)
-    (first_long (latest (g.W.Watch.seen c.args.watch.now)) c.in-Ok.len c.args.by_name c.in-Ok-true.ensures.ok c.in-Ok-true.field-0-test
-    c.requires.watchable c.in-Ok.ensures.starts.keeps (rw c.reopen.ensures.seen at c.in-Ok.ensures.long))
+    (first_started c.self.view_is c.in-Ok-true.ensures.ok c.in-Ok-true.field-0-test c.requires.name c.requires.watchable
+    (ap latest c.reopen.ensures.seen) (header_only None c.in_default.ensures.puts) c.in-Ok.ensures.starts)
+    (first_long g.W.Watch.told c.args.by_name (latest (g.W.Watch.seen c.args.watch.now)) c.in-Ok.len
+    c.in-Ok-true.ensures.ok c.in-Ok-true.field-0-test c.requires.watchable c.in-Ok.ensures.starts.keeps
+    (rw c.reopen.ensures.seen at c.in-Ok.ensures.long))
 
 pub returns-in-Err-write_start-clause-visits : goal.returns-in-Err-write_start-clause-visits
 returns-in-Err-write_start-clause-visits g c first = gave_fails c.in-Err-write_start.ensures.starts.fate c.in-Err-write_start.stop
@@ -62,11 +56,9 @@ returns-in-Err-write_start-clause-visits g c first = gave_fails c.in-Err-write_s
     (follows_from {told = g.W.Watch.told} {led = (latest (g.W.Watch.seen c.args.watch.now)).leads c.args.name.now} _ _ _
     c.in-Err-write_start.ensures.starts.fate (Some c.in-Err-write_start.stop) c.in-Ok-true.ensures.ok.names
     (λ none. absurd (cc)) c.in-Err-write_start.ensures.starts.keeps)
-    (first_started _ c.self.view_is c.in-Ok-true.ensures.ok c.in-Ok-true.field-0-test c.requires.name c.requires.watchable
-    (ap latest c.reopen.ensures.seen)
-    (λ Is found. header_only {Is = Is} {before = []} None found c.in_default.ensures.puts) c.in-Err-write_start.ensures.starts tt)
+    (first_started c.self.view_is c.in-Ok-true.ensures.ok c.in-Ok-true.field-0-test c.requires.name c.requires.watchable
+    (ap latest c.reopen.ensures.seen) (header_only None c.in_default.ensures.puts) c.in-Err-write_start.ensures.starts)
     c.stop-in-Err-write_start.ensures.tells
 
 pub returns-in-Err-put-clause-can : goal.returns-in-Err-put-clause-can
-returns-in-Err-put-clause-can g c = ends_can (header_only {told_in = false} {Is = Noted Nothing} {before = []}
-    (Some c.in-Err-put.fault) tt c.in-Err-put.ensures.puts) c.requires.can
+returns-in-Err-put-clause-can g c = puts_can (Some c.in-Err-put.fault) c.in-Err-put.ensures.puts c.requires.can

@@ -1,69 +1,54 @@
-use Rattle.std.proofs.{Common.{◌∙◌, ap, arith, refl, sym, None, Some}, lemmas.Grind.common_steps}
+use Rattle.std.proofs.{Common.{◌∙◌, arith, refl, sym}, lemmas.Grind.common_steps}
 use Rattle.watch_core.specs.{declared.watch.Broken.TheVariants.{Look, Open}, Snapshot.latest}
 use Rattle.follow_core.{
   proofs.{
-    CallGivesLemmas.{broke_at, broke_first, due_by, goes_after, noted_found, opened_there, opens_same, stops_early},
-    CatchLemmas.{all_held, change_led, change_seen, held_notes, leads_opened, leads_same},
+    CallGivesLemmas.{broke_at, gives_at, gives_failed, gives_over, opened_there, opens_same},
+    CatchLemmas.{change_seen, leads_opened, leads_same},
   },
-  specs.{inner.Giving.found_before, Look.{sound, unled, unopened}, Event.notes_in},
+  specs.{Look.{sound, unled, unopened}, Reading.{not_led, not_opened, not_told}},
 }
 use Rattle.follow_core.proofs.visitor.Visitor.follow_name.Goals as goal
 
 pub returns-in-Err-clause-leads : goal.returns-in-Err-clause-leads
 returns-in-Err-clause-leads g c = record {
   fate = unled;
-  ends = λ last stands. broke_first (found_before c.in-Err.ensures.breaks tt);
-  stands = tt;
+  ends = gives_failed unled (not_led refl c.in-Err.ensures.breaks);
   long = λ known. tt;
   follows = broke_at (λ file. Look) refl refl c.in-Err.ensures.err.0 c.in-Err.ensures.err.1;
-  other = λ t. refl;
-  met = λ seeks. refl;
 }
 
 pub returns-in_default-clause-leads : goal.returns-in_default-clause-leads
 returns-in_default-clause-leads g c =
-    let seen = latest (g.W.Watch.seen c.args.watch.now) in
-    let (changed, told, lost) = change_seen seen c.args.place c.change_of.ensures c.open_id.ensures c.in-Ok.ensures.same c.requires.name
-    c.in-Ok.ensures.ok c.in-Ok.ensures.found in
-    leads_same (λ t. changed t ∙ c.in_default.is)
-    (λ none by. lost c.in_default.is none) c.in-Ok.ensures.same
+    let (led, saw, is) = change_seen (latest (g.W.Watch.seen c.args.watch.now)) c.args.place c.change_of.ensures c.open_id.ensures
+    c.in-Ok.ensures.same c.in-Ok.ensures.ok c.in-Ok.ensures.found in
+    leads_same c.requires.name saw (is ∙ c.in_default.is) c.in-Ok.ensures.same
 
 pub returns-in-Err-tell-clause-leads : goal.returns-in-Err-tell-clause-leads
 returns-in-Err-tell-clause-leads g c =
-    let seen = latest (g.W.Watch.seen c.args.watch.now) in
-    let (changed, told, lost) = change_seen seen c.args.place c.change_of.ensures c.open_id.ensures c.in-Ok.ensures.same c.requires.name
-    c.in-Ok.ensures.ok c.in-Ok.ensures.found in record {
+    let (led, saw, is) = change_seen (latest (g.W.Watch.seen c.args.watch.now)) c.args.place c.change_of.ensures c.open_id.ensures
+    c.in-Ok.ensures.same c.in-Ok.ensures.ok c.in-Ok.ensures.found in record {
       fate = sound;
-      ends = λ last stands. due_by (λ t. (sym (change_led seen last _ (stands t).file (changed t ∙ c.in-Some.is)).0, tt))
-          (stops_early (all_held seen _) (noted_found (Some c.in-Err-tell.fault)
-          (λ notice is. rw is (told _ c.in-Some.is))
-          (c.in-Err-tell.ensures.ends g.W.Watch.told c.args.self.now)));
-      stands = tt;
+      ends = gives_over (λ events are. rw are (not_told refl (record { led = led; saw = saw; is = is ∙ c.in-Some.is })))
+          (gives_at (c.in-Err-tell.ensures.ends (g.W.Watch.watched c.args.watch.now) c.args.self.now));
       long = λ known. tt;
       follows = (_, c.in-Ok.ensures.same ∙ sym (opens_same _ c.args.place));
-      other = tt;
-      met = tt;
     }
 
 -- the change was reported, and the file to which the name leads couldn't be opened
 pub returns-in-Err-reopen-clause-leads : goal.returns-in-Err-reopen-clause-leads
 returns-in-Err-reopen-clause-leads g c =
-    let seen = latest (g.W.Watch.seen c.args.watch.now) in
-    let (changed, told, lost) = change_seen seen c.args.place c.change_of.ensures c.open_id.ensures c.in-Ok.ensures.same c.requires.name
-    c.in-Ok.ensures.ok c.in-Ok.ensures.found in record {
+    let (led, saw, is) = change_seen (latest (g.W.Watch.seen c.args.watch.now)) c.args.place c.change_of.ensures c.open_id.ensures
+    c.in-Ok.ensures.same c.in-Ok.ensures.ok c.in-Ok.ensures.found in
+    let told = c.in_default-tell.ensures.ends (g.W.Watch.watched c.args.watch.now) c.args.self.now in record {
       fate = unopened;
-      ends = λ last stands. due_by (λ t.
-          let due = (change_led seen last _ (stands t).file (changed t ∙ c.in-Some.is)).0 in
-          (sym due, sym (ap notes_in due ∙ held_notes seen _ _)))
-          (goes_after (noted_found None
-          (λ notice is. rw is (told _ c.in-Some.is))
-          (c.in_default-tell.ensures.ends g.W.Watch.told c.args.self.now))
-          (broke_first {due = all_held seen _} (found_before (rw (c.look.ensures.seen, c.in-Ok.ensures.same) at c.in-Err-reopen.ensures.breaks) tt)));
-      stands = tt;
+      ends = record {
+        events = told.events;
+        given = rw told.given (not_opened refl (record { led = led; saw = saw; is = is ∙ c.in-Some.is })
+            (rw (c.look.ensures.seen, c.in-Ok.ensures.same) at c.in-Err-reopen.ensures.breaks));
+        came = told.came;
+      };
       long = λ known. tt;
       follows = broke_at (λ file. Open) refl c.in-Ok.ensures.same c.in-Err-reopen.ensures.err.0 c.in-Err-reopen.ensures.err.1;
-      other = λ t. refl;
-      met = λ seeks. refl;
     }
 
 pub catch_up-requires-clause-watchable : goal.catch_up-requires-clause-watchable
@@ -73,12 +58,9 @@ catch_up-requires-clause-watchable g c =
 
 pub returns-clause-leads : goal.returns-clause-leads
 returns-clause-leads g c =
-    let seen = latest (g.W.Watch.seen c.args.watch.now) in
-    let (changed, told, lost) = change_seen seen c.args.place c.change_of.ensures c.open_id.ensures c.in-Ok.ensures.same c.requires.name
-    c.in-Ok.ensures.ok c.in-Ok.ensures.found in
-    leads_opened c.requires.watchable c.requires.name
-    (λ t. changed t ∙ c.in-Some.is)
-    (told _ c.in-Some.is)
-    (c.in_default-tell.ensures.ends g.W.Watch.told c.args.self.now)
+    let (led, saw, is) = change_seen (latest (g.W.Watch.seen c.args.watch.now)) c.args.place c.change_of.ensures c.open_id.ensures
+    c.in-Ok.ensures.same c.in-Ok.ensures.ok c.in-Ok.ensures.found in
+    leads_opened c.requires.watchable c.requires.name (record { led = led; saw = saw; is = is ∙ c.in-Some.is })
+    (gives_at (c.in_default-tell.ensures.ends (g.W.Watch.watched c.args.watch.now) c.args.self.now))
     (rw (c.look.ensures.seen, c.in-Ok.ensures.same) at c.in_default-reopen.ensures.ok)
     (rw (c.reopen.ensures.seen, c.look.ensures.seen) at c.catch_up.ensures.adds)
