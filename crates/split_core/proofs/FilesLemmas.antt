@@ -40,7 +40,7 @@ use Rattle.split_core.specs.{
   Split.{Filing, Share, is_verbose, output_by},
   FilesState.{FilesState, filing_in},
   Round.{AreReady, output_at},
-  laws.ShareLaws.told_begins,
+  laws.{ChunkLaws.map_same, ShareLaws.told_begins},
   inner.Sharing.{file_at, files_by, part_by, all_open, only_at, StandAt, KeepsFiles, IsOfFiles, Adds, Leaves, Grow},
   inner.Sharing.{Halts, closed_first, Opens, HaveClosed, ClosesAll, with_opened},
   Sharing.CannotOpen,
@@ -55,18 +55,12 @@ named_before names place more is less = search rules
 
 -- Files by their places
 
-pub same_by : {X : Type 0} (f g : ℕ → X) (start n : ℕ) → ((i : ℕ) → start ≤ i → i < start + n → f i ≡ g i)
-    → map f (range_with_len start n) ≡ map g (range_with_len start n)
-same_by f g start zero same = refl
-same_by f g start (suc n) same =
-    cc (same start (omega arith) (omega arith), same_by f g (start + 1) n (λ i from to. same i (omega arith) (omega arith)))
-
 changed_by : {X : Type 0} (change : X → X) (f g : ℕ → X) (start n place : ℕ) {at : ℕ} → start + place ≡ at
     → place < n
     → ((i : ℕ) → (i ≡ at → ⊥) → f i ≡ g i) → change (f at) ≡ g at
     → changed_at place change (map f (range_with_len start n)) ≡ map g (range_with_len start n)
 changed_by change f g start zero place is within other here = absurd (omega arith)
-changed_by change f g start (suc n) zero is within other here = search (rules, same_by)
+changed_by change f g start (suc n) zero is within other here = search (rules, map_same)
 changed_by change f g start (suc n) (suc place) is within other here =
     cc (other start (λ same. omega arith), changed_by change f g (start + 1) n place (omega arith) (omega arith) other here)
 
@@ -194,10 +188,10 @@ halts_at {filing = filing} {part} {some} {place = place} {why} {reached} {now} D
         place = place;
         order = record {
           done = take-map-range_with_len _ 0 some place inside
-              ∙ same_by _ _ 0 place (λ i past low. ap (file_at filing i) (back.same i (inl (omega arith))))
+              ∙ map_same _ _ 0 place (λ i past low. ap (file_at filing i) (back.same i (inl (omega arith))))
               ∙ sym (take-map-range_with_len _ 0 most place (omega arith));
           untouched = rw (drop_by _ (suc place) 0 some (zero-add _), drop_by _ (suc place) 0 fewest (zero-add _), left)
-              (same_by _ _ _ _ (λ i past more. ap (file_at filing i) (sym (front.same i (inr (omega arith))))));
+              (map_same _ _ _ _ (λ i past more. ap (file_at filing i) (sym (front.same i (inr (omega arith))))));
         };
         lines = lines_in filing.verbose _ at _ place bytes why above.files refl
             (due_by Due _ _ bytes why (λ name is. next_due filing part last back.more (due name is)) line);

@@ -27,7 +27,7 @@ use Rattle.ports_core.specs.{
 use Rattle.ports_core.proofs.{SpareLemmas.none_spare, PartLemmas.outputs_count, ShareLemmas.nothing_part}
 use Rattle.split_core.specs.{
   Alike.as_if,
-  laws.{WorkLaws.lawful, DealLaws.{dealt_append, dealt_none, dealt_files_are, share_none}},
+  laws.{ChunkLaws.map_same, WorkLaws.lawful, DealLaws.{dealt_append, dealt_none, dealt_files_are, share_none}},
   Parts.round_robin,
   inner.CutLaws.named,
   inner.Dealt.{dealt_first, reached_by, share_of},
@@ -46,7 +46,7 @@ use Rattle.split_core.proofs.{
   AlikeLemmas.{complete_as, verdict_as, waiting_as},
   AgreedLemmas.{each_named, shared_bytes, waiting_is},
   CutLaws.{dealt_same, dealt_past},
-  FilesLemmas.{same_by, grow_same, named_before},
+  FilesLemmas.{grow_same, named_before},
   SectionLemmas.all_dealt,
   ChunkerWays.{chunks_wait, no_suffixes, open_beside},
 }
@@ -188,7 +188,7 @@ closed_part : {round : RoundState} {x : List ℕ} → Holds round x
 closed_part {round} {x} holds =
     let n = length round.files.outputs in let has = share_of round.delim round.count x in let filing = filing_in round.files in
     ap (part_with (output_by filing.verbose))
-    (same_by (λ i. file_at filing i (closed_first n has i)) (λ i. file_at filing i (share Closed (has i))) 0 n
+    (map_same (λ i. file_at filing i (closed_first n has i)) (λ i. file_at filing i (share Closed (has i))) 0 n
     (λ i low high. grind (arith, nat_tests)))
     ∙ filed_are round.delim filing round.elide round.count x holds.named Closed holds.opened
 
