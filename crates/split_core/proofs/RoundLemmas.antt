@@ -61,12 +61,12 @@ use Rattle.split_core.specs.PartsState as parts_state
 pub named_at : (names : Naming) (count place : ℕ) → are_named names count ≡ true → place < count
     → has_name names place ≡ true
 named_at names zero place are within = absurd (omega arith)
-named_at names (suc last) place are within = named_before names place last are (omega arith)
+named_at names (suc last) place are within = grind (arith, common_steps)
 
 pub named_fewer : (names : Naming) (few count : ℕ) → are_named names count ≡ true → few ≤ count
     → are_named names few ≡ true
 named_fewer names zero count are within = refl
-named_fewer names (suc last) count are within = named_at names count last are (omega arith)
+named_fewer names (suc last) count are within = grind (arith, common_steps)
 
 all_by : (filing : Filing) (n start count : ℕ) (state : State) (f : ℕ → List ℕ) → are_named filing.names n ≡ true
     → start + count ≤ n
@@ -85,7 +85,7 @@ module _ (delim : ℕ) (filing : Filing) (elide : Bool) (n : ℕ) (x : List ℕ)
   filed_are : (state : State) {count : ℕ} → count ≡ opened_by delim elide n x
       → part_by filing (λ i. share state (share_of delim n x i)) count
       ≡ part_of (manner_of filing) (map (share state) (dealt_files delim elide n x))
-  filed_are state is = ap (part_with (output_by filing.verbose)) (grind (arith, common_steps, dealt_files_are, all_by))
+  filed_are state is = search (rules, common_steps, dealt_files_are, all_by)
 
   all_have : are_named filing.names (length (dealt_files delim elide n x)) ≡ true
   all_have = grind (arith, common_steps, named_fewer, dealt_files_are, length-map-range_with_len)
@@ -131,7 +131,7 @@ share_after delim n x y some i =
 stands_is : {round : RoundState} {x : List ℕ} → Holds round x → (y : List ℕ) {count : ℕ}
     → count ≡ opened_by round.delim round.elide round.count y
     → part_by (filing_in round.files) (all_open (share_of round.delim round.count y)) count ≡ (work round).settled y
-stands_is {round} holds y is = filed_are round.delim (filing_in round.files) round.elide round.count y holds.named Open is
+stands_is {round} holds y is = search (rules, filed_are)
 
 stand_at : {told : Bool} {round : RoundState} {before : List Slot} {x : List ℕ} {now : List Slot}
     → StandsAt ways.terms (way.Round round) told before x now
@@ -217,11 +217,7 @@ no_files names tells = record { names = record { naming = names; drawn = 0 }; te
 
 starts_at : {told : Bool} (names : Naming) (tells : Tells) {before slots : List Slot}
     → OutputsAt told before nothing slots → StandAt told (no_files names tells) before (λ i. []) slots
-starts_at names tells at = record {
-  owns = grind (arith, outputs_count _ _ _ _ at);
-  outputs = rw (← nothing_part (output_by (is_verbose tells))) at at;
-  none = λ i past. refl;
-}
+starts_at names tells at = search (rules, outputs_count, nothing_part)
 
 -- no line has come in yet
 starts_with : (delim : ℕ) (elide : Bool) (n : ℕ) {count : ℕ} → count ≡ cond elide 0 n
@@ -247,10 +243,7 @@ module _ {told : Bool} (names : Naming) (tells : Tells) (delim : ℕ) (elide : B
 -- if all files have names, the work is what was asked for
 pub does_all : (delim : ℕ) (filing others : Filing) (elide : Bool) (n : ℕ) → are_named filing.names n ≡ true
     → others ≡ filing → round_work (round_plan delim n elide others) ≡ split_work (round_plan delim n elide filing)
-does_all delim filing others elide n are same = rw same (ap (λ (short : List ℕ → Bool). record (split_work (round_plan delim n elide filing)) {
-  is_complete = short;
-  verdict = λ x. cond (short x) (Some Suffixes) None;
-}) (fun_ext (λ x. not_short delim filing elide n x are)))
+does_all delim filing others elide n are same = grind (arith, common_steps, fun_ext, not_short)
 
 -- nothing waits
 
@@ -319,10 +312,8 @@ spares_none most (way.Parts parts) other x piece after n holds going within same
       none_spare _ (x ++ piece) n (lawful (way.Parts parts) _ holds.holds)
           (open_after _ (parts_state.filing_of parts).verbose refl after (x ++ piece) same later) spare,
     )
-spares_none most (way.Round round) other x piece after n holds going within same later spare =
-    omega (arith, none_spare _ (x ++ piece) n (lawful (way.Round round) _ holds.holds) refl spare)
-spares_none most (way.Turn turn) other x piece after n holds going within same later spare =
-    omega (arith, none_spare _ (x ++ piece) n (lawful (way.Turn turn) _ holds.holds) refl spare)
+spares_none most (way.Round round) other x piece after n holds going within same later spare = grind (arith, common_steps, none_spare, lawful)
+spares_none most (way.Turn turn) other x piece after n holds going within same later spare = grind (arith, common_steps, none_spare, lawful)
 spares_none most (way.Chunks state) other x piece after n holds going within same later spare = absurd (other state refl)
 
 held_of : (splitter : Splitter) (x : List ℕ) → ways.Holds splitter x
