@@ -108,7 +108,7 @@ said_grows chunks {size} x some short byte small =
     let first : f (0 + p) ≡ drop (length (before_chunk chunks size p x)) x ++ byte ∷ more.0 =
     grind (arith, before_stays, begun_on, begun_within, drop-append-le) in
     let whole : chunks_of chunks size w ≡ record { full = cut.full ++ (cut.rest ++ byte ∷ more.0) ∷ later; rest = [] } =
-    grind (arith, cut_all, map_parts f 0 p (chunks.count - p - 1), full_stays, chunks_are, first) in
+    grind (arith, cut_all, map_parts f 0 p (suc (chunks.count - p - 1)), full_stays, chunks_are, first) in
     let all = ap (λ cut. joined (pieces_in cut)) (sym whole) ∙ all_joined chunks size w some in
     let rest : joined ((byte ∷ more.0) ∷ later) ≡ byte ∷ y = append_cancel_left x _ _
     (grind (arith, joined-append, append-nil, append_assoc, take_all, all_joined chunks size x some)) in record {

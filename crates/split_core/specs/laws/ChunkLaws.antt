@@ -1,5 +1,5 @@
 -- Laws that traits cite: laws of chunks: where they begin, and what of a text that goes on is in them.
-use Rattle.std.{proofs.{lemmas.{Grind.{common_steps, flat_map-append}, Bool.{cases_lt, le-leb, Decides.nat_tests}, List.{append-nil, drop_all, length-take, length-append}, List.FromFn.{get_or-map-range_with_len, map-range_with_len_more, length-map-range_with_len}, Nat.le-div}, Common.{get_or, ◌≡◌, ℕ, ◌+◌, ◌-◌, ◌/◌, ◌<◌, ◌≤◌, max, zero, suc, true, List, [], ◌∷◌, ◌++◌, length, take}, Common.{drop, map, inl, inr, refl, sym, ap, subst, arith}, Math.{Nat.{div-mul-le_self, mul-le-mul_left}, Seq.drop-append_seam}}, specs.List.{filter, flat_map, range_with_len}}
+use Rattle.std.{proofs.{lemmas.{Grind.{common_steps, flat_map-append}, Bool.{cases_lt, le-leb, Decides.nat_tests}, List.{append-nil, drop_all, length-take, length-append}, List.FromFn.{get_or-map-range_with_len, map-range_with_len_more, length-map-range_with_len}, Nat.le-div}, Common.{get_or, ◌≡◌, ℕ, ◌+◌, ◌-◌, ◌/◌, ◌<◌, ◌≤◌, max, zero, suc, true, List, [], ◌++◌, length, take}, Common.{drop, map, inl, inr, refl, sym, ap, subst, arith}, Math.{Nat.{div-mul-le_self, mul-le-mul_left}, Seq.drop-append_seam}}, specs.List.{filter, flat_map, range_with_len}}
 use Rattle.seg_core.specs.{Line.joined, declared.cut.Chunks.Chunks}
 use Rattle.ports_core.{specs.Part.IsBeginning, proofs.PartLemmas.begins_trans}
 use Rattle.split_core.specs.{
@@ -42,11 +42,11 @@ pub map_same : {X : Type 0} (f g : ℕ → X) (a n : ℕ) → ((i : ℕ) → a �
 map_same f g a zero same = refl
 map_same f g a (suc n) same = grind (arith, map_same f g (a + 1) n (λ i from to. same i (omega arith) (omega arith)))
 
-pub map_parts : (f : ℕ → List ℕ) (a p k : ℕ) → map f (range_with_len a (p + suc k))
-    ≡ map f (range_with_len a p) ++ f (a + p) ∷ map f (range_with_len (a + p + 1) k)
-map_parts f a zero k = let e : 0 + suc k ≡ suc k = omega arith in let at : a + 0 ≡ a = omega arith in rw (e, at)
-map_parts f a (suc p) k = let e : suc p + suc k ≡ suc (p + suc k) = omega arith in
-    let at : a + suc p ≡ a + 1 + p = omega arith in rw (e, at, map_parts f (a + 1) p k)
+pub map_parts : (f : ℕ → List ℕ) (a p k : ℕ) → map f (range_with_len a (p + k))
+    ≡ map f (range_with_len a p) ++ map f (range_with_len (a + p) k)
+map_parts f a zero k = let e : 0 + k ≡ k = omega arith in let at : a + 0 ≡ a = omega arith in rw (e, at) refl
+map_parts f a (suc p) k = let e : suc p + k ≡ suc (p + k) = omega arith in
+    let at : a + suc p ≡ a + 1 + p = omega arith in rw (e, at, map_parts f (a + 1) p k) refl
 
 -- Where a text stands
 
@@ -133,14 +133,7 @@ module _ (chunks : Chunks) (size : ℕ) where
   pub chunk_none : (x : List ℕ) (place : ℕ) → before_chunk chunks size place x ≡ x → chunk_at chunks size x place ≡ []
   chunk_none x place all = grind (arith, common_steps, before_later, drop_all)
 
-  -- if further chunks end in a longer text, the chunk that was begun has its rest and what follows
-  pub fulls_on : (x y : List ℕ) (more : ℕ) → length (x ++ y) ≤ size
-      → ended chunks size x + suc more ≡ ended chunks size (x ++ y)
-      → let f = chunk_at chunks size (x ++ y) in let place = ended chunks size x in
-      (chunks_within chunks size (x ++ y)).full
-      ≡ (chunks_within chunks size x).full ++ f place ∷ map f (range_with_len (place + 1) more)
-  fulls_on x y more within ends = grind (arith, common_steps, map_parts, full_stays, ended_is)
-
+  -- if a text goes on with the chunk that was begun, so does its rest
   pub rest_on : (x y z : List ℕ) → 0 < chunks.count → length (x ++ y) ≤ size
       → before_chunk chunks size (ended chunks size x + 1) (x ++ y) ≡ x ++ z
       → chunk_at chunks size (x ++ y) (ended chunks size x) ≡ (chunks_within chunks size x).rest ++ z
