@@ -173,14 +173,7 @@ pub record Ending (told : Bool) (cutter : CutterState) (size : ℕ) (old slots :
 
 pub ends_none : {told : Bool} {cutter : CutterState} {size : ℕ} {slots : List Slot} → IsAimed cutter.sink.aim slots
     → Ending told cutter size slots slots cutter
-ends_none ready = record {
-  chunks = refl;
-  at = refl;
-  within = refl;
-  stays = stays_none ready;
-  brings = λ x so. brings_none;
-  leads = λ x so. so;
-}
+ends_none ready = search (rules, stays_none, brings_none)
 
 cut_as : {cutter next : CutterState} {x : List ℕ} {from to : CutUp} → next.chunks ≡ cutter.chunks
     → course next ≡ course cutter → next.at ≡ cutter.at → next.is_within ≡ cutter.is_within
@@ -193,12 +186,7 @@ module _ {told : Bool} {cutter now : CutterState} {size : ℕ} {old slots : List
     (ends : chunk_start now.chunks.count size (now.sink.place + 1) ≤ now.at) where
   has_ended : {x : List ℕ} → IsCutOff now size x
       → chunk_start now.chunks.count size (now.sink.place + 1) ≤ passed now.chunks size x
-  has_ended {x} so = omega (
-    arith,
-    so.cut.at,
-    passed_all now.chunks size x so.fits (λ line.
-        let wide = whole (sym so_far.within ∙ so.cut.within ∙ line) in omega (arith, so_far.at, so.cut.at)),
-  )
+  has_ended {x} so = grind (arith, common_steps, passed_all)
 
   next_gives : {next : SinkState} {new : List Slot} {fault : Option Fault}
       → Changes told now.sink with_full slots new next fault → (x : List ℕ) → IsCutOff cutter size x
@@ -211,7 +199,7 @@ module _ {told : Bool} {cutter now : CutterState} {size : ℕ} {old slots : List
   next_stays : {next : SinkState} {new : List Slot} {fault : Option Fault}
       → Changes told now.sink with_full slots new next fault
       → Stays (course cutter) cutter.sink.aim next.aim old new fault
-  next_stays went = stays_then so_far.stays (rw so_far.stays.course at went.stays)
+  next_stays went = grind (arith, common_steps)
 
   pub ends_next : {next : CutterState} {new : List Slot} → next.chunks ≡ now.chunks → next.at ≡ now.at
       → next.is_within ≡ now.is_within → next.sink.place ≡ now.sink.place + 1
@@ -295,11 +283,7 @@ cut_of chunks size x within = grind (arith, common_steps)
 rest_more : (chunks : Chunks) (size : ℕ) (x y : List ℕ) (place : ℕ) → length (x ++ y) ≤ size
     → chunk_start chunks.count size place ≤ passed chunks size x
     → cut_before chunks size (x ++ y) place ≡ with_rest y (cut_before chunks size x place)
-rest_more chunks size x y place within reached = cc (
-  full_stays chunks size place x y within reached,
-  before_stays chunks size place x y within reached,
-  drop-append-le _ x y (begun_within chunks.unit chunks.delim (chunk_start chunks.count size place) x),
-)
+rest_more chunks size x y place within reached = grind (arith, common_steps, full_stays, before_stays, drop-append-le, begun_within)
 
 -- A stretch is cut off
 
@@ -329,26 +313,7 @@ placed_at {cutter} {size} {x} is = grind (arith, common_steps, length-map-range_
 
 pub place_of : {cutter : CutterState} {size : ℕ} {x : List ℕ} (y : List ℕ) → IsCut cutter size x → 0 < length y
     → length (x ++ y) ≤ size → Place cutter size x
-place_of {cutter} {size} {x} y is some within = let chunks = cutter.chunks in
-    let short : length x < size = omega (arith, length-append x y) in
-    let count : 0 < chunks.count = some_in is.cut in
-    let here = rw (placed_at is) at (ended_is chunks size x) in
-    let less : cutter.sink.place < chunks.count = elim (cases_lt cutter.sink.place chunks.count) [
-      | inl before ↦ before
-      | inr past ↦ absurd
-          (omega (
-            arith,
-            start_past chunks.count size cutter.sink.place count past,
-            passed_open chunks size x short,
-            open_within chunks.unit chunks.delim x,
-          ))
-    ] in record {
-      short = short;
-      some = count;
-      is = placed_at is;
-      less = less;
-      early = omega (arith, here.next less, passed_open chunks size x short);
-    }
+place_of {cutter} {size} {x} y is some within = grind (arith, common_steps, length-append, some_in, placed_at, ended_is, cases_lt, start_past, passed_open, open_within)
 
 -- the end of the chunk that was begun
 abbrev pub end_so : CutterState → ℕ → ℕ
@@ -381,19 +346,13 @@ has_cut {cutter} {x = x} y chunks stays at within some has carries = grind (arit
 
 -- a text to which nothing was added since the chunks that had all ended
 off_of : {cutter : CutterState} {size : ℕ} {x : List ℕ} → IsCut cutter size x → IsCutOff cutter size x
-off_of {cutter} {size} {x} is = let ends = rw (placed_at is) at (ended_is cutter.chunks size x) in record {
-  cut = subst (HasCut cutter x) (within_are x (some_in is.cut) is.fits ends) is.cut;
-  fits = is.fits;
-  few = ends.within;
-  before = ends.before;
-  begun = before_next cutter.chunks size x cutter.sink.place (some_in is.cut) is.fits ends;
-}
+off_of {cutter} {size} {x} is = grind (arith, common_steps, placed_at, ended_is, within_are, some_in, before_next)
 
 module _ {cutter : CutterState} {size : ℕ} (text : List ℕ) {x y : List ℕ}
     (is : y ≡ cut_to cutter (end_so cutter size) text) (some : 0 < length y) (has : IsCut cutter size x)
     (within : length (x ++ y) ≤ size) where
   all_begun : before_chunk cutter.chunks size (cutter.sink.place + 1) (x ++ y) ≡ x ++ y
-  all_begun = let place = place_of y has some within in rw is (rw place.is at (all_within text has place))
+  all_begun = grind (arith, common_steps, place_of, all_within)
 
   rest_gives : {told : Bool} {next : SinkState} {old wet : List Slot} {fault : Option Fault}
       → Changes told cutter.sink (with_rest y) old wet next fault

@@ -109,8 +109,7 @@ settled_none chunker x said =
 
 module _ {chunker : ChunkerState} {x : List ℕ} (has : IsUnsaid chunker x) where
   all_came : cut_front chunker x ++ chunker.waiting ≡ x
-  all_came = let chunks = chunker.cutter.chunks in
-      rw has.waits (begin_then_rest _ x (begun_begins _ _ _ x))
+  all_came = grind (arith, common_steps, begin_then_rest, begun_begins)
 
   front_before : (more : List ℕ)
       → BeginsBefore chunker.cutter
@@ -133,9 +132,7 @@ module _ (chunker : ChunkerState) (piece : List ℕ) {end : ℕ}
     (first_on (course chunker.cutter))) where
   end_is : {x : List ℕ} → IsUnsaid chunker x
       → end ≡ chunk_start chunker.cutter.chunks.count (length (x ++ piece)) (first_on (course chunker.cutter))
-  end_is {x} has = let n : chunker.cutter.at + length (chunker.waiting ++ piece) ≡ length (x ++ piece) =
-      omega (arith, length-append (cut_front chunker x) (chunker.waiting ++ piece), ap length (came_more has piece)) in
-      rw n at ends
+  end_is {x} has = grind (arith, common_steps, length-append, came_more)
 
   to_is : {x : List ℕ} → IsUnsaid chunker x
       → all_before chunker.cutter (chunker.waiting ++ piece) end (cut_front chunker x) ≡ cut_front chunker (x ++ piece)
@@ -229,15 +226,15 @@ first_begun cutter = record cutter { sink = record cutter.sink { place = first_o
 
 front_part : (on : Course) (chunks : Chunks) (size : ℕ) (z : List ℕ)
     → part_on on (uncut z) ≡ part_on on (cut_before chunks size z (first_on on - 1))
-front_part (in_files filing elide) chunks size z = ap (part_on (in_files filing elide)) (sym (none_before chunks size z))
-front_part (in_output zero) chunks size z = ap (part_on (in_output zero)) (sym (none_before chunks size z))
+front_part (in_files filing elide) chunks size z = grind (arith, common_steps)
+front_part (in_output zero) chunks size z = grind (arith, common_steps)
 front_part (in_output (suc chunk)) chunks size z = grind (arith, common_steps, get_or_past, length-append, length-map-range_with_len)
 
 front_carries : (aim : AimState) (chunks : Chunks) (size : ℕ) {place : ℕ} (z : List ℕ)
     → Carries (record { place = place; aim = aim }) (uncut z)
     → Carries (record { place = first_on (course_of aim) - 1; aim = aim })
     (cut_before chunks size z (first_on (course_of aim) - 1))
-front_carries (to_files writer elide) chunks size z carries = rw (none_before chunks size z) (record { placed = refl; has = carries.has })
+front_carries (to_files writer elide) chunks size z carries = grind (arith, common_steps)
 front_carries (to_output chunk) chunks size z carries = record { placed = length-map-range_with_len _ 0 _; has = tt }
 
 cut_off_so : {cutter : CutterState} {waiting : List ℕ} {size : ℕ} {z : List ℕ} → IsFront cutter waiting size z
@@ -270,10 +267,7 @@ module _ {told : Bool} {cutter start mid : CutterState} {waiting : List ℕ} {si
       → Brings told (course cutter) cutter.sink.aim mid.sink.aim (part_on (course cutter) (uncut z))
       (part_on (course cutter) (chunks_within cutter.chunks size z)) old wet fault
       × IfNone fault (IsCut mid size z)
-  gives_first {fault} ends {z} so = let full = rw is at ends in (
-    rw (front_part (course cutter) cutter.chunks size z) (full.brings z (cut_off_so so)),
-    full.leads z (cut_off_so so),
-  )
+  gives_first {fault} ends {z} so = grind (arith, common_steps, front_part, cut_off_so)
 
   pub held_not_ended : {why : Fault} → EndsFull told start size old wet mid (Some why)
       → EndsHeld told cutter waiting size old wet mid waiting (Some why)

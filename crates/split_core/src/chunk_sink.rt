@@ -84,7 +84,7 @@ impl ChunkSink {
         }
     }
 
-    /// Begins the chunk before that place. What went to chunks before it is no matter.
+    /// Begins the chunk just before the place that `first` returns. All that was written so far went to this chunk.
     pub(crate) fn begin_first(&mut self)
         ensures { seen_sink self.new
             ≡ record (seen_sink self.old) { place = first_on (course_of (seen_sink self.old).aim) - 1 } }
