@@ -1,19 +1,7 @@
 -- Lemmas on chunks of an input, as one of the ways to split.
 use Rattle.std.proofs.Common.{rules}
 use Rattle.std.{specs.Option.is_none, proofs.lemmas.Grind.common_steps, proofs.Common.{◌≡◌, ℕ, ◌+◌, ◌≤◌, Bool, true, false, IsTrue, List, ◌++◌, length, Option, Some, None, Result, Ok}, proofs.Common.{Err, IfNone, IfSome, refl, ap, arith}}
-use Rattle.ports_core.specs.{
-  Engine.{IsMet, StandsAt},
-  FileWriter.{Breaks, IsWrite},
-  Part.{Part, gets_bytes, writes},
-  Slot.{Slot, is_writable},
-  InTurn.fault_in,
-  Work.{IsSettled, IsSpare, Judges, Means, Needs, Work, on_output},
-  declared.{
-    fault.Fault.{Fault, TheVariants.{Memory, Verdict, Write}},
-    verdict.Verdict.{Verdict as Judgement, TheVariants.{Changed, Suffixes}},
-  },
-  inner.Part.HasLines,
-}
+use Rattle.ports_core.specs.{Engine.{IsMet, StandsAt}, FileWriter.{Breaks, IsWrite}, Part.{Part, gets_bytes, writes}, Slot.{Slot, is_writable}, InTurn.fault_in, Work.{IsSettled, IsSpare, Judges, Means, Needs, Work}, declared.{fault.Fault.{Fault, TheVariants.{Memory, Verdict}}, verdict.Verdict.{Verdict as Judgement, TheVariants.{Changed, Suffixes}}}, inner.Part.HasLines}
 use Rattle.ports_core.proofs.{PartLemmas.stopped_in_turn, ShareLemmas.has_told, SpareLemmas.all_used}
 use Rattle.seg_core.specs.declared.cut.Chunks.{Chunks}
 use Rattle.split_core.specs.{ChunkerState.{AimState, ChunkerState, Course, Holds, HoldsBy, IsAimed, course, course_of}, ChunkerState.{to_files, to_output, in_files, in_output, total, work, work_on}, inner.{Chunker.{Comes, EndsAs, IsLike, PassesAs}, Brings.{AtAim, IsOf, manner_on, output_on}}}
@@ -45,13 +33,6 @@ settled_lines (in_files filing elide) chunks said x = has_told _ _
 settled_lines (in_output chunk) chunks said x = tt
 
 -- Faults
-
-met_output : (memory : Bool) (needs : Needs) (Lacks : Type 0) (Why : Judgement → Type 0) (old new : List Slot)
-    (chunk : ℕ) (fault : Fault)
-    → Breaks (manner_on (in_output chunk)) old new fault → fault ≡ Write 0
-    → IsMet (on_output memory) needs Lacks Why old new fault
-met_output memory needs Lacks Why old new chunk (Write slot) breaks is = grind (arith, common_steps)
-met_output memory needs Lacks Why old new chunk fault breaks is = absurd (cc)
 
 module _ (chunks : Chunks) (Why : Judgement → Type 0) (old new : List Slot) (fault : Fault)
     (ends : fault ≡ Verdict Suffixes → Why Suffixes) where

@@ -6,22 +6,10 @@ use Rattle.std.proofs.{
   Common.{inl, zero, suc, max},
   Math.Seq.{drop-nil, take-nil},
 }
-use Rattle.seg_core.specs.declared.{cut.Chunks.Chunks, unit.Unit.{Unit as Counted, TheVariants.{Bytes, Lines}}}
+use Rattle.seg_core.specs.declared.{cut.Chunks.Chunks}
 use Rattle.ports_core.{specs.{Draft.draft_part, Part.nothing}, proofs.ShareLemmas.nothing_part}
-use Rattle.split_core.specs.{
-  ChunkWork.{draft_by, piece_at},
-  Split.{Filing, manner_of},
-  Parts.uncut,
-  Chunks.{chunks_within, decided, is_within},
-  ChunkerState.{Carries, Course, CutterState, HasAll, HasCut, HoldsBy, SinkState, can_cut, course_of, in_files},
-  ChunkerState.{in_output, work_on},
-  laws.BegunLaws.begun_of_none,
-}
+use Rattle.split_core.specs.{ChunkWork.{draft_by, piece_at}, Split.{Filing, manner_of}, Parts.uncut, Chunks.{chunks_within, decided}, ChunkerState.{Carries, Course, CutterState, HasAll, HasCut, HoldsBy, SinkState, can_cut, course_of, in_files}, ChunkerState.{in_output, work_on}, laws.BegunLaws.begun_of_none}
 use Rattle.split_core.proofs.{UnsaidLemmas.none_within, CutterLemmas.some_of}
-
-none_so : (unit : Counted) (delim : ℕ) → is_within unit delim [] ≡ false
-none_so Bytes delim = refl
-none_so Lines delim = refl
 
 module _ (chunks : Chunks) (sink : SinkState) (can : can_cut (course_of sink.aim) chunks.count ≡ true)
     (all : HasAll (course_of sink.aim) chunks.count) (fresh : Carries sink (uncut [])) where

@@ -13,7 +13,7 @@ use Rattle.ports_core.proofs.{
   PartSteps.there_from,
   ShareLemmas.{bytes_begin, next_begins},
 }
-use Rattle.split_core.specs.{ChunkWork.{draft_by, kept}, Chunks.pieces_in, ChunkerState.{AimState, Course, IsAimed, SinkState, course_of, filing_by, in_files, in_output, to_files, part_on}, ChunkerState.{to_output, whole_on}, Parts.CutUp, Split.{Filing, TellsNoSizes, manner_of}, inner.Brings.{AtAim, Brings, Changes, EndsAll, Files, Gives, CarriesOn, IsOf, Stays, begun_by, empties_by, ends_by}, inner.Brings.{manner_on, with_full, with_rest}, laws.ChunkWorkLaws.length-kept}
+use Rattle.split_core.specs.{ChunkWork.{draft_by, kept}, Chunks.pieces_in, ChunkerState.{AimState, Course, IsAimed, course_of, filing_by, in_files, in_output, to_files, part_on}, ChunkerState.{to_output, whole_on}, Parts.CutUp, Split.{Filing, TellsNoSizes, manner_of}, inner.Brings.{AtAim, Brings, Changes, EndsAll, Files, CarriesOn, IsOf, Stays, begun_by, empties_by, ends_by}, inner.Brings.{manner_on, with_full, with_rest}, laws.ChunkWorkLaws.length-kept}
 use Rattle.split_core.proofs.FilesLemmas.{named_before}
 use Rattle.ports_core.specs.inner.Write as short
 
@@ -334,11 +334,6 @@ module _ {on : Course} {old mid new : List Slot} {fault : Option Fault} where
       → Brings told on one two low middle old mid None → Brings told on two three middle high mid new fault
       → Brings told on one three low high old new fault
   brings_then {told} first second = grind (arith, common_steps, part_trans, there_from)
-
-  pub gives_then : {told : Bool} {one two three : SinkState} {low middle high : CutUp}
-      → Gives told on one two low middle old mid None → Gives told on two three middle high mid new fault
-      → Gives told on one three low high old new fault
-  gives_then first second = record { brings = brings_then first.brings second.brings; carries = second.carries }
 
 -- a call that was stopped was stopped on its way to more
 pub brings_wider : {told : Bool} {on : Course} {aim next : AimState} {low middle high : Part} {old new : List Slot}
