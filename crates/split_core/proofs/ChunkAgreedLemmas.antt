@@ -1,4 +1,6 @@
 -- What is settled of chunks is what all continuations agree on.
+use Rattle.std.proofs.Common.{rules}
+use Rattle.std.proofs.lemmas.Grind.{common_steps}
 use Rattle.std.proofs.{
   Common.{◌≡◌, ℕ, ◌+◌, ◌-◌, ◌*◌, ◌<◌, ◌≤◌, max, zero, suc, Bool, true, false, List, [], ◌∷◌, ◌++◌, length},
   Common.{take, drop, map, get_or, replicate, Option, Some, None, inl, inr, refl, sym, ◌∙◌, ap, subst, arith},
@@ -23,23 +25,8 @@ use Rattle.seg_core.{
   specs.{Line.joined, declared.{cut.Chunks.Chunks, unit.Unit.{Unit as Which, TheVariants.{Bytes, Lines}}}},
   proofs.FirstLines.joined-append,
 }
-use Rattle.ports_core.{
-  specs.{Agreed.{file_bytes}, Part.{IsBeginning}, declared.slot.State.TheVariants.{Open, Closed}},
-  proofs.AgreedLemmas.{common, copies_come, none_comes, beginning_short},
-}
-use Rattle.split_core.specs.{
-  Parts.{CutUp, uncut, unless_empty},
-  Place.beside_output,
-  Split.{Share, are_named, share},
-  Chunks.{before_chunk, begun_before, chunk_at, chunk_start, chunks_of, decided, ended, in_the_end, is_longer},
-  Chunks.{pieces_in, size_by},
-  ChunkAgreed.{AgreeAt, CanFollow, HasNoMore},
-  ChunkWork.{ChunksPlan, chunk_work, chunks_settled, chunks_whole, chunks_work, files_by, kept},
-  inner.Chunks.HaveEnded,
-  laws.ChunkWorkLaws.{chunk_lawful, chunks_lawful, kept-append, length-kept},
-  laws.BegunLaws.{begun_first, begun_on, begun_some, begun_within, open_within},
-  laws.ChunkLaws.{all_joined, before_stays, chunks_are, cut_all, ended_is, full_stays, map_parts, passed_open},
-}
+use Rattle.ports_core.{specs.{Agreed.{file_bytes}, Part.{IsBeginning}}, proofs.AgreedLemmas.{common, copies_come, none_comes, beginning_short}}
+use Rattle.split_core.specs.{Parts.{CutUp, uncut, unless_empty}, Place.beside_output, Split.{are_named}, Chunks.{before_chunk, begun_before, chunk_at, chunk_start, chunks_of, decided, ended, in_the_end, is_longer}, Chunks.{pieces_in}, ChunkAgreed.{AgreeAt, CanFollow, HasNoMore}, ChunkWork.{ChunksPlan, chunk_work, chunks_settled, chunks_whole, chunks_work, files_by, kept}, inner.Chunks.HaveEnded, laws.ChunkWorkLaws.{chunk_lawful, chunks_lawful, length-kept}, laws.BegunLaws.{begun_first, begun_on, begun_some, begun_within, open_within}, laws.ChunkLaws.{all_joined, before_stays, chunks_are, cut_all, ended_is, full_stays, map_parts, passed_open}}
 use Rattle.split_core.proofs.{
   AgreedLemmas.{bytes_named, each_named},
   CutLaws.bytes_of_shares,
@@ -108,7 +95,7 @@ said_grows chunks {size} x some short byte small =
     let first : f (0 + p) ≡ drop (length (before_chunk chunks size p x)) x ++ byte ∷ more.0 =
     grind (arith, before_stays, begun_on, begun_within, drop-append-le) in
     let whole : chunks_of chunks size w ≡ record { full = cut.full ++ (cut.rest ++ byte ∷ more.0) ∷ later; rest = [] } =
-    grind (arith, cut_all, map_parts f 0 p (chunks.count - p - 1), full_stays, chunks_are, first) in
+    grind (arith, cut_all, map_parts f 0 p (suc (chunks.count - p - 1)), full_stays, chunks_are, first) in
     let all = ap (λ cut. joined (pieces_in cut)) (sym whole) ∙ all_joined chunks size w some in
     let rest : joined ((byte ∷ more.0) ∷ later) ≡ byte ∷ y = append_cancel_left x _ _
     (grind (arith, joined-append, append-nil, append_assoc, take_all, all_joined chunks size x some)) in record {
@@ -146,7 +133,7 @@ record IsAlone (byte : ℕ) (pieces : List (List ℕ)) : Type 0 where
 cut_files : (elide : Bool) {cut : CutUp} (front : List (List ℕ)) (piece : List ℕ) (later : List (List ℕ))
     → cut ≡ record { full = front ++ piece ∷ later; rest = [] } → 0 < length piece
     → files_by elide cut ≡ kept elide front ++ piece ∷ kept elide later
-cut_files elide front piece later is some = rw is (grind (arith, append-nil, kept-append))
+cut_files elide front piece later is some = grind (arith, common_steps)
 
 module _ (elide : Bool) {chunks : Chunks} {said : Option ℕ} {x r : List ℕ} {byte : ℕ}
     (on : GoesOnWith chunks said x r byte) where
@@ -155,10 +142,7 @@ module _ (elide : Bool) {chunks : Chunks} {said : Option ℕ} {x r : List ℕ} {
   files_on = cut_files elide _ _ _ on.cut (omega (arith, length-append r (byte ∷ on.more)))
 
   alone_on : IsAlone byte ((byte ∷ on.more) ∷ kept elide on.later)
-  alone_on = record {
-    all = subst (λ rest. All (λ one. one ≡ byte) ((byte ∷ on.more) ++ rest)) (sym (joined-kept elide on.later))
-        on.alone;
-  }
+  alone_on = grind (arith, common_steps, joined-kept)
 
 -- What two continuations have in common
 
@@ -269,23 +253,12 @@ few_decided elide chunks (Some size) x some = few_kept _ _ _ (few_files _ _ x so
 pub settled_files : (plan : ChunksPlan) (said : Option ℕ) (x : List ℕ) → 0 < plan.chunks.count
     → are_named plan.filing.names plan.chunks.count ≡ true
     → file_bytes (chunks_settled plan said x) ≡ files_by plan.elide (decided plan.chunks 1 said x)
-settled_files plan said x some named =
-    let cut = decided plan.chunks 1 said x in
-    let closed = kept plan.elide cut.full in
-    let begun = unless_empty cut.rest in cc (
-      bytes_named plan.filing 0 (map (share Closed) closed ++ map (share Open) begun),
-      map-append (λ (one : Share). one.bytes) (map (share Closed) closed) (map (share Open) begun),
-      bytes_of_shares Closed closed,
-      bytes_of_shares Open begun,
-      each_named plan.filing.names (closed ++ begun) (named_fewer plan.filing.names _ plan.chunks.count named
-          (few_decided plan.elide plan.chunks said x some)),
-    )
+settled_files plan said x some named = search (rules, bytes_named, map-append, bytes_of_shares, each_named, named_fewer, few_decided)
 
 pub whole_files : (plan : ChunksPlan) (said : Option ℕ) (x : List ℕ) → 0 < plan.chunks.count
     → are_named plan.filing.names plan.chunks.count ≡ true
     → file_bytes (chunks_whole plan said x) ≡ files_by plan.elide (in_the_end plan.chunks said x)
-whole_files plan said x some named = bytes_filed plan.filing plan.chunks.count _ named
-    (few_kept plan.elide _ _ (few_files plan.chunks (size_by said x) x some))
+whole_files plan said x some named = search (rules, bytes_filed, few_kept, few_files)
 
 module _ (plan : ChunksPlan) (said : Option ℕ) (x : List ℕ) (some : 0 < plan.chunks.count)
     (named : are_named plan.filing.names plan.chunks.count ≡ true) (fits : is_longer said x ≡ false) where

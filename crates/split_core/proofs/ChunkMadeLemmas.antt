@@ -1,4 +1,5 @@
 -- Which files of chunks there are once some bytes came in, and when the output of one chunk is complete.
+use Rattle.std.proofs.Common.{rules}
 use Rattle.std.proofs.lemmas.Grind.{common_steps}
 use Rattle.std.proofs.{
   Common.{◌≡◌, ℕ, ◌+◌, ◌<◌, ◌≤◌, suc, Bool, true, false, List, [], ◌∷◌, ◌++◌, length, take, map, get_or, Option},
@@ -185,11 +186,7 @@ module _ (chunks : Chunks) (filing : Filing) (said : Option ℕ) (x : List ℕ) 
 
   pub settled_left_out : file_bytes (chunks_settled (plan_by true) said x)
       ≡ filter has_bytes (file_bytes (chunks_settled (plan_by false) said x))
-  settled_left_out = cc (
-    settled_files (plan_by true) said x some named,
-    left_out (decided chunks 1 said x),
-    settled_files (plan_by false) said x some named,
-  )
+  settled_left_out = search (rules, settled_files, left_out)
 
   pub whole_left_out : file_bytes (chunks_whole (plan_by true) said x)
       ≡ filter has_bytes (file_bytes (chunks_whole (plan_by false) said x))
@@ -217,11 +214,9 @@ changed_more plan size x = grind (arith, take-take)
 pub changed_all : (plan : ChunksPlan) (size : ℕ) (x : List ℕ) → 0 < plan.chunks.count
     → are_named plan.filing.names plan.chunks.count ≡ true
     → joined (file_bytes ((chunks_work plan (Some size)).whole x)) ≡ take size x
-changed_all plan size x some named = ap joined (whole_files plan (Some size) x some named)
-    ∙ joined_files plan.elide (chunks_of plan.chunks size x) ∙ all_joined plan.chunks size x some
+changed_all plan size x some named = search (rules, whole_files, joined_files, all_joined)
 
 pub changed_same : (plan : ChunksPlan) (size : ℕ) (x : List ℕ) → 0 < plan.chunks.count
     → are_named plan.filing.names plan.chunks.count ≡ true
     → file_bytes ((chunks_work plan (Some size)).whole x) ≡ file_bytes ((chunks_work plan (Some size)).settled x)
-changed_same plan size x some named =
-    whole_files plan (Some size) x some named ∙ sym (settled_files plan (Some size) x some named)
+changed_same plan size x some named = search (rules, whole_files, settled_files)

@@ -28,8 +28,7 @@ use Rattle.split_core.proofs.{
 -- what is decided and what waits are all that came in
 decided_all : (elide : Bool) (chunks : Chunks) (said : Option ℕ) (x : List ℕ) → 0 < chunks.count
     → is_longer said x ≡ false → joined (files_by elide (decided chunks 1 said x)) ++ undecided chunks 1 said x ≡ x
-decided_all elide chunks None x some fits = let r = before_chunk chunks (length x) 1 x in
-    rw (joined_files elide (uncut r), append-nil r) (begin_then_rest r x (begun_begins chunks.unit chunks.delim _ x))
+decided_all elide chunks None x some fits = grind (arith, common_steps, joined_files, append-nil, begin_then_rest, begun_begins)
 decided_all elide chunks (Some size) x some fits =
     append-nil _ ∙ joined_files elide (chunks_of chunks size x) ∙ all_joined chunks size x some
     ∙ take_all size x (ltb-false _ _ fits)

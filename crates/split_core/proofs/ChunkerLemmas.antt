@@ -119,7 +119,7 @@ module _ {chunker : ChunkerState} {next : CutterState} {size : ℕ} {piece : Lis
   over = drop (length piece - past) piece
 
   fits_done : length (has.spare.used ++ done) ≤ size
-  fits_done = omega (arith, done_fits takes (within_size has), has.cut.at, length-append has.spare.used done)
+  fits_done = search (rules, done_fits, within_size, length-append)
 
   -- once the output is complete, none of the piece is used
   none_done : (said_work chunker.cutter size).is_complete has.spare.used ≡ true → length piece - past ≡ 0
@@ -302,18 +302,10 @@ module _ (chunker : ChunkerState) {next : CutterState} {size : ℕ} (piece : Lis
   ]
 
   full : size ≤ next.at
-  full = elim takes.enough [
-    | inl none ↦ absurd (omega (arith, none, some))
-    | inr later ↦ elim later [
-      | inl closed ↦ absurd (false≢true (sym (never_past (course next) next.sink.place each) ∙ closed))
-      | inr enough ↦ enough
-    ]
-  ]
+  full = search (rules, false≢true, never_past)
 
   size_is : (x : List ℕ) (has : IsSaid chunker size x) → length (has.spare.used ++ cut_off) ≡ size
-  size_is x has = let fits = takes.fits (within_size has) in
-      let long = length-take (length piece - past) piece in
-      omega (arith, full, takes.at, fits, has.cut.at, length-append has.spare.used cut_off, long, takes.few)
+  size_is x has = search (rules, within_size, length-take, full, length-append)
 
   all_so : (x : List ℕ) (has : IsSaid chunker size x)
       → x ++ piece ≡ (has.spare.used ++ cut_off) ++ drop (length piece - past) piece
@@ -324,16 +316,7 @@ module _ (chunker : ChunkerState) {next : CutterState} {size : ℕ} (piece : Lis
   taken x has = ap (take size) (all_so x has) ∙ take_at (has.spare.used ++ cut_off) _ size (size_is x has)
 
   longer_so : (x : List ℕ) (has : IsSaid chunker size x) → size < length (x ++ piece)
-  longer_so x has = omega (
-    arith,
-    ap length (all_so x has),
-    length-append (has.spare.used ++ cut_off)
-        (drop (length piece - past) piece),
-    size_is x has,
-    length-drop (length piece - past) piece,
-    takes.few,
-    some,
-  )
+  longer_so x has = search (rules, all_so, length-append, size_is, length-drop)
 
   pub changed_more : PassesAs told chunker piece old new (record chunker { cutter = next }) (Err (Verdict Changed))
   changed_more = passes_changed (record { said = refl; chunks = takes.cuts.chunks }) (omega (arith, takes.at, takes.few))
@@ -400,16 +383,12 @@ module _ {chunker next : ChunkerState} {size : ℕ} {told : Bool} {old new : Lis
     (same : IsLike chunker next) (bound : total next ≤ total chunker) where
   end_comes : (fault : Option Fault) → EndsAll told chunker.cutter.sink old new next.cutter.sink fault
       → Comes told chunker (work chunker).whole old new next fault
-  end_comes fault ends = record {
-    stays = ends.stays;
-    brings = λ x holds. let has = is_said said holds in
-        rw said (rw (part_is has, whole_said has) at (ends.brings _ has.cut.carries));
-  }
+  end_comes fault ends = grind (arith, common_steps, is_said, part_is, whole_said)
 
   pub said_stops : {why : Fault} → IsAimed chunker.cutter.sink.aim old
       → EndsAll told chunker.cutter.sink old new next.cutter.sink (Some why) → IsWrite why
       → EndsAs told chunker old new next (Err why)
-  said_stops {why} aimed ends broke = ends_at (Err why) aimed same bound (end_comes (Some why) ends) (λ x holds. tt) (λ some. broke)
+  said_stops {why} aimed ends broke = search (rules, ends_at, end_comes)
 
   pub said_ends : IsAimed chunker.cutter.sink.aim old
       → EndsAll told chunker.cutter.sink old new next.cutter.sink None

@@ -1,32 +1,10 @@
 -- Lemmas on chunks of an input, as one of the ways to split.
 use Rattle.std.proofs.Common.{rules}
-use Rattle.std.{
-  specs.Option.is_none,
-  proofs.lemmas.Grind.common_steps,
-  proofs.Common.{◌≡◌, ℕ, ◌+◌, ◌≤◌, Bool, true, false, IsTrue, List, ◌++◌, length, Option, Some, None, Result, Ok},
-  proofs.Common.{Err, IfNone, IfSome, refl, sym, ap, subst, arith},
-}
-use Rattle.ports_core.specs.{
-  Engine.{IsMet, StandsAt},
-  FileWriter.{Breaks, IsWrite},
-  Part.{Part, gets_bytes, writes},
-  Slot.{Slot, is_writable},
-  InTurn.fault_in,
-  Work.{IsSettled, IsSpare, Judges, Means, Needs, Work, on_output},
-  declared.{
-    fault.Fault.{Fault, TheVariants.{Memory, Verdict, Write}},
-    verdict.Verdict.{Verdict as Judgement, TheVariants.{Changed, Suffixes}},
-  },
-  inner.Part.HasLines,
-}
+use Rattle.std.{specs.Option.is_none, proofs.lemmas.Grind.common_steps, proofs.Common.{◌≡◌, ℕ, ◌+◌, ◌≤◌, Bool, true, false, IsTrue, List, ◌++◌, length, Option, Some, None, Result, Ok}, proofs.Common.{Err, IfNone, IfSome, refl, ap, arith}}
+use Rattle.ports_core.specs.{Engine.{IsMet, StandsAt}, FileWriter.{Breaks, IsWrite}, Part.{Part, gets_bytes, writes}, Slot.{Slot, is_writable}, InTurn.fault_in, Work.{IsSettled, IsSpare, Judges, Means, Needs, Work}, declared.{fault.Fault.{Fault, TheVariants.{Memory, Verdict}}, verdict.Verdict.{Verdict as Judgement, TheVariants.{Changed, Suffixes}}}, inner.Part.HasLines}
 use Rattle.ports_core.proofs.{PartLemmas.stopped_in_turn, ShareLemmas.has_told, SpareLemmas.all_used}
 use Rattle.seg_core.specs.declared.cut.Chunks.{Chunks}
-use Rattle.split_core.specs.{
-  ChunkerState.{AimState, ChunkerState, Course, Holds, HoldsBy, IsAimed, course, course_of},
-  ChunkerState.{to_files, to_output, in_files, in_output, total, work, work_on},
-  Split.{manner_of},
-  inner.{Chunker.{Comes, EndsAs, IsLike, PassesAs}, Brings.{AtAim, IsOf, manner_on, output_on}},
-}
+use Rattle.split_core.specs.{ChunkerState.{AimState, ChunkerState, Course, Holds, HoldsBy, IsAimed, course, course_of}, ChunkerState.{to_files, to_output, in_files, in_output, total, work, work_on}, inner.{Chunker.{Comes, EndsAs, IsLike, PassesAs}, Brings.{AtAim, IsOf, manner_on, output_on}}}
 use Rattle.split_core.proofs.{PartsLemmas.{met_files, unjudged}, WayLemmas.passes_lacking}
 use Rattle.ports_core.specs.Engine as engine
 use Rattle.split_core.specs.Ways as ways
@@ -56,35 +34,24 @@ settled_lines (in_output chunk) chunks said x = tt
 
 -- Faults
 
-met_output : (memory : Bool) (needs : Needs) (Lacks : Type 0) (Why : Judgement → Type 0) (old new : List Slot)
-    (chunk : ℕ) (fault : Fault)
-    → Breaks (manner_on (in_output chunk)) old new fault → fault ≡ Write 0
-    → IsMet (on_output memory) needs Lacks Why old new fault
-met_output memory needs Lacks Why old new chunk (Write slot) breaks is = grind (arith, common_steps)
-met_output memory needs Lacks Why old new chunk fault breaks is = absurd (cc)
-
 module _ (chunks : Chunks) (Why : Judgement → Type 0) (old new : List Slot) (fault : Fault)
     (ends : fault ≡ Verdict Suffixes → Why Suffixes) where
   met_feeding : (on : Course) (said : Option ℕ) → Breaks (manner_on on) old new fault → IsOf on fault
       → IsMet (work_on on chunks said).means (work_on on chunks said).means.feeding (true ≡ true) Why old new fault
-  met_feeding (in_files filing elide) said breaks of =
-      met_files (is_none said) _ _ Why (manner_of filing) filing.verbose old new fault (refl, refl) refl refl breaks ends
-  met_feeding (in_output chunk) said breaks of = met_output (is_none said) _ _ Why old new chunk fault breaks of
+  met_feeding (in_files filing elide) said breaks of = grind (arith, common_steps, met_files)
+  met_feeding (in_output chunk) said breaks of = grind (arith, common_steps)
 
   -- if an output broke, no need matters
   met_broken : (means : Means) (needs other : Needs) (Lacks Or : Type 0) → IsWrite fault
       → IsMet means needs Lacks Why old new fault → IsMet means other Or Why old new fault
-  met_broken means needs other Lacks Or (slot, is) met =
-      subst (IsMet means other Or Why old new) (sym is) (subst (IsMet means needs Lacks Why old new) is met)
+  met_broken means needs other Lacks Or (slot, is) met = grind (arith, common_steps)
 
   met_closing : (on : Course) (said : Option ℕ) → Breaks (manner_on on) old new fault → IsOf on fault
       → (is_none said ≡ false → IsWrite fault)
       → IsMet (work_on on chunks said).means (work_on on chunks said).means.closing (Unit {0}) Why old new fault
-  met_closing on (Some size) breaks of few = let means = (work_on on chunks (Some size)).means in
-      met_broken means means.feeding means.closing (true ≡ true) (Unit {0}) (few refl) (met_feeding on (Some size) breaks of)
-  met_closing (in_files filing elide) None breaks of few =
-      met_files true _ _ Why (manner_of filing) filing.verbose old new fault (refl, tt) refl refl breaks ends
-  met_closing (in_output chunk) None breaks of few = met_output true _ _ Why old new chunk fault breaks of
+  met_closing on (Some size) breaks of few = grind (arith, common_steps, met_broken, met_feeding)
+  met_closing (in_files filing elide) None breaks of few = grind (arith, common_steps, met_files)
+  met_closing (in_output chunk) None breaks of few = grind (arith, common_steps)
 
 -- What a piece leaves
 
@@ -97,15 +64,11 @@ at_aim at = grind (arith, common_steps)
 module _ {told : Bool} {old : ChunkerState} (new : ChunkerState) {before after : List Slot} {due : List ℕ → Part} where
   went_out : Comes told old due before after new None
       → engine.PutsOut ways.terms (way.Chunks old) due told before after
-  went_out comes start x at = ((comes.brings x at.holds).reaches start (at_aim at)).outputs
+  went_out comes start x at = grind (arith, common_steps)
 
   was_cut : {why : Fault} → Comes told old due before after new (Some why)
       → engine.CutsOff ways.terms (way.Chunks old) due told before after why
-  was_cut {why} comes start x at = let on = course old.cutter in
-      engine.cut (unjudged (manner_on on) before after why comes.stays.slots (comes.brings x at.holds).named)
-      (rw (output_is on old.cutter.chunks old.said)
-      (stopped_in_turn (output_on on) told start _ _ why after (settled_lines on old.cutter.chunks old.said x)
-      ((comes.brings x at.holds).reaches start (at_aim at))))
+  was_cut {why} comes start x at = grind (arith, common_steps, unjudged, output_is, stopped_in_turn, settled_lines, at_aim)
 
   was_judged : Comes told old due before after new None
       → engine.CutsOff ways.terms (way.Chunks old) due told before after (Verdict Changed)
@@ -116,17 +79,7 @@ module _ {told : Bool} {old new : ChunkerState} {piece : List ℕ} {before after
       → Comes told old (λ x. (work old).settled (x ++ piece)) before after new (fault_in result)
       → ((x : List ℕ) → Holds old x → IfNone (fault_in result) (Holds new (x ++ piece)))
       → PassesAs told old piece before after new result
-  passes_at (Ok done) same bound comes stands = record {
-    same = same_work old new same comes.stays.course;
-    size = bound;
-    holds = stands;
-    outputs = went_out new comes;
-    ready = comes.stays.ready;
-    owns = comes.stays.owns;
-    there = λ are. tt;
-    cut = tt;
-    met = tt;
-  }
+  passes_at (Ok done) same bound comes stands = grind (arith, common_steps, same_work, went_out)
   passes_at (Err why) same bound comes stands = record {
     same = same_work old new same comes.stays.course;
     size = bound;
@@ -145,17 +98,7 @@ module _ {told : Bool} {old new : ChunkerState} {piece : List ℕ} {before after
       → Comes told old (λ x. (work old).settled (x ++ piece)) before after new None
       → ((x : List ℕ) → Holds old x → IsSettled (work old) (x ++ piece) Changed)
       → PassesAs told old piece before after new (Err (Verdict Changed))
-  passes_changed same bound all judged = record {
-    same = same_work old new same all.stays.course;
-    size = bound;
-    holds = tt;
-    outputs = tt;
-    ready = tt;
-    owns = all.stays.owns;
-    there = λ are. tt;
-    cut = was_judged new all;
-    met = judged;
-  }
+  passes_changed same bound all judged = search (rules, same_work, was_judged)
 
 -- bytes wait, and there was no room for the piece: nothing was written
 pub lacks_room : {told : Bool} (old : ChunkerState) {piece : List ℕ} {slots : List Slot} → old.said ≡ None
@@ -175,17 +118,7 @@ module _ {told : Bool} {old new : ChunkerState} {before after : List Slot} where
       → total new ≤ total old → Comes told old (work old).whole before after new (fault_in result)
       → ((x : List ℕ) → Holds old x → IfNone (fault_in result) ((work old).verdict x ≡ None))
       → (is_none old.said ≡ false → IfSome (fault_in result) IsWrite) → EndsAs told old before after new result
-  ends_at (Ok done) aimed same bound comes well only_write = record {
-    same = same_work old new same comes.stays.course;
-    size = bound;
-    well = well;
-    outputs = went_out new comes;
-    writable = λ told_is. comes.stays.output (aimed_writable old.cutter.sink.aim old.cutter.chunks old.said before aimed told_is);
-    owns = comes.stays.owns;
-    there = λ are. tt;
-    cut = tt;
-    met = tt;
-  }
+  ends_at (Ok done) aimed same bound comes well only_write = grind (arith, common_steps, same_work, went_out, aimed_writable)
   ends_at (Err why) aimed same bound comes well only_write = record {
     same = same_work old new same comes.stays.course;
     size = bound;
@@ -202,17 +135,7 @@ module _ {told : Bool} {old new : ChunkerState} {before after : List Slot} where
   pub ends_changed : IsLike old new → total new ≤ total old → Comes told old (work old).whole before after new None
       → ((x : List ℕ) → Holds old x → Judges (work old) x Changed)
       → EndsAs told old before after new (Err (Verdict Changed))
-  ends_changed same bound all judged = record {
-    same = same_work old new same all.stays.course;
-    size = bound;
-    well = tt;
-    outputs = tt;
-    writable = tt;
-    owns = all.stays.owns;
-    there = λ are. tt;
-    cut = was_judged new all;
-    met = judged;
-  }
+  ends_changed same bound all judged = search (rules, same_work, was_judged)
 
 -- what waits, and what isn't used
 

@@ -2,13 +2,13 @@
 use Rattle.std.proofs.Common.{rules}
 use Rattle.std.proofs.lemmas.Grind.{common_steps}
 use Rattle.std.proofs.{
-  lemmas.Bool.{cases_lt, false≢true, le-ltb, lt-leb, lt-ltb, ltb-false, ltb-true, Decides.nat_tests},
+  lemmas.Bool.{cases_lt, false≢true, le-leb, le-ltb, lt-leb, lt-ltb, ltb-false, ltb-true, Decides.nat_tests},
   lemmas.List.{append-nil, take_all, take_at, take-append-drop, take_more, take-take, length-append, length-drop},
-  lemmas.List.length-take,
-  lemmas.List.FromFn.length-map-range_with_len,
-  Math.Seq.take-add,
+  lemmas.List.{drop-append-le, length-take},
+  lemmas.List.FromFn.{length-map-range_with_len, map-range_with_len_more},
+  Math.Seq.{drop-length, take-add},
   Common.{◌≡◌, ℕ, ◌+◌, ◌-◌, ◌<◌, ◌≤◌, min, zero, suc, Bool, true, false, cond, nat_lt, List, [], ◌∷◌, ◌++◌},
-  Common.{◌⊎◌, length, take, drop, replicate, Option, Some, None, Ok, inl, inr, refl, sym, ◌∙◌, ap, subst, arith},
+  Common.{◌⊎◌, length, take, drop, Option, Some, None, Ok, inl, inr, refl, sym, ◌∙◌, ap, subst, arith, zero-add},
   Common.{append_assoc, eqb, get_or, not},
 }
 use Rattle.ports_core.{
@@ -19,7 +19,7 @@ use Rattle.ports_core.{
     Work.IsNeeded,
     declared.{fault.Fault.Fault, slot.State.TheVariants.Open},
   },
-  proofs.{FileWriterLemmas.where_well, PartLemmas.{out_begins, part_begins_itself, part_trans}},
+  proofs.PartLemmas.{out_begins, part_begins_itself, part_trans},
 }
 use Rattle.seg_core.{
   specs.{
@@ -28,25 +28,9 @@ use Rattle.seg_core.{
   },
   proofs.FirstLines.{delimiters-first_lines, first_lines-is_take, lines_of-first_lines},
 }
-use Rattle.split_core.specs.{
-  Chunks.{before_chunk, begun_before, chunk_start, chunks_of, chunks_within, ended, is_within, open_from, passed},
-  ChunkWork.draft_by,
-  ChunkerState.{Carries, Course, CutterState, HasAll, HasCut, IsAimed, can_cut, part_on, work_on, SinkState, course},
-  ChunkerState.{in_files, in_output},
-  Parts.CutUp,
-  Split.manner_of,
-  inner.Cutter.{CutsMore, CutsAs, EndsFull, IsCut, IsCutOff, IsOpen, CutsStretch, WritesTo, cut_to, said_work},
-  inner.Chunks.GoesOn as Goes,
-  inner.Seen.{is_past_at, is_past_on},
-  inner.Brings.{Changes, Gives, HasName, Stays, with_full, with_fulls, with_rest},
-  laws.BegunLaws.{begun_begins, begun_long, begun_some, begun_stays, begun_within, open_append, open_within},
-  laws.ChunkLaws.{ended_grows, ended_is, ended_only, ends_here, goes_on, passed_full, passed_open, piece_all},
-  laws.ChunkLaws.{start_grows, start_past, start_within},
-  laws.ChunkWorkLaws.{chunks_go_on, piece_on, shares_on},
-  laws.ShareLaws.part_begins,
-}
+use Rattle.split_core.specs.{Chunks.{before_chunk, begun_before, chunk_start, chunks_of, chunks_within, ended, is_within, open_from, passed, chunk_at}, ChunkWork.draft_by, ChunkerState.{Carries, Course, CutterState, HasAll, HasCut, IsAimed, can_cut, part_on, work_on, SinkState, course}, ChunkerState.{in_files, in_output}, Parts.CutUp, Split.manner_of, inner.Cutter.{CutsMore, CutsAs, EndsFull, IsCut, IsCutOff, IsOpen, CutsStretch, WritesTo, cut_to, part_at}, inner.Cutter.{said_work}, inner.Chunks.GoesOn as Goes, inner.Seen.{is_past_at, is_past_on}, inner.Brings.{Brings, Changes, Gives, HasName, Stays, with_full, with_rest}, inner.Chunks.{HaveEnded, cut_before}, laws.BegunLaws.{begun_begins, begun_long, begun_some, begun_stays, begun_within, open_append, open_within}, laws.ChunkLaws.{before_later, before_next, before_stays, chunks_are, ended_after, ended_grows, ended_is, full_stays}, laws.ChunkLaws.{passed_full, passed_grows, passed_open, piece_all, start_grows, start_past}, laws.ChunkWorkLaws.{chunks_go_on, piece_on, shares_on}, laws.ShareLaws.part_begins}
 use Rattle.split_core.proofs.{
-  SinkLemmas.{brings_none, brings_then, brings_wider, ends_begin, ends_full, gives_then, piece_full, stays_none},
+  SinkLemmas.{brings_none, brings_then, brings_wider, ends_begin, ends_full, piece_full, stays_none},
   SinkLemmas.stays_then,
 }
 
@@ -123,110 +107,99 @@ within_by delim x some = let n = length x - 1 in
 
 -- The chunks that have ended
 
--- if a line is open before the end of its chunk, no further chunk has ended
-pub still_ended : (chunks : Chunks) (size place : ℕ) (x : List ℕ) → length x < size
-    → before_chunk chunks size (place + 1) x ≡ x → is_within chunks.unit chunks.delim x ≡ true
-    → place ≤ ended chunks size x → ended chunks size x ≡ place
-still_ended chunks size place x short all within from = let is = ended_is chunks size x in ended_only {chunks = chunks} {size = size} {x = x} (record {
-  within = omega arith;
-  before = omega (arith, start_grows chunks.count size place (ended chunks size x) from);
-  next = λ less. omega (arith, passed_open chunks size x short, open_early chunks.unit chunks.delim _ x all within);
-})
-
 -- if no line is open before the text has its size, all of the text is passed
 passed_all : (chunks : Chunks) (size : ℕ) (x : List ℕ) → length x ≤ size
     → (is_within chunks.unit chunks.delim x ≡ true → size ≤ length x) → passed chunks size x ≡ length x
 passed_all chunks size x fits whole = grind (arith, common_steps, cases_lt, passed_open, passed_full, no_line)
 
-pub ends_open : {told : Bool} {cutter : CutterState} {size : ℕ} {slots : List Slot} → IsAimed cutter.sink.aim slots
-    → cutter.is_within ≡ true → cutter.at < size → EndsFull told cutter size slots slots cutter None
-ends_open {told} {cutter} {size} {slots} ready within short = record {
-  chunks = refl;
-  at = refl;
-  within = refl;
-  stays = stays_none ready;
-  gives = λ x cut so.
-      let less : length x < size = omega arith in
-      let line = sym so.within ∙ within in
-      let is = still_ended _ _ _ _ less (so.begun line less) line so.from in
-      let e : ended cutter.chunks size x - cutter.sink.place ≡ 0 = omega arith in
-      rw e (record { brings = brings_none; carries = so.carries });
-}
+passed_few : (chunks : Chunks) (size : ℕ) (x : List ℕ) → length x ≤ size → passed chunks size x ≤ length x
+passed_few chunks size x fits = grind (arith, cases_lt, passed_open, passed_full, open_within)
 
--- Chunks end one after another
+pub within_are : {chunks : Chunks} {size : ℕ} (x : List ℕ) {place : ℕ} → 0 < chunks.count → length x ≤ size
+    → HaveEnded chunks size x place → chunks_within chunks size x ≡ cut_before chunks size x place
+within_are {chunks} {size} x some fits is = rw (take_all size x fits) at (chunks_are chunks size x some fits is)
 
--- each chunk that ends changes what is there to what is there after it
-pub record Ending (told : Bool) (cutter : CutterState) (size : ℕ) (old slots : List Slot) (now : CutterState)
-    : Type 0 where
-  pub chunks : now.chunks ≡ cutter.chunks
-  pub at : now.at ≡ cutter.at
-  pub within : now.is_within ≡ cutter.is_within
-  pub from : cutter.sink.place ≤ now.sink.place
-  pub stays : Stays (course cutter) cutter.sink.aim now.sink.aim old slots None
-  pub gives : (x : List ℕ) (cut : CutUp) → IsCutOff cutter size x cut
-      → Gives told (course cutter) cutter.sink now.sink cut
-      (with_fulls (now.sink.place - cutter.sink.place) cut) old slots None
-  pub low : (x : List ℕ) (cut : CutUp) → IsCutOff cutter size x cut → now.sink.place ≤ ended cutter.chunks size x
-
-pub ends_none : {told : Bool} {cutter : CutterState} {size : ℕ} {slots : List Slot} → IsAimed cutter.sink.aim slots
-    → Ending told cutter size slots slots cutter
-ends_none {told} {cutter} {size} {slots} ready = record {
-  chunks = refl;
-  at = refl;
-  within = refl;
-  from = omega arith;
-  stays = stays_none ready;
-  gives = λ x cut so. let e : cutter.sink.place - cutter.sink.place ≡ 0 = omega arith in
-      rw e (record { brings = brings_none; carries = so.carries });
-  low = λ x cut so. so.from;
-}
-
-pub name_of : (on : Course) (count place : ℕ) → HasAll on count → place < count → HasName on place
-name_of (in_files filing elide) count place all less = grind (arith, common_steps)
-name_of (in_output chunk) count place all less = tt
+-- the next chunk ends
+full_next : (chunks : Chunks) (size : ℕ) (x : List ℕ) (place : ℕ) → before_chunk chunks size (place + 1) x ≡ x
+    → with_full (cut_before chunks size x place) ≡ cut_before chunks size x (place + 1)
+full_next chunks size x place all = let full = map-range_with_len_more (chunk_at chunks size x) 0 place place (zero-add _) in
+    grind (arith, common_steps, full, drop-length)
 
 full_begins : (on : Course) (cut : CutUp) → Begins (part_on on cut) (part_on on (with_full cut))
 full_begins (in_files filing elide) cut = let manner = manner_of filing in
     subst (Begins _) (ap (draft_part manner) (ends_full elide cut)) (ends_begin elide manner (draft_by elide cut))
 full_begins (in_output chunk) cut = rw (piece_full _ _) (part_begins_itself _)
 
-pub fulls_begin : (on : Course) (cut : CutUp) (few more : ℕ)
-    → Begins (part_on on (with_fulls few cut)) (part_on on (with_fulls (few + more) cut))
-fulls_begin on cut few zero = let e : few + 0 ≡ few = omega arith in rw e (part_begins_itself _)
-fulls_begin on cut few (suc more) = let e : few + suc more ≡ suc (few + more) = omega arith in
-    rw e (part_trans _ _ _ (fulls_begin on cut few more) (full_begins on (with_fulls (few + more) cut)))
+-- what is written before more chunks end begins what is written then
+fulls_begin : (on : Course) (chunks : Chunks) (size : ℕ) (x : List ℕ) (place more : ℕ)
+    → before_chunk chunks size (place + 1) x ≡ x
+    → Begins (part_on on (cut_before chunks size x place)) (part_on on (cut_before chunks size x (place + more)))
+fulls_begin on chunks size x place zero all = let e : place + 0 ≡ place = omega arith in rw e (part_begins_itself _)
+fulls_begin on chunks size x place (suc more) all = let e : place + suc more ≡ place + 1 + more = omega arith in
+    rw e (part_trans _ _ _ (rw (full_next chunks size x place all) at (full_begins on (cut_before chunks size x place)))
+    (fulls_begin on chunks size x (place + 1) more (before_later chunks size x (place + 1) _ (omega arith) all)))
 
-passed_at : {cutter : CutterState} {size : ℕ} {x : List ℕ} {cut : CutUp}
-    → (cutter.is_within ≡ true → size ≤ cutter.at) → IsCutOff cutter size x cut
-    → passed cutter.chunks size x ≡ cutter.at
-passed_at {cutter} {size} {x} whole so = grind (arith, common_steps, passed_all)
+ended_begins : (on : Course) (chunks : Chunks) (size : ℕ) (x : List ℕ) (place : ℕ) → 0 < chunks.count
+    → length x ≤ size → place ≤ ended chunks size x → before_chunk chunks size (place + 1) x ≡ x
+    → Begins (part_on on (cut_before chunks size x place)) (part_on on (chunks_within chunks size x))
+ended_begins on chunks size x place some fits less all =
+    let more = ended chunks size x - place in let e : place + more ≡ ended chunks size x = omega arith in
+    rw (within_are x some fits (ended_is chunks size x)) (rw e at (fulls_begin on chunks size x place more all))
+
+pub some_of : (on : Course) (count : ℕ) → can_cut on count ≡ true → 0 < count
+some_of (in_files filing elide) count can = ltb-true _ _ can
+some_of (in_output chunk) count can = search rules
+
+pub some_in : {cutter : CutterState} {x : List ℕ} {cut : CutUp} → HasCut cutter x cut → 0 < cutter.chunks.count
+some_in {cutter} has = some_of _ _ has.can
+
+pub name_of : (on : Course) (count place : ℕ) → HasAll on count → place < count → HasName on place
+name_of (in_files filing elide) count place all less = grind (arith, common_steps)
+name_of (in_output chunk) count place all less = tt
+
+-- Chunks end one after another
+
+-- the chunks from one place to another ended
+pub record Ending (told : Bool) (cutter : CutterState) (size : ℕ) (old slots : List Slot) (now : CutterState)
+    : Type 0 where
+  pub chunks : now.chunks ≡ cutter.chunks
+  pub at : now.at ≡ cutter.at
+  pub within : now.is_within ≡ cutter.is_within
+  pub stays : Stays (course cutter) cutter.sink.aim now.sink.aim old slots None
+  pub brings : (x : List ℕ) → IsCutOff cutter size x
+      → Brings told (course cutter) cutter.sink.aim now.sink.aim (part_at cutter size x cutter.sink.place)
+      (part_at cutter size x now.sink.place) old slots None
+  pub leads : (x : List ℕ) → IsCutOff cutter size x → IsCutOff now size x
+
+pub ends_none : {told : Bool} {cutter : CutterState} {size : ℕ} {slots : List Slot} → IsAimed cutter.sink.aim slots
+    → Ending told cutter size slots slots cutter
+ends_none ready = search (rules, stays_none, brings_none)
+
+cut_as : {cutter next : CutterState} {x : List ℕ} {from to : CutUp} → next.chunks ≡ cutter.chunks
+    → course next ≡ course cutter → next.at ≡ cutter.at → next.is_within ≡ cutter.is_within
+    → HasCut cutter x from → Carries next.sink to → HasCut next x to
+cut_as chunks same at within has carries = grind (arith, common_steps)
 
 module _ {told : Bool} {cutter now : CutterState} {size : ℕ} {old slots : List Slot}
     (whole : cutter.is_within ≡ true → size ≤ cutter.at) (so_far : Ending told cutter size old slots now)
     (less : now.sink.place < now.chunks.count)
     (ends : chunk_start now.chunks.count size (now.sink.place + 1) ≤ now.at) where
-  abbrev k : ℕ
-  k = now.sink.place - cutter.sink.place
-
-  later : {x : List ℕ} {cut : CutUp} → IsCutOff cutter size x cut → now.sink.place + 1 ≤ ended cutter.chunks size x
-  later {x} so = elim (cases_lt now.sink.place (ended cutter.chunks size x)) [
-    | inl before ↦ omega arith
-    | inr past ↦ (let e : ended cutter.chunks size x ≡ now.sink.place = omega (arith, so_far.low x _ so) in
-        let next = (rw e at (ended_is cutter.chunks size x)).next (rw so_far.chunks at less) in
-        absurd (omega (arith, rw so_far.chunks at ends, passed_at whole so)))
-  ]
+  has_ended : {x : List ℕ} → IsCutOff now size x
+      → chunk_start now.chunks.count size (now.sink.place + 1) ≤ passed now.chunks size x
+  has_ended {x} so = grind (arith, common_steps, passed_all)
 
   next_gives : {next : SinkState} {new : List Slot} {fault : Option Fault}
-      → Changes told now.sink with_full slots new next fault → (x : List ℕ) (cut : CutUp) → IsCutOff cutter size x cut
-      → Gives told (course cutter) cutter.sink next cut (with_fulls (suc k) cut) old new fault
-  next_gives went x cut so = let done = so_far.gives x cut so in
-      let name = name_of (course cutter) _ _ so.all (rw so_far.chunks at less) in
-      gives_then done (rw so_far.stays.course at (went.gives _ (done.carries, rw so_far.stays.course name)))
+      → Changes told now.sink with_full slots new next fault → (x : List ℕ) → IsCutOff cutter size x
+      → Gives told (course cutter) now.sink next (cut_before cutter.chunks size x now.sink.place)
+      (cut_before cutter.chunks size x (now.sink.place + 1)) slots new fault
+  next_gives went x so = let mid = so_far.leads x so in
+      rw (so_far.stays.course, so_far.chunks) at (rw (full_next now.chunks size x now.sink.place mid.begun) at
+      (went.gives _ (mid.cut.carries, name_of _ _ _ mid.cut.all less)))
 
   next_stays : {next : SinkState} {new : List Slot} {fault : Option Fault}
       → Changes told now.sink with_full slots new next fault
       → Stays (course cutter) cutter.sink.aim next.aim old new fault
-  next_stays went = stays_then so_far.stays (rw so_far.stays.course at went.stays)
+  next_stays went = grind (arith, common_steps)
 
   pub ends_next : {next : CutterState} {new : List Slot} → next.chunks ≡ now.chunks → next.at ≡ now.at
       → next.is_within ≡ now.is_within → next.sink.place ≡ now.sink.place + 1
@@ -235,110 +208,82 @@ module _ {told : Bool} {cutter now : CutterState} {size : ℕ} {old slots : List
     chunks = chunks ∙ so_far.chunks;
     at = at ∙ so_far.at;
     within = within ∙ so_far.within;
-    from = omega arith;
     stays = next_stays went;
-    gives = let e : next.sink.place - cutter.sink.place ≡ suc k = omega arith in rw e (next_gives went);
-    low = λ x cut so. omega (arith, later so);
-  }
-
-  pub ends_stopped : {next : CutterState} {new : List Slot} {why : Fault} → next.chunks ≡ now.chunks
-      → next.at ≡ now.at → next.is_within ≡ now.is_within
-      → Changes told now.sink with_full slots new next.sink (Some why)
-      → EndsFull told cutter size old new next (Some why)
-  ends_stopped chunks at within stopped = record {
-    chunks = chunks ∙ so_far.chunks;
-    at = at ∙ so_far.at;
-    within = within ∙ so_far.within;
-    stays = next_stays stopped;
-    gives = λ x cut so. let more = ended cutter.chunks size x - (now.sink.place + 1) in
-        let e : suc k + more ≡ ended cutter.chunks size x - cutter.sink.place = omega (arith, later so) in record {
-          brings = brings_wider (rw e at (fulls_begin (course cutter) cut (suc k) more)) (next_gives stopped x cut so).brings;
-          carries = tt;
+    brings = λ x so. rw place (brings_then (so_far.brings x so) (next_gives went x so).brings);
+    leads = λ x so. let mid = so_far.leads x so in
+        let same : cut_before cutter.chunks size x (now.sink.place + 1) ≡ cut_before next.chunks size x next.sink.place =
+        rw (chunks, so_far.chunks, place) refl in record {
+          cut = cut_as chunks went.stays.course at within mid.cut (subst (Carries next.sink) same (next_gives went x so).carries);
+          fits = mid.fits;
+          few = rw (chunks, place) (omega arith);
+          before = rw (chunks, place) (has_ended mid);
+          begun = rw (chunks, place) (before_later now.chunks size x (now.sink.place + 1) _ (omega arith) mid.begun);
         };
   }
 
-pub ends_so : {told : Bool} {cutter now : CutterState} {size : ℕ} {old slots : List Slot}
-    → (cutter.is_within ≡ true → size ≤ cutter.at) → Ending told cutter size old slots now
-    → (now.sink.place < now.chunks.count → now.at < chunk_start now.chunks.count size (now.sink.place + 1))
+  pub ends_stopped : {next : CutterState} {new : List Slot} {why : Fault} → next.chunks ≡ now.chunks
+      → next.at ≡ now.at → Changes told now.sink with_full slots new next.sink (Some why)
+      → EndsFull told cutter size old new next (Some why)
+  ends_stopped chunks at stopped = record {
+    chunks = chunks ∙ so_far.chunks;
+    at = at ∙ so_far.at;
+    stays = next_stays stopped;
+    brings = λ x so. let mid = so_far.leads x so in
+        let is = ended_after now.chunks size x now.sink.place less (le-leb _ _ (has_ended mid)) in
+        let past : now.sink.place + 1 ≤ ended now.chunks size x = omega (arith, is) in
+        let later = before_later now.chunks size x (now.sink.place + 1) _ (omega arith) mid.begun in
+        brings_wider (rw so_far.chunks at (ended_begins (course cutter) now.chunks size x (now.sink.place + 1) (some_in mid.cut) mid.fits past later))
+        (brings_then (so_far.brings x so) (next_gives stopped x so).brings);
+    leads = λ x so. tt;
+  }
+
+-- no further chunk has ended
+pub ends_all : {told : Bool} {cutter now : CutterState} {size : ℕ} {old slots : List Slot}
+    → Ending told cutter size old slots now
+    → ((x : List ℕ) → IsCutOff now size x → now.sink.place < now.chunks.count
+    → passed now.chunks size x < chunk_start now.chunks.count size (now.sink.place + 1))
     → EndsFull told cutter size old slots now None
-ends_so {told} {cutter} {now} {size} {old} {slots} whole so_far last = record {
+ends_all {now = now} {size} so_far last = record {
   chunks = so_far.chunks;
   at = so_far.at;
-  within = so_far.within;
   stays = so_far.stays;
-  gives = λ x cut so. subst (λ place. Gives told (course cutter) cutter.sink now.sink cut (with_fulls (place - cutter.sink.place) cut) old slots None)
-      (same so) (so_far.gives x cut so);
+  brings = λ x so. rw (rw so_far.chunks at (same (so_far.leads x so))) (so_far.brings x so);
+  leads = λ x so. let mid = so_far.leads x so in record {
+    cut = subst (HasCut now x) (sym (same mid)) mid.cut;
+    fits = mid.fits;
+  };
 } where
-  same : {x : List ℕ} {cut : CutUp} → IsCutOff cutter size x cut → now.sink.place ≡ ended cutter.chunks size x
-  same {x} so = let is = ended_is cutter.chunks size x in elim (cases_lt now.sink.place (ended cutter.chunks size x)) [
-    | inl before ↦ absurd
-        (omega (
-          arith,
-          last (omega (arith, before, is.within, ap (λ (chunks : Chunks). chunks.count) so_far.chunks)),
-          passed_at whole so,
-          ap
-              (λ (chunks : Chunks). chunk_start chunks.count size (now.sink.place + 1)) so_far.chunks,
-          start_grows cutter.chunks.count size (now.sink.place + 1) (ended cutter.chunks size x)
-              (omega (arith, before)),
-        ))
-    | inr past ↦ omega (arith, so_far.low x _ so)
-  ]
+  same : {x : List ℕ} → IsCutOff now size x
+      → chunks_within now.chunks size x ≡ cut_before now.chunks size x now.sink.place
+  same {x} so = within_are x (some_in so.cut) so.fits (record { within = so.few; before = so.before; next = last x so })
 
--- none does before the end of the chunk that was begun
-pub ends_short : {told : Bool} {cutter : CutterState} {size : ℕ} {slots : List Slot} → IsAimed cutter.sink.aim slots
-    → 0 < cutter.chunks.count
-    → cutter.at < chunk_start cutter.chunks.count size (min (cutter.sink.place + 1) cutter.chunks.count)
-    → EndsFull told cutter size slots slots cutter None
-ends_short {told} {cutter} {size} {slots} ready some short = by cutter.is_within refl where
-  by : (within : Bool) → cutter.is_within ≡ within → EndsFull told cutter size slots slots cutter None
-  by true is = ends_open ready is
-      (omega (
-        arith,
-        start_within cutter.chunks.count size (min (cutter.sink.place + 1) cutter.chunks.count) some
-            (omega arith),
-      ))
-  by false is = ends_so (λ within. absurd (false≢true (sym is ∙ within))) (ends_none ready)
-      (λ less. subst (λ place. cutter.at < chunk_start cutter.chunks.count size place) (omega arith) short)
+-- none does if a line is open before the end of its chunk
+pub ends_open : {told : Bool} {cutter : CutterState} {size : ℕ} {slots : List Slot} → IsAimed cutter.sink.aim slots
+    → cutter.is_within ≡ true → cutter.at < size → EndsFull told cutter size slots slots cutter None
+ends_open {cutter = cutter} {size} ready within short = ends_all (ends_none ready) (λ x so less. omega (
+  arith,
+  passed_open cutter.chunks size x (omega (arith, so.cut.at)),
+  open_early cutter.chunks.unit cutter.chunks.delim _ x so.begun (sym so.cut.within ∙ within),
+))
+
+-- nor before the end of the chunk that was begun
+pub ends_so : {told : Bool} {cutter now : CutterState} {size : ℕ} {old slots : List Slot}
+    → Ending told cutter size old slots now
+    → (now.sink.place < now.chunks.count → now.at < chunk_start now.chunks.count size (now.sink.place + 1))
+    → EndsFull told cutter size old slots now None
+ends_so {now = now} {size} so_far last = ends_all so_far
+    (λ x so less. omega (arith, last less, so.cut.at, passed_few now.chunks size x so.fits))
 
 -- A text goes on, all of it with the chunk that was begun
-
-more_empty : (more : ℕ) → ◌≡◌ {A = List (List ℕ)} (replicate more [] ++ [] ∷ []) ([] ∷ replicate more [])
-more_empty zero = refl
-more_empty (suc more) = ap (λ rest. [] ∷ rest) (more_empty more)
-
-pub fulls_are : (more : ℕ) (cut : CutUp)
-    → with_fulls (suc more) cut ≡ record { full = cut.full ++ cut.rest ∷ replicate more []; rest = [] }
-fulls_are zero cut = refl
-fulls_are (suc more) cut = ap with_full (fulls_are more cut)
-    ∙ ap (λ full. record { full = full; rest = [] })
-    (append_assoc cut.full (cut.rest ∷ replicate more []) ([] ∷ []) ∙ ap (λ rest. cut.full ++ cut.rest ∷ rest)
-    (more_empty _))
 
 pub cut_of : (chunks : Chunks) (size : ℕ) (x : List ℕ) → length x ≤ size
     → chunks_of chunks size x ≡ chunks_within chunks size x
 cut_of chunks size x within = grind (arith, common_steps)
 
-pub grown : (chunks : Chunks) (size : ℕ) (x y : List ℕ) → 0 < chunks.count → length (x ++ y) ≤ size
-    → before_chunk chunks size (ended chunks size x + 1) (x ++ y) ≡ x ++ y
-    → with_fulls (ended chunks size (x ++ y) - ended chunks size x) (with_rest y (chunks_within chunks size x))
-    ≡ chunks_within chunks size (x ++ y)
-grown chunks size x y some within all = elim (cases_lt (ended chunks size x) (ended chunks size (x ++ y))) [
-  | inr same ↦
-      let e : ended chunks size (x ++ y) ≡ ended chunks size x = omega (arith, ended_grows chunks size x y) in
-      let none : ended chunks size (x ++ y) - ended chunks size x ≡ 0 = omega arith in
-      ap (λ n. with_fulls n (with_rest y (chunks_within chunks size x))) none
-      ∙ ap (with_rest y) (sym low) ∙ sym (goes_on chunks size x y some within e) ∙ cut_of chunks size (x ++ y) within
-  | inl more ↦
-      let n = ended chunks size (x ++ y) - ended chunks size x - 1 in
-      let e : ended chunks size (x ++ y) - ended chunks size x ≡ suc n = omega arith in
-      let sum : ended chunks size x + suc n ≡ ended chunks size (x ++ y) = omega arith in
-      ap (λ n. with_fulls n (with_rest y (chunks_within chunks size x))) e
-      ∙ fulls_are n (with_rest y (chunks_within chunks size x))
-      ∙ ap (λ cut. record { full = cut.full ++ (cut.rest ++ y) ∷ replicate n []; rest = [] }) (sym low)
-      ∙ sym (ends_here chunks size x y n some within all sum) ∙ cut_of chunks size (x ++ y) within
-] where
-  low : chunks_of chunks size x ≡ chunks_within chunks size x
-  low = cut_of chunks size x (omega (arith, length-append x y))
+rest_more : (chunks : Chunks) (size : ℕ) (x y : List ℕ) (place : ℕ) → length (x ++ y) ≤ size
+    → chunk_start chunks.count size place ≤ passed chunks size x
+    → cut_before chunks size (x ++ y) place ≡ with_rest y (cut_before chunks size x place)
+rest_more chunks size x y place within reached = grind (arith, common_steps, full_stays, before_stays, drop-append-le, begun_within)
 
 -- A stretch is cut off
 
@@ -362,39 +307,13 @@ pub record Place (cutter : CutterState) (size : ℕ) (x : List ℕ) : Type 0 whe
   pub early : open_from cutter.chunks.unit cutter.chunks.delim x < chunk_start cutter.chunks.count size
       (cutter.sink.place + 1)
 
-pub some_of : (on : Course) (count : ℕ) → can_cut on count ≡ true → 0 < count
-some_of (in_files filing elide) count can = ltb-true _ _ can
-some_of (in_output chunk) count can = search rules
-
-pub some_in : {cutter : CutterState} {x : List ℕ} {cut : CutUp} → HasCut cutter x cut → 0 < cutter.chunks.count
-some_in {cutter} has = some_of _ _ has.can
-
 pub placed_at : {cutter : CutterState} {size : ℕ} {x : List ℕ} → IsCut cutter size x
     → ended cutter.chunks size x ≡ cutter.sink.place
 placed_at {cutter} {size} {x} is = grind (arith, common_steps, length-map-range_with_len)
 
 pub place_of : {cutter : CutterState} {size : ℕ} {x : List ℕ} (y : List ℕ) → IsCut cutter size x → 0 < length y
     → length (x ++ y) ≤ size → Place cutter size x
-place_of {cutter} {size} {x} y is some within = let chunks = cutter.chunks in
-    let short : length x < size = omega (arith, length-append x y) in
-    let count : 0 < chunks.count = some_in is.cut in
-    let here = rw (placed_at is) at (ended_is chunks size x) in
-    let less : cutter.sink.place < chunks.count = elim (cases_lt cutter.sink.place chunks.count) [
-      | inl before ↦ before
-      | inr past ↦ absurd
-          (omega (
-            arith,
-            start_past chunks.count size cutter.sink.place count past,
-            passed_open chunks size x short,
-            open_within chunks.unit chunks.delim x,
-          ))
-    ] in record {
-      short = short;
-      some = count;
-      is = placed_at is;
-      less = less;
-      early = omega (arith, here.next less, passed_open chunks size x short);
-    }
+place_of {cutter} {size} {x} y is some within = grind (arith, common_steps, length-append, some_in, placed_at, ended_is, cases_lt, start_past, passed_open, open_within)
 
 -- the end of the chunk that was begun
 abbrev pub end_so : CutterState → ℕ → ℕ
@@ -425,58 +344,67 @@ pub has_cut : {cutter next : CutterState} {x : List ℕ} (y : List ℕ) {from to
     → HasCut cutter x from → Carries next.sink to → HasCut next (x ++ y) to
 has_cut {cutter} {x = x} y chunks stays at within some has carries = grind (arith, common_steps, length-append, within_last)
 
+-- a text to which nothing was added since the chunks that had all ended
+off_of : {cutter : CutterState} {size : ℕ} {x : List ℕ} → IsCut cutter size x → IsCutOff cutter size x
+off_of {cutter} {size} {x} is = grind (arith, common_steps, placed_at, ended_is, within_are, some_in, before_next)
+
+module _ {cutter : CutterState} {size : ℕ} (text : List ℕ) {x y : List ℕ}
+    (is : y ≡ cut_to cutter (end_so cutter size) text) (some : 0 < length y) (has : IsCut cutter size x)
+    (within : length (x ++ y) ≤ size) where
+  all_begun : before_chunk cutter.chunks size (cutter.sink.place + 1) (x ++ y) ≡ x ++ y
+  all_begun = grind (arith, common_steps, place_of, all_within)
+
+  rest_gives : {told : Bool} {next : SinkState} {old wet : List Slot} {fault : Option Fault}
+      → Changes told cutter.sink (with_rest y) old wet next fault
+      → Gives told (course cutter) cutter.sink next (chunks_within cutter.chunks size x)
+      (cut_before cutter.chunks size (x ++ y) cutter.sink.place) old wet fault
+  rest_gives {told} {next} {old} {wet} {fault} changes = let off = off_of has in let place = place_of y has some within in
+      let ends = rw (placed_at has) at (ended_is cutter.chunks size x) in
+      subst (λ cut. Gives told (course cutter) cutter.sink next (chunks_within cutter.chunks size x) cut old wet fault)
+      (ap (with_rest y) (within_are x (some_in has.cut) has.fits ends)
+      ∙ sym (rest_more cutter.chunks size x y cutter.sink.place within off.before))
+      (changes.gives _ (has.cut.carries, name_of _ _ _ has.cut.all place.less))
+
+  off_after : {told : Bool} {mid : CutterState} {old wet : List Slot} → Cutting cutter mid y
+      → Changes told cutter.sink (with_rest y) old wet mid.sink None → IsCutOff mid size (x ++ y)
+  off_after {mid = mid} step changes = let off = off_of has in
+      let same : cut_before cutter.chunks size (x ++ y) cutter.sink.place ≡ cut_before mid.chunks size (x ++ y) mid.sink.place =
+      rw (step.chunks, step.place) refl in record {
+        cut = has_cut y step.chunks step.course step.at step.within some has.cut (subst (Carries mid.sink) same (rest_gives changes).carries);
+        fits = within;
+        few = rw (step.chunks, step.place) off.few;
+        before = rw (step.chunks, step.place)
+            (omega (arith, off.before, passed_grows cutter.chunks size x y));
+        begun = rw (step.chunks, step.place) all_begun;
+      }
+
 pub cuts_on : {told : Bool} {cutter mid next : CutterState} {size : ℕ} (text : List ℕ) {y : List ℕ}
     {old wet new : List Slot} (fault : Option Fault) → y ≡ cut_to cutter (end_so cutter size) text
     → Cutting cutter mid y → Changes told cutter.sink (with_rest y) old wet mid.sink None
     → EndsFull told mid size wet new next fault → CutsMore told cutter size y old new next fault
-cuts_on {told} {cutter} {mid} {next} {size} text {y} {old} {new = new} fault is step changes ends = record {
+cuts_on text {y} fault is step changes ends = record {
   chunks = ends.chunks ∙ step.chunks;
   bound = omega arith;
   stays = stays_then changes.stays (rw step.course at ends.stays);
-  brings = λ x has within. (both x has within).brings;
-  leads = λ x has within. where_well fault (both x has within).carries (λ carries. record {
-    cut = has_cut y (ends.chunks ∙ step.chunks) (ends.stays.course ∙ step.course) (ends.at ∙ step.at) (ends.within ∙ step.within)
-        step.some has.cut (rw (← (ends.chunks ∙ step.chunks)) at carries);
-    fits = within;
-  });
-} where
-  both : (x : List ℕ) → IsCut cutter size x → length (x ++ y) ≤ size
-      → Gives told (course cutter) cutter.sink next.sink (chunks_within cutter.chunks size x)
-      (chunks_within cutter.chunks size (x ++ y)) old new fault
-  both x has within = let place = place_of y has step.some within in
-      let all : before_chunk cutter.chunks size (ended cutter.chunks size x + 1) (x ++ y) ≡ x ++ y = rw is (all_within text has place) in
-      let first = changes.gives _ (has.cut.carries, name_of _ _ _ has.cut.all place.less) in
-      let cut : with_fulls (ended mid.chunks size (x ++ y) - mid.sink.place) (with_rest y (chunks_within cutter.chunks size x))
-      ≡ chunks_within cutter.chunks size (x ++ y) =
-      rw (step.chunks, step.place, ← place.is) (grown _ _ x y place.some within all) in
-      gives_then first (rw (step.course, cut) at (ends.gives (x ++ y) _ (record {
-        carries = first.carries;
-        all = rw (step.course, step.chunks) has.cut.all;
-        at = omega (arith, length-append x y);
-        within = rw step.chunks (step.within ∙ sym (within_last _ _ x y step.some));
-        fits = within;
-        begun = λ line short. rw (step.chunks, step.place, ← place.is) all;
-        from = rw (step.chunks, step.place, ← place.is) (ended_grows _ _ x y);
-      })))
+  brings = λ x has within. brings_then (rest_gives text is step.some has within changes).brings
+      (rw (step.course, step.chunks, step.place) at (ends.brings (x ++ y) (off_after text is step.some has within step changes)));
+  leads = λ x has within. ends.leads (x ++ y) (off_after text is step.some has within step changes);
+}
 
 -- a fault came as a stretch was written
-fulls_follow : (on : Course) (low : CutUp) {high : CutUp} (n : ℕ) → with_fulls n low ≡ high
-    → Begins (part_on on low) (part_on on high)
-fulls_follow on low n is = let e : 0 + n ≡ n = omega arith in rw (e, is) at (fulls_begin on low 0 n)
-
 pub cuts_not : {told : Bool} {cutter next : CutterState} {size : ℕ} (text : List ℕ) {y : List ℕ} {old new : List Slot}
     {why : Fault} → y ≡ cut_to cutter (end_so cutter size) text → 0 < length text → next.chunks ≡ cutter.chunks
     → next.at ≡ cutter.at → Changes told cutter.sink (with_rest y) old new next.sink (Some why)
     → CutsMore told cutter size y old new next (Some why)
-cuts_not {cutter = cutter} {size = size} text {y} {why = why} is some chunks at stopped = record {
+cuts_not {cutter = cutter} {size = size} text {y} is has_text chunks at stopped = record {
   chunks = chunks;
   bound = omega arith;
   stays = stopped.stays;
-  brings = λ x has within. let some : 0 < length y = rw is (begun_some cutter.chunks.unit cutter.chunks.delim _ text (omega arith) some) in
-      let here = place_of y has some within in
-      brings_wider (fulls_follow (course cutter) _ (ended cutter.chunks size (x ++ y) - ended cutter.chunks size x)
-      (grown cutter.chunks size x y here.some within (rw is (all_within text has here))))
-      (stopped.gives _ (has.cut.carries, name_of _ _ _ has.cut.all here.less)).brings;
+  brings = λ x has within.
+      let some : 0 < length y = rw is (begun_some cutter.chunks.unit cutter.chunks.delim _ text (omega arith) has_text) in
+      brings_wider (ended_begins (course cutter) cutter.chunks size (x ++ y) cutter.sink.place (some_in has.cut) within
+      (omega (arith, placed_at has, ended_grows cutter.chunks size x y)) (all_begun text is some has within))
+      (rest_gives text is some has within stopped).brings;
   leads = λ x has within. tt;
 }
 
@@ -543,13 +471,6 @@ steps_so {n = n} text writes ends = let is = writes.count.2 in (
   cuts_on _ _ is (cutting _ writes) (rw (← is) at writes.changes) ends,
   λ going x within has. needed_in _ n going writes.count.0 writes.count.1 is within has,
 )
-
--- nothing is full before that chunk's end
-pub steps_short : {told : Bool} {cutter next : CutterState} {size n : ℕ} (text : List ℕ) {old new : List Slot}
-    → 0 < cutter.chunks.count → WritesTo told cutter (end_so cutter size) text old new next (Ok n)
-    → next.at < end_so cutter size → CutsStretch told cutter size text old new next (Ok n)
-steps_short {size = size} text some writes short = steps_so _ writes
-    (ends_short writes.changes.stays.ready (rw writes.chunks some) (rw (writes.chunks, writes.place) short))
 
 -- Stretch after stretch
 

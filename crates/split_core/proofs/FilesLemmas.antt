@@ -40,7 +40,7 @@ use Rattle.split_core.specs.{
   Split.{Filing, Share, is_verbose, output_by},
   FilesState.{FilesState, filing_in},
   Round.{AreReady, output_at},
-  laws.ShareLaws.told_begins,
+  laws.{ChunkLaws.map_same, ShareLaws.told_begins},
   inner.Sharing.{file_at, files_by, part_by, all_open, only_at, StandAt, KeepsFiles, IsOfFiles, Adds, Leaves, Grow},
   inner.Sharing.{Halts, closed_first, Opens, HaveClosed, ClosesAll, with_opened},
   Sharing.CannotOpen,
@@ -55,18 +55,12 @@ named_before names place more is less = search rules
 
 -- Files by their places
 
-pub same_by : {X : Type 0} (f g : ℕ → X) (start n : ℕ) → ((i : ℕ) → start ≤ i → i < start + n → f i ≡ g i)
-    → map f (range_with_len start n) ≡ map g (range_with_len start n)
-same_by f g start zero same = refl
-same_by f g start (suc n) same =
-    cc (same start (omega arith) (omega arith), same_by f g (start + 1) n (λ i from to. same i (omega arith) (omega arith)))
-
 changed_by : {X : Type 0} (change : X → X) (f g : ℕ → X) (start n place : ℕ) {at : ℕ} → start + place ≡ at
     → place < n
     → ((i : ℕ) → (i ≡ at → ⊥) → f i ≡ g i) → change (f at) ≡ g at
     → changed_at place change (map f (range_with_len start n)) ≡ map g (range_with_len start n)
 changed_by change f g start zero place is within other here = absurd (omega arith)
-changed_by change f g start (suc n) zero is within other here = search (rules, same_by)
+changed_by change f g start (suc n) zero is within other here = search (rules, map_same)
 changed_by change f g start (suc n) (suc place) is within other here =
     cc (other start (λ same. omega arith), changed_by change f g (start + 1) n place (omega arith) (omega arith) other here)
 
@@ -194,10 +188,10 @@ halts_at {filing = filing} {part} {some} {place = place} {why} {reached} {now} D
         place = place;
         order = record {
           done = take-map-range_with_len _ 0 some place inside
-              ∙ same_by _ _ 0 place (λ i past low. ap (file_at filing i) (back.same i (inl (omega arith))))
+              ∙ map_same _ _ 0 place (λ i past low. ap (file_at filing i) (back.same i (inl (omega arith))))
               ∙ sym (take-map-range_with_len _ 0 most place (omega arith));
           untouched = rw (drop_by _ (suc place) 0 some (zero-add _), drop_by _ (suc place) 0 fewest (zero-add _), left)
-              (same_by _ _ _ _ (λ i past more. ap (file_at filing i) (sym (front.same i (inr (omega arith))))));
+              (map_same _ _ _ _ (λ i past more. ap (file_at filing i) (sym (front.same i (inr (omega arith))))));
         };
         lines = lines_in filing.verbose _ at _ place bytes why above.files refl
             (due_by Due _ _ bytes why (λ name is. next_due filing part last back.more (due name is)) line);
@@ -314,9 +308,7 @@ owned_same size first owns = grind (arith, owns)
 
 ready_opened : {files : FilesState} {old new : List Slot} (name : List ℕ) → AreReady files old
     → new ≡ old ++ opened name Fresh ∷ [] → AreReady (with_opened (length old) files) new
-ready_opened {files} {old} {new} name ready is =
-    let can : CanTell files.tells new = can_tell _ _ _ (writable_before _ _ 0 _ (let two = ready.streams in omega arith) is) ready.output in
-    grind (arith, elements, get_or_append_left, writable_within, opened_writable)
+ready_opened {files} {old} {new} name ready is = search (rules, can_tell, writable_before, elements, get_or_append_left, writable_within, opened_writable)
 
 -- The file could not be opened: then a name was drawn for it, or no output was added; and standard output can break only if it gets lines
 -- about files.
@@ -326,13 +318,8 @@ fails_caused : {told : Bool} {files : FilesState} {next : Names} {old new : List
     → ((length new ≡ length old) ⊎ (next.drawn ≡ files.names.drawn + 1))
     × CannotOpen (is_verbose files.tells) old new why × IsOfFiles (is_verbose files.tells) old new why
 fails_caused ready has (no_memory same) breaks = (inl (ap length same), inl refl, tt)
-fails_caused ready has (no_line n few some cut) breaks = let broke = rw ready.tells at breaks in (
-  inl (short_size _ 0 _ _ _ _ (short.broke n cut)),
-  inr (inl (grind (arith, common_steps, broke.0 refl), refl, broke.1)),
-  broke,
-)
-fails_caused ready has (no_file slot kept reason at few some drew is made) breaks =
-    (inr (ap (λ (those : Names). those.drawn) drew), inr (inr (slot, refl, breaks)), breaks)
+fails_caused ready has (no_line n few some cut) breaks = grind (arith, common_steps, short_size, common_steps)
+fails_caused ready has (no_file slot kept reason at few some drew is made) breaks = grind (arith, common_steps)
 fails_caused ready has (no_number few some same) breaks = (inl (written_size 0 _ _ _ same), inl refl, tt)
 fails_caused ready has (no_name few none same) breaks = absurd (cc)
 
@@ -411,11 +398,7 @@ changed_files : (filing : Filing) (makes : File → File) (low high : ℕ → Sh
     → makes (file_at filing place (low place)) ≡ file_at filing place (high place)
     → record { out = (part_by filing low n).out; files = changed_at place makes (files_by filing low n) }
     ≡ part_by filing high n
-changed_files filing makes low high {n} {place} within other here =
-    let file : (ℕ → Share) → ℕ → File = λ those i. file_at filing i (those i) in cc (
-      told_same filing.verbose (file low) (file high) (λ i. refl) 0 n,
-      changed_by makes (file low) (file high) 0 n place (zero-add place) within (λ i differs. cc (other i differs)) here,
-    )
+changed_files filing makes low high {n} {place} within other here = grind (arith, common_steps, told_same, changed_by)
 
 writes : {told : Bool} {files : FilesState} {before : List Slot} {had has : ℕ → List ℕ} {old new : List Slot}
     {place : ℕ} (bytes : List ℕ) → place < length files.outputs
@@ -499,9 +482,7 @@ module _ (told : Bool) {files : FilesState} {place : ℕ} {old now : List Slot} 
 
   pub one_closed : {new : List Slot} → new ≡ changed_at (output_at files place) closes now
       → Closing told files (place + 1) old new
-  one_closed {new} is = let can : CanTell files.tells new = can_tell _ now _ (λ can. writable_elsewhere now new 0 (output_at files place) closes
-      (λ none. omega (arith, (so_far.left place (omega arith) within).0)) is can) so_far.output in
-      search (rules, length-changed_at, writable_elsewhere, closes_next, keeps_again, keeps_close)
+  one_closed {new} is = grind (arith, common_steps, can_tell, writable_elsewhere, length-changed_at, closes_next, keeps_again, keeps_close)
 
   pub not_closed : {new : List Slot} {slot : ℕ} {why : Fault} → slot ≡ output_at files place
       → (why ≡ fault.Write slot) × SlotBreaks slot (changed_at slot closes now) new

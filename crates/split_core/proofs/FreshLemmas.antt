@@ -1,26 +1,15 @@
 -- Lemmas on chunks of an input of which no byte came in yet.
+use Rattle.std.proofs.lemmas.Grind.{common_steps}
 use Rattle.std.proofs.Common.{rules}
 use Rattle.std.proofs.{
   Common.{◌≡◌, ℕ, ◌<◌, Bool, true, false, List, [], Option, Some, None, IfSome, refl, sym, ◌∙◌, ap, subst, arith},
   Common.{inl, zero, suc, max},
   Math.Seq.{drop-nil, take-nil},
 }
-use Rattle.seg_core.specs.declared.{cut.Chunks.Chunks, unit.Unit.{Unit as Counted, TheVariants.{Bytes, Lines}}}
+use Rattle.seg_core.specs.declared.{cut.Chunks.Chunks}
 use Rattle.ports_core.{specs.{Draft.draft_part, Part.nothing}, proofs.ShareLemmas.nothing_part}
-use Rattle.split_core.specs.{
-  ChunkWork.{draft_by, piece_at},
-  Split.{Filing, manner_of},
-  Parts.uncut,
-  Chunks.{chunks_within, decided, is_within},
-  ChunkerState.{Carries, Course, CutterState, HasAll, HasCut, HoldsBy, SinkState, can_cut, course_of, in_files},
-  ChunkerState.{in_output, work_on},
-  laws.BegunLaws.begun_of_none,
-}
+use Rattle.split_core.specs.{ChunkWork.{draft_by, piece_at}, Split.{Filing, manner_of}, Parts.uncut, Chunks.{chunks_within, decided}, ChunkerState.{Carries, Course, CutterState, HasAll, HasCut, HoldsBy, SinkState, can_cut, course_of, in_files}, ChunkerState.{in_output, work_on}, laws.BegunLaws.begun_of_none}
 use Rattle.split_core.proofs.{UnsaidLemmas.none_within, CutterLemmas.some_of}
-
-none_so : (unit : Counted) (delim : ℕ) → is_within unit delim [] ≡ false
-none_so Bytes delim = refl
-none_so Lines delim = refl
 
 module _ (chunks : Chunks) (sink : SinkState) (can : can_cut (course_of sink.aim) chunks.count ≡ true)
     (all : HasAll (course_of sink.aim) chunks.count) (fresh : Carries sink (uncut [])) where
@@ -28,16 +17,12 @@ module _ (chunks : Chunks) (sink : SinkState) (can : can_cut (course_of sink.aim
   cutter = record { chunks = chunks; at = 0; is_within = false; sink = sink }
 
   has_none : HasCut cutter [] (uncut [])
-  has_none = record { can = can; all = all; at = refl; within = sym (none_so _ _); carries = fresh }
+  has_none = grind (arith, common_steps)
 
   -- no byte came in
   pub holds_none : (said : Option ℕ) (waiting : List ℕ) → waiting ≡ [] → IfSome said (λ size. 0 < size)
       → HoldsBy said (record { said = said; cutter = cutter; waiting = waiting; spare = 0 }) []
-  holds_none None waiting none long = record {
-    cut = rw (begun_of_none _ _) has_none;
-    waits = none ∙ sym (drop-nil _);
-    spare = refl;
-  }
+  holds_none None waiting none long = grind (arith, common_steps, begun_of_none, has_none, drop-nil)
   holds_none (Some size) waiting none long = record {
     spare = record { used = []; rest = []; joined = refl; long = refl; needed = inl refl; enough = inl refl };
     within = omega arith;

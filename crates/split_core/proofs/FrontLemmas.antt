@@ -1,4 +1,5 @@
 -- Lemmas on what is passed over before the one chunk that is written.
+use Rattle.std.proofs.lemmas.Grind.{common_steps}
 use Rattle.std.proofs.{
   Common.{◌≡◌, ℕ, ◌+◌, ◌-◌, ◌<◌, ◌≤◌, nat_lt, zero, suc, Bool, true, false, List, [], length, replicate, Some, inl},
   Common.{inr, refl, sym, ◌∙◌, ap, subst, arith},
@@ -9,25 +10,7 @@ use Rattle.std.proofs.{
 }
 use Rattle.ports_core.specs.{Engine.TookIn, Part.{only_out, nothing}, Work.Work}
 use Rattle.seg_core.specs.{Line.delimiters, declared.{cut.Chunks.Chunks, unit.Unit.TheVariants.{Bytes, Lines}}}
-use Rattle.split_core.{
-  specs.Alike.{AreAlike, as_if},
-  specs.Chunks.{chunk_at, chunk_start, chunks_within, ended, is_within, open_from, passed},
-  specs.ChunkWork.{chunk_work, piece_at},
-  specs.ChunkerState.{CanHave, ChunkerState, HasCut, Holds, HoldsBy, IsSaid, course, course_of, can_cut, in_output},
-  specs.ChunkerState.{to_output, work, work_on},
-  specs.inner.Chunker.{TakesFront, passed_to},
-  specs.laws.{
-    BegunLaws.{begun_long, open_from_none},
-    ChunkLaws.{ended_only, passed_open, start_first, start_grows, start_within},
-  },
-  proofs.{
-    AlikeLemmas.{same_alike, took_as},
-    ChunkAlikeLemmas.{alike_before, goes_on},
-    ChunkerLemmas.is_said,
-    FreshLemmas.settled_none,
-    UnsaidLemmas.{past_pieces, start_some},
-  },
-}
+use Rattle.split_core.{specs.Alike.{AreAlike, as_if}, specs.Chunks.{chunk_start, chunks_within, ended, is_within, open_from, passed}, specs.ChunkWork.{chunk_work, piece_at}, specs.ChunkerState.{ChunkerState, HasCut, Holds, HoldsBy, IsSaid, course, course_of, in_output}, specs.ChunkerState.{to_output, work, work_on}, specs.inner.Chunker.{TakesFront, passed_to}, specs.laws.{BegunLaws.{begun_long, open_from_none}, ChunkLaws.{ended_only, passed_open, start_first}}, proofs.{AlikeLemmas.{same_alike, took_as}, ChunkAlikeLemmas.{alike_before, goes_on}, ChunkerLemmas.is_said, FreshLemmas.settled_none, UnsaidLemmas.{past_pieces, start_some}}}
 use Rattle.split_core.specs.Ways as ways
 use Rattle.split_core.specs.declared.splitter.Splitter.TheVariants as way
 
@@ -58,23 +41,23 @@ module _ {chunker : ChunkerState} {size chunk : ℕ} (asks : AsksFor chunker siz
   none = is_said asks.said asks.fresh
 
   can : nat_lt chunk chunks.count ≡ true
-  can = sym (ap (λ on. can_cut on chunks.count) course_is) ∙ none.cut.can
+  can = grind (arith, common_steps)
 
   less : chunk < chunks.count
   less = ltb-true _ _ can
 
   it : work chunker ≡ chunk_work chunk chunks (Some size)
-  it = ap (λ on. work_on on chunks chunker.said) course_is ∙ ap (chunk_work chunk chunks) asks.said
+  it = grind (arith, common_steps, course_is)
 
   spare_none : chunker.spare ≡ 0
   spare_none = omega
       (arith, none.spare.long, ap length none.spare.joined ∙ length-append none.spare.used none.spare.rest)
 
   ends_in : start (chunk + 1) ≤ size
-  ends_in = start_within chunks.count size (chunk + 1) (omega (arith, less)) (omega (arith, less))
+  ends_in = grind (arith, common_steps)
 
   later : start chunk ≤ start (chunk + 1)
-  later = start_grows chunks.count size chunk (chunk + 1) (omega arith)
+  later = grind (arith, common_steps)
 
   fits : {place : ℕ} {within : Bool} {z : List ℕ} → Begins chunks size chunk place within z → length z < size
   fits begins = omega (arith, begins.some, ends_in)
@@ -89,16 +72,7 @@ module _ {chunker : ChunkerState} {size chunk : ℕ} (asks : AsksFor chunker siz
 
   has_cut : {place : ℕ} {within : Bool} {z : List ℕ} → Begins chunks size chunk place within z
       → HasCut (passed_to chunker (length z) place within).cutter z (chunks_within chunks size z)
-  has_cut {z = z} begins = record {
-    can = none.cut.can;
-    all = none.cut.all;
-    at = refl;
-    within = begins.so;
-    carries = record {
-      placed = length-map-range_with_len (chunk_at chunks size z) 0 (ended chunks size z) ∙ begins.placed;
-      has = subst (λ aim. CanHave aim (chunks_within chunks size z)) (sym asks.aim) tt;
-    };
-  }
+  has_cut {z = z} begins = grind (arith, common_steps, can, none, length-map-range_with_len)
 
   holds_front : {place : ℕ} {within : Bool} {z : List ℕ} → Begins chunks size chunk place within z
       → Holds (passed_to chunker (length z) place within) z

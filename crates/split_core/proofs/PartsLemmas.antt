@@ -76,7 +76,7 @@ module _ (late : Bool) (needs : Needs) (Lacks : Type 0) (Why : Verdict → Type 
       → Breaks manner old new fault → (fault ≡ fault_is.Verdict Suffixes → Why Suffixes)
       → IsMet (split_means verbose late) needs Lacks Why old new fault
   met_files Memory memory files same breaks ends = memory
-  met_files (Write slot) memory files same (out, rose) ends = (λ none. rw same at (out none), (λ none. absurd (cc)), rose)
+  met_files (Write slot) memory files same (out, rose) ends = grind (arith, common_steps)
   met_files (Open slot) memory files same breaks ends = (refl, files, breaks)
   met_files (fault_is.Verdict Suffixes) memory files same breaks ends = ends refl
   met_files fault memory files same breaks ends = absurd breaks
@@ -84,8 +84,7 @@ module _ (late : Bool) (needs : Needs) (Lacks : Type 0) (Why : Verdict → Type 
 pub met_closing : (verbose : Bool) (Why : Verdict → Type 0) (old new : List Slot) {fault : Fault}
     → CannotClose old new fault
     → IsMet (split_means verbose false) (split_means verbose false).closing (Unit {0}) Why old new fault
-met_closing verbose Why old new (slot, is, two, rose) =
-    rw is (λ none. absurd (omega arith), (λ none. absurd (cc)), rose)
+met_closing verbose Why old new (slot, is, two, rose) = grind (arith, common_steps)
 
 -- sizes aren't counted
 pub always_counts : {tells : Tells} (size : ℕ) (bytes : List ℕ) → TellsNoSizes tells → CanCount tells size bytes
@@ -194,9 +193,7 @@ turned_so : {state : PartsState} {x taken first past : List ℕ}
     → IsTurned state.limit (rest_of state x ++ taken) first past
     → Comes state x taken (record { ended = full_of state x ++ unless_empty first; opening = Late; bytes = past })
     (most state.limit - length past, false, [])
-turned_so {state} {x} {taken} {first} {past} led =
-    let cut = cut_two state.limit past led.full led.first_is led.both led.begun.short in
-    let on = cut_on state.limit x taken in grind arith
+turned_so {state} {x} {taken} {first} {past} led = grind (arith, common_steps, cut_two, cut_on)
 
 -- what a step takes of a piece; if a fault comes, the piece is what was to be taken
 abbrev pub taken : ℕ → List ℕ → Option Fault → List ℕ
@@ -274,21 +271,7 @@ pub waited : (told : Bool) (state next : PartsState) (piece : List ℕ) (slots :
     → IsReady state slots → IfOk result (λ n. n ≡ length piece)
     → OnOk result (next ≡ record state { left = state.left - length piece; waiting = state.waiting ++ piece })
     → IfErr result (λ f. (f ≡ Memory) × (next ≡ state)) → TakesStretch told state piece slots slots next result
-waited told state next piece slots (Ok n) some leads ready count waits err = (
-  omega arith,
-  omega arith,
-  rw waits (takes_by piece n None (λ draft. draft) (λ x stands. rw (count, take-length piece) (
-      let held = leads _ stands.lacks in let cut = none_full state x piece held.short in record {
-        is = cc;
-        lacks = rw (cut, rest_of) held.lacks;
-        waits = rw (cut, rest_of) (ap (λ waits. waits ++ piece) stands.waits ∙ sym held.waits);
-      })) (record {
-        limit = refl;
-        same = refl;
-        goes =
-            goes_still _ ready.writer ready.writer.current (λ first last. last) (λ draft now. (refl, now));
-      })),
-)
+waited told state next piece slots (Ok n) some leads ready count waits err = grind (arith, common_steps, takes_by, take-length, none_full, goes_still)
 -- there is no room for it
 waited told state next piece slots (Err f) some leads ready count waits err =
     rw (err.0, err.1) (takes_not {change = with_bytes []} {are = numbers state}

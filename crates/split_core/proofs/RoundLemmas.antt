@@ -1,12 +1,5 @@
 -- Lemmas on dealing lines in turn, as a stage, and on what waits in the engine in each of its two ways to cut.
-use Rattle.std.proofs.{
-  Common.{◌⊎◌, inl, inr, ◌≡◌, ℕ, ◌+◌, ◌%◌, ◌<◌, ◌≤◌, zero, suc, max, Bool, true, false, cond, List, [], ◌∷◌},
-  Common.{◌++◌, length, map, get_or, Some, None, refl, sym, ◌∙◌, ap, arith, Ok, Err, OnOk, Result, rules},
-  Math.{Nat.{mod-add-mod, mod-eq_of_lt, mod-mod, mod-le}, Path.fun_ext, Seq.drop-length},
-  lemmas.Bool.{cases_lt, Decides.nat_tests},
-  lemmas.List.{append-nil, length-map, get_or_past, FromFn.{length-map-range_with_len, get_or-map-range_with_len}},
-  lemmas.Grind.common_steps,
-}
+use Rattle.std.proofs.{Common.{◌⊎◌, inl, inr, ◌≡◌, ℕ, ◌+◌, ◌%◌, ◌<◌, ◌≤◌, zero, suc, max, Bool, true, false, cond, List, [], ◌∷◌}, Common.{◌++◌, length, map, get_or, refl, sym, ◌∙◌, ap, arith, Ok, Err, OnOk, Result, rules}, Math.{Nat.{mod-add-mod, mod-eq_of_lt, mod-mod, mod-le}, Path.fun_ext, Seq.drop-length}, lemmas.Bool.{cases_lt, Decides.nat_tests}, lemmas.List.{append-nil, length-map, get_or_past, FromFn.{length-map-range_with_len, get_or-map-range_with_len}}, lemmas.Grind.common_steps}
 use Rattle.std.specs.List.{filter, range_with_len}
 use Rattle.seg_core.{
   specs.Line.{joined, delimiters},
@@ -27,7 +20,7 @@ use Rattle.ports_core.specs.{
 use Rattle.ports_core.proofs.{SpareLemmas.none_spare, PartLemmas.outputs_count, ShareLemmas.nothing_part}
 use Rattle.split_core.specs.{
   Alike.as_if,
-  laws.{WorkLaws.lawful, DealLaws.{dealt_append, dealt_none, dealt_files_are, share_none}},
+  laws.{ChunkLaws.map_same, WorkLaws.lawful, DealLaws.{dealt_append, dealt_none, dealt_files_are, share_none}},
   Parts.round_robin,
   inner.CutLaws.named,
   inner.Dealt.{dealt_first, reached_by, share_of},
@@ -42,14 +35,7 @@ use Rattle.split_core.specs.{
   ChunkerState.ChunkerState,
   PartsState.{PartsState, Stands},
 }
-use Rattle.split_core.proofs.{
-  AlikeLemmas.{complete_as, verdict_as, waiting_as},
-  AgreedLemmas.{each_named, shared_bytes, waiting_is},
-  CutLaws.{dealt_same, dealt_past},
-  FilesLemmas.{same_by, grow_same, named_before},
-  SectionLemmas.all_dealt,
-  ChunkerWays.{chunks_wait, no_suffixes, open_beside},
-}
+use Rattle.split_core.proofs.{AlikeLemmas.{complete_as, verdict_as, waiting_as}, AgreedLemmas.{each_named, shared_bytes, waiting_is}, CutLaws.{dealt_same, dealt_past}, FilesLemmas.{grow_same}, SectionLemmas.all_dealt, ChunkerWays.{chunks_wait, no_suffixes, open_beside}}
 use Rattle.split_core.specs.Ways as ways
 use Rattle.split_core.specs.declared.splitter.Splitter.TheVariants as way
 use Rattle.split_core.proofs.PartsLemmas as part
@@ -61,12 +47,12 @@ use Rattle.split_core.specs.PartsState as parts_state
 pub named_at : (names : Naming) (count place : ℕ) → are_named names count ≡ true → place < count
     → has_name names place ≡ true
 named_at names zero place are within = absurd (omega arith)
-named_at names (suc last) place are within = named_before names place last are (omega arith)
+named_at names (suc last) place are within = grind (arith, common_steps)
 
 pub named_fewer : (names : Naming) (few count : ℕ) → are_named names count ≡ true → few ≤ count
     → are_named names few ≡ true
 named_fewer names zero count are within = refl
-named_fewer names (suc last) count are within = named_at names count last are (omega arith)
+named_fewer names (suc last) count are within = grind (arith, common_steps)
 
 all_by : (filing : Filing) (n start count : ℕ) (state : State) (f : ℕ → List ℕ) → are_named filing.names n ≡ true
     → start + count ≤ n
@@ -85,7 +71,7 @@ module _ (delim : ℕ) (filing : Filing) (elide : Bool) (n : ℕ) (x : List ℕ)
   filed_are : (state : State) {count : ℕ} → count ≡ opened_by delim elide n x
       → part_by filing (λ i. share state (share_of delim n x i)) count
       ≡ part_of (manner_of filing) (map (share state) (dealt_files delim elide n x))
-  filed_are state is = ap (part_with (output_by filing.verbose)) (grind (arith, common_steps, dealt_files_are, all_by))
+  filed_are state is = search (rules, common_steps, dealt_files_are, all_by)
 
   all_have : are_named filing.names (length (dealt_files delim elide n x)) ≡ true
   all_have = grind (arith, common_steps, named_fewer, dealt_files_are, length-map-range_with_len)
@@ -131,7 +117,7 @@ share_after delim n x y some i =
 stands_is : {round : RoundState} {x : List ℕ} → Holds round x → (y : List ℕ) {count : ℕ}
     → count ≡ opened_by round.delim round.elide round.count y
     → part_by (filing_in round.files) (all_open (share_of round.delim round.count y)) count ≡ (work round).settled y
-stands_is {round} holds y is = filed_are round.delim (filing_in round.files) round.elide round.count y holds.named Open is
+stands_is {round} holds y is = search (rules, filed_are)
 
 stand_at : {told : Bool} {round : RoundState} {before : List Slot} {x : List ℕ} {now : List Slot}
     → StandsAt ways.terms (way.Round round) told before x now
@@ -188,7 +174,7 @@ closed_part : {round : RoundState} {x : List ℕ} → Holds round x
 closed_part {round} {x} holds =
     let n = length round.files.outputs in let has = share_of round.delim round.count x in let filing = filing_in round.files in
     ap (part_with (output_by filing.verbose))
-    (same_by (λ i. file_at filing i (closed_first n has i)) (λ i. file_at filing i (share Closed (has i))) 0 n
+    (map_same (λ i. file_at filing i (closed_first n has i)) (λ i. file_at filing i (share Closed (has i))) 0 n
     (λ i low high. grind (arith, nat_tests)))
     ∙ filed_are round.delim filing round.elide round.count x holds.named Closed holds.opened
 
@@ -217,11 +203,7 @@ no_files names tells = record { names = record { naming = names; drawn = 0 }; te
 
 starts_at : {told : Bool} (names : Naming) (tells : Tells) {before slots : List Slot}
     → OutputsAt told before nothing slots → StandAt told (no_files names tells) before (λ i. []) slots
-starts_at names tells at = record {
-  owns = grind (arith, outputs_count _ _ _ _ at);
-  outputs = rw (← nothing_part (output_by (is_verbose tells))) at at;
-  none = λ i past. refl;
-}
+starts_at names tells at = search (rules, outputs_count, nothing_part)
 
 -- no line has come in yet
 starts_with : (delim : ℕ) (elide : Bool) (n : ℕ) {count : ℕ} → count ≡ cond elide 0 n
@@ -247,10 +229,7 @@ module _ {told : Bool} (names : Naming) (tells : Tells) (delim : ℕ) (elide : B
 -- if all files have names, the work is what was asked for
 pub does_all : (delim : ℕ) (filing others : Filing) (elide : Bool) (n : ℕ) → are_named filing.names n ≡ true
     → others ≡ filing → round_work (round_plan delim n elide others) ≡ split_work (round_plan delim n elide filing)
-does_all delim filing others elide n are same = rw same (ap (λ (short : List ℕ → Bool). record (split_work (round_plan delim n elide filing)) {
-  is_complete = short;
-  verdict = λ x. cond (short x) (Some Suffixes) None;
-}) (fun_ext (λ x. not_short delim filing elide n x are)))
+does_all delim filing others elide n are same = grind (arith, common_steps, fun_ext, not_short)
 
 -- nothing waits
 
@@ -319,10 +298,8 @@ spares_none most (way.Parts parts) other x piece after n holds going within same
       none_spare _ (x ++ piece) n (lawful (way.Parts parts) _ holds.holds)
           (open_after _ (parts_state.filing_of parts).verbose refl after (x ++ piece) same later) spare,
     )
-spares_none most (way.Round round) other x piece after n holds going within same later spare =
-    omega (arith, none_spare _ (x ++ piece) n (lawful (way.Round round) _ holds.holds) refl spare)
-spares_none most (way.Turn turn) other x piece after n holds going within same later spare =
-    omega (arith, none_spare _ (x ++ piece) n (lawful (way.Turn turn) _ holds.holds) refl spare)
+spares_none most (way.Round round) other x piece after n holds going within same later spare = grind (arith, common_steps, none_spare, lawful)
+spares_none most (way.Turn turn) other x piece after n holds going within same later spare = grind (arith, common_steps, none_spare, lawful)
 spares_none most (way.Chunks state) other x piece after n holds going within same later spare = absurd (other state refl)
 
 held_of : (splitter : Splitter) (x : List ℕ) → ways.Holds splitter x

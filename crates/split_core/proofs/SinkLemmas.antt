@@ -6,39 +6,14 @@ use Rattle.std.proofs.{
   Common.{◌≡◌, ℕ, ◌+◌, ◌≤◌, zero, suc, Bool, true, false, List, [], ◌∷◌, ◌++◌, length, get_or, cond, eqb, Option},
   Common.{Some, None, Result, Ok, Err, IfSome, IfNone, IfErr, IsTrue, inl, refl, sym, ◌∙◌, ap, subst, arith},
 }
-use Rattle.ports_core.specs.{
-  Draft.{Draft, Manner, draft_part, made_of, manner_by, output_of, with_bytes, with_next},
-  FileWriter.{At, Goes, IsCurrent, IsReady, IsWrite, KeepsOrBreaks, Leaves, Writes, WriterState, is_file},
-  Part.{Begins, File as PartFile, FilesBegin, Output, OutputsAt, Part, gets_bytes, only_out},
-  Slot.{Slot, is_writable},
-  Write.BrokeAfter,
-  inner.Write.Wrote,
-  InTurn.{IsThere, StoppedInTurn, fault_in},
-  declared.fault.Fault.{Fault, TheVariants.{Verdict, Write}},
-  declared.verdict.Verdict.TheVariants.Suffixes,
-  declared.file_writer.{
-    Current.{Current, TheVariants.{Skipped, Due, File, Unopened}},
-    Opening.{Opening, TheVariants.{Late, AtOnce, Never}},
-    Tells.Tells,
-  },
-}
+use Rattle.ports_core.specs.{Draft.{Draft, Manner, draft_part, made_of, with_bytes, with_next}, FileWriter.{At, Goes, IsCurrent, IsReady, IsWrite, KeepsOrBreaks, Leaves, Writes, WriterState, is_file}, Part.{Begins, File as PartFile, FilesBegin, Output, OutputsAt, Part, gets_bytes, only_out}, Slot.{Slot, is_writable}, Write.BrokeAfter, inner.Write.Wrote, InTurn.{IsThere, StoppedInTurn, fault_in}, declared.fault.Fault.{Fault, TheVariants.{Verdict, Write}}, declared.verdict.Verdict.TheVariants.Suffixes, declared.file_writer.{Current.{Current, TheVariants.{Skipped, Due, File, Unopened}}, Opening.{Opening, TheVariants.{Late, AtOnce, Never}}, Tells.Tells}}
 use Rattle.ports_core.proofs.{
   FileWriterLemmas.{in_any, leaves_again, reaches_again, reaches_as, stops_wider, where_well, where_short},
   PartLemmas.{out_begins, out_cut, out_more, part_begins_itself, part_trans, turn_between},
   PartSteps.there_from,
   ShareLemmas.{bytes_begin, next_begins},
 }
-use Rattle.split_core.specs.{
-  ChunkWork.{draft_by, kept},
-  Chunks.pieces_in,
-  ChunkerState.{AimState, Course, IsAimed, SinkState, course_of, filing_by, in_files, in_output, to_files, part_on},
-  ChunkerState.{to_output, whole_on},
-  Parts.CutUp,
-  Split.{Filing, TellsNoSizes, manner_of},
-  inner.Brings.{AtAim, Brings, Changes, EndsAll, Files, Gives, CarriesOn, IsOf, Stays, begun_by, empties_by, ends_by},
-  inner.Brings.{manner_on, output_on, with_full, with_rest},
-  laws.ChunkWorkLaws.length-kept,
-}
+use Rattle.split_core.specs.{ChunkWork.{draft_by, kept}, Chunks.pieces_in, ChunkerState.{AimState, Course, IsAimed, course_of, filing_by, in_files, in_output, to_files, part_on}, ChunkerState.{to_output, whole_on}, Parts.CutUp, Split.{Filing, TellsNoSizes, manner_of}, inner.Brings.{AtAim, Brings, Changes, EndsAll, Files, CarriesOn, IsOf, Stays, begun_by, empties_by, ends_by}, inner.Brings.{manner_on, with_full, with_rest}, laws.ChunkWorkLaws.length-kept}
 use Rattle.split_core.proofs.FilesLemmas.{named_before}
 use Rattle.ports_core.specs.inner.Write as short
 
@@ -159,14 +134,7 @@ module _ {told : Bool} {writer next : WriterState} {elide : Bool} {change : Draf
     (fault : Option Fault) (ready : IsReady writer old × TellsNoSizes writer.tells)
     (files : Files told writer change old new next fault) where
   stays_files : Stays (in_files (filing_by writer) elide) (to_files writer elide) (to_files next elide) old new fault
-  stays_files = record {
-    course = ap (λ filing. in_files filing elide) (filing_same _ _ files.leaves);
-    owns = files.leaves.owns.owns;
-    slots = slots_as _ _ _ (ap (λ tells. manner_by writer.names.naming (output_of tells)) ready.1) files.leaves.slots;
-    only = of_files (filing_by writer) elide fault;
-    output = files.leaves.output;
-    ready = where_well fault files.leaves.ready (λ can. (can, subst TellsNoSizes (sym files.leaves.tells) ready.1));
-  }
+  stays_files = grind (arith, common_steps, filing_same, slots_as, of_files, where_well)
 
   brings_files : (cut : CutUp) {high : Part} → Writes (manner_of (filing_by writer)) writer (draft_by elide cut)
       → draft_part (manner_of (filing_by writer)) (change (draft_by elide cut)) ≡ high
@@ -174,12 +142,7 @@ module _ {told : Bool} {writer next : WriterState} {elide : Bool} {change : Draf
       → IfSome fault (λ why. why ≡ Verdict Suffixes → ⊥)
       → Brings told (in_files (filing_by writer) elide) (to_files writer elide) (to_files next elide)
       (part_on (in_files (filing_by writer) elide) cut) high old new fault
-  brings_files cut has is begins named = record {
-    named = named;
-    begins = subst (Begins _) is (begins (manner_of (filing_by writer)) (draft_by elide cut));
-    reaches = λ before at. at_aim _ _ _ _ _ _ _ _ is
-        ((files.reaches (manner_of (filing_by writer)) (draft_by elide cut) has).there before (record { owns = at.owns; outputs = at.outputs }));
-  }
+  brings_files cut has is begins named = search (rules, at_aim)
 
   -- all chunks have names
   has_names : (place : ℕ) (cut : CutUp) → CarriesOn (record { place = place; aim = to_files writer elide }) cut
@@ -365,28 +328,12 @@ slots_again on old mid new (Some why) first second = grind (arith, common_steps)
 module _ {on : Course} {old mid new : List Slot} {fault : Option Fault} where
   pub stays_then : {one two three : AimState} → Stays on one two old mid None → Stays on two three mid new fault
       → Stays on one three old new fault
-  stays_then first second = record {
-    course = second.course;
-    owns = λ place owns. second.owns place (first.owns place owns);
-    slots = slots_again _ _ _ _ _ first.slots second.slots;
-    only = second.only;
-    output = where_well fault second.output (λ more can. more (first.output can));
-    ready = second.ready;
-  }
+  stays_then first second = grind (arith, common_steps, slots_again, where_well)
 
   pub brings_then : {told : Bool} {one two three : AimState} {low middle high : Part}
       → Brings told on one two low middle old mid None → Brings told on two three middle high mid new fault
       → Brings told on one three low high old new fault
-  brings_then {told} first second = record {
-    named = second.named;
-    begins = part_trans _ _ _ first.begins second.begins;
-    reaches = λ before at. there_from (output_on on) told _ before _ new fault first.begins (second.reaches before (first.reaches before at));
-  }
-
-  pub gives_then : {told : Bool} {one two three : SinkState} {low middle high : CutUp}
-      → Gives told on one two low middle old mid None → Gives told on two three middle high mid new fault
-      → Gives told on one three low high old new fault
-  gives_then first second = record { brings = brings_then first.brings second.brings; carries = second.carries }
+  brings_then {told} first second = grind (arith, common_steps, part_trans, there_from)
 
 -- a call that was stopped was stopped on its way to more
 pub brings_wider : {told : Bool} {on : Course} {aim next : AimState} {low middle high : Part} {old new : List Slot}

@@ -1,53 +1,16 @@
 -- Chunks of an input that doesn't show its length.
 use Rattle.std.proofs.Common.{rules}
 use Rattle.std.proofs.lemmas.Grind.{common_steps}
-use Rattle.std.specs.{Option.is_none, List.range_with_len}
-use Rattle.std.proofs.{
-  lemmas.Bool.{cases_lt, false≢true, ltb-false, ltb-true, or_cases, or_parts},
-  lemmas.List.{append-nil, get_or_past, drop_at, take_all, take-append-drop, length-append, length-drop, length-take},
-  lemmas.List.nil_from_length,
-  lemmas.List.FromFn.{get_or-map-range_with_len, length-map-range_with_len, map-range_with_len_more},
-  Common.{◌≡◌, ℕ, ◌+◌, ◌-◌, ◌<◌, ◌≤◌, max, min, zero, suc, Bool, true, false, ◌||◌, nat_lt, List, [], ◌∷◌},
-  Common.{◌++◌, ◌⊎◌, IfNone, length, map, take, drop, replicate, get_or, Option, Some, None, Result, Ok, Err, inl},
-  Common.{inr, refl, sym, ◌∙◌, ap, arith, append_assoc},
-  Math.Seq.{drop-append-add, drop-nil},
-}
-use Rattle.ports_core.{
-  specs.{
-    Part.{Begins, IsBeginning},
-    Slot.Slot,
-    declared.{fault.Fault.Fault, file_writer.Opening.TheVariants.Never},
-    InTurn.fault_in,
-  },
-  proofs.{
-    PartLemmas.{part_begins_itself, part_trans},
-    ShareLemmas.next_begins,
-    FileWriterLemmas.{in_any, where_well},
-  },
-}
-use Rattle.seg_core.specs.declared.{cut.Chunks.Chunks, unit.Unit.Unit as Counted}
-use Rattle.split_core.specs.{
-  Chunks.{before_chunk, pieces_in, begun_before, chunk_at, chunk_start, chunks_within, ended, is_within, open_from},
-  Parts.{CutUp, uncut},
-  ChunkerState.{AimState, Carries, ChunkerState, Course, course_of, to_files, to_output, CutterState, Holds, IsAimed},
-  ChunkerState.{IsUnsaid, SinkState, can_cut, course, first_on, in_files, in_output, part_on, whole_on, work},
-  ChunkerState.work_on,
-  Split.manner_of,
-  ChunkWork.draft_by,
-  inner.Chunker.{EndsAs, PassesAs},
-  inner.Cutter.{BeginsBefore, CutsMore, CutsAs, EndsFull, EndsHeld, IsCut, IsCutOff, IsFront, Settles, WritesTo},
-  inner.Cutter.{all_before, cut_to},
-  inner.Brings.{Brings, Changes, EndsAll, Gives, Stays, with_fulls, with_rest},
-  laws.ChunkLaws.{chunk_none, cut_all, ended_all, passed_open, ended_only, start_first, begin_then_rest},
-  laws.ChunkLaws.start_by_size,
-  laws.BegunLaws.{begun_of_none, begun_again, begun_begins, begun_monotone, begun_on, begun_some, begun_stays},
-  laws.BegunLaws.open_within,
-}
+use Rattle.std.specs.{Option.is_none}
+use Rattle.std.proofs.{lemmas.Bool.{cases_lt, false≢true, ltb-false, ltb-true, or_cases, or_parts}, lemmas.List.{get_or_past, drop_at, take_all, take-append-drop, length-append, length-drop, length-take}, lemmas.List.FromFn.{get_or-map-range_with_len, length-map-range_with_len, map-range_with_len_more}, Common.{◌≡◌, ℕ, ◌+◌, ◌-◌, ◌<◌, ◌≤◌, max, min, zero, suc, Bool, true, false, ◌||◌, nat_lt, List, []}, Common.{◌++◌, ◌⊎◌, IfNone, length, take, drop, get_or, Option, Some, None, Result, Ok, Err, inl}, Common.{inr, refl, sym, ◌∙◌, ap, arith, append_assoc}, Math.Seq.drop-append-add}
+use Rattle.ports_core.{specs.{Part.{Begins}, Slot.Slot, declared.{fault.Fault.Fault, file_writer.Opening.TheVariants.Never}, InTurn.fault_in}, proofs.{PartLemmas.{part_begins_itself, part_trans}, ShareLemmas.next_begins, FileWriterLemmas.{in_any, where_well}}}
+use Rattle.seg_core.specs.declared.{cut.Chunks.Chunks}
+use Rattle.split_core.specs.{Chunks.{before_chunk, pieces_in, begun_before, chunk_start, chunks_within, open_from, passed}, Parts.{CutUp, uncut}, ChunkerState.{AimState, Carries, ChunkerState, Course, course_of, to_files, to_output, CutterState, Holds, IsAimed}, ChunkerState.{IsUnsaid, SinkState, can_cut, course, first_on, in_files, in_output, part_on, whole_on, work}, ChunkerState.work_on, Split.manner_of, ChunkWork.draft_by, inner.Chunker.{EndsAs, PassesAs}, inner.Cutter.{BeginsBefore, CutsMore, CutsAs, EndsFull, EndsHeld, IsCut, IsCutOff, IsFront, Settles, WritesTo}, inner.Cutter.{all_before, cut_to}, inner.Brings.{Brings, Changes, EndsAll, Gives, Stays, with_rest}, inner.Chunks.cut_before, laws.ChunkLaws.{chunk_none, passed_full, passed_open, start_first, begin_then_rest}, laws.ChunkLaws.{start_by_size, start_grows, start_within}, laws.BegunLaws.{begun_again, begun_begins, begun_later, begun_on, begun_some, begun_stays}, laws.BegunLaws.open_within}
 use Rattle.split_core.proofs.{
   ChunkerWays.{ends_at, passes_at},
-  CutterLemmas.{cut_of, so_grows, fulls_are, grown, cutting, has_cut, name_of, no_line, open_early, some_in},
+  CutterLemmas.{within_are, cut_of, so_grows, cutting, has_cut, name_of, no_line, open_early, some_in},
   ChunkerLemmas.{complete_all, past_is, whole_within},
-  SinkLemmas.{brings_none, brings_then, brings_wider, piece_full, stays_none, stays_then, whole_draft},
+  SinkLemmas.{brings_none, brings_then, brings_wider, stays_none, stays_then, whole_draft},
 }
 
 -- What is settled is written
@@ -121,25 +84,13 @@ module _ {told : Bool} {cutter : CutterState} (waiting : List ℕ) (end : ℕ) {
 
 -- A piece
 
-begun_later : (unit : Counted) (delim : ℕ) {place other : ℕ} (x : List ℕ) → place ≤ other
-    → begun_before unit delim place x ≡ x → begun_before unit delim other x ≡ x
-begun_later unit delim {place} {other} x within all = same (begun_monotone _ _ x within) (begun_begins _ _ _ x) where
-  same : IsBeginning (begun_before unit delim place x) (begun_before unit delim other x)
-      → IsBeginning (begun_before unit delim other x) x → begun_before unit delim other x ≡ x
-  same (more, is) (rest, both) = let none : length rest ≡ 0 = omega (
-    arith,
-    ap length is,
-    length-append (begun_before unit delim place x) more,
-    ap length all,
-    ap length both,
-    length-append
-        (begun_before unit delim other x) rest,
-  ) in
-      sym (rw (nil_from_length rest none, append-nil (begun_before unit delim other x)) at both)
-
 pub first_fits : (on : Course) (count : ℕ) → can_cut on count ≡ true → first_on on ≤ count
 first_fits (in_files filing elide) count can = search rules
 first_fits (in_output chunk) count can = search rules
+
+first_some : (on : Course) → 0 < first_on on
+first_some (in_files filing elide) = omega arith
+first_some (in_output chunk) = omega arith
 
 pub is_unsaid : {chunker : ChunkerState} {x : List ℕ} → chunker.said ≡ None → Holds chunker x → IsUnsaid chunker x
 is_unsaid {chunker} {x} said holds = grind (arith, common_steps)
@@ -158,8 +109,7 @@ settled_none chunker x said =
 
 module _ {chunker : ChunkerState} {x : List ℕ} (has : IsUnsaid chunker x) where
   all_came : cut_front chunker x ++ chunker.waiting ≡ x
-  all_came = let chunks = chunker.cutter.chunks in
-      rw has.waits (begin_then_rest _ x (begun_begins _ _ _ x))
+  all_came = grind (arith, common_steps, begin_then_rest, begun_begins)
 
   front_before : (more : List ℕ)
       → BeginsBefore chunker.cutter
@@ -182,9 +132,7 @@ module _ (chunker : ChunkerState) (piece : List ℕ) {end : ℕ}
     (first_on (course chunker.cutter))) where
   end_is : {x : List ℕ} → IsUnsaid chunker x
       → end ≡ chunk_start chunker.cutter.chunks.count (length (x ++ piece)) (first_on (course chunker.cutter))
-  end_is {x} has = let n : chunker.cutter.at + length (chunker.waiting ++ piece) ≡ length (x ++ piece) =
-      omega (arith, length-append (cut_front chunker x) (chunker.waiting ++ piece), ap length (came_more has piece)) in
-      rw n at ends
+  end_is {x} has = grind (arith, common_steps, length-append, came_more)
 
   to_is : {x : List ℕ} → IsUnsaid chunker x
       → all_before chunker.cutter (chunker.waiting ++ piece) end (cut_front chunker x) ≡ cut_front chunker (x ++ piece)
@@ -220,95 +168,28 @@ module _ {told : Bool} {chunker next : ChunkerState} {piece : List ℕ} {end : �
 
 -- The end
 
--- what is settled ends within a line only if nothing waits
-none_waits : (unit : Counted) (delim place : ℕ) (z waiting : List ℕ) → begun_before unit delim place (z ++ waiting) ≡ z
-    → is_within unit delim z ≡ true → length waiting ≡ 0
-none_waits unit delim place z waiting is within = elim (cases_lt 0 (length waiting)) [
-  | inr none ↦ omega arith
-  | inl some ↦ (let early = open_early unit delim place z
-      (ap (begun_before unit delim place) (sym is) ∙ begun_again unit delim place (z ++ waiting) ∙ is) within in
-      absurd (omega (
-        arith,
-        begun_some unit delim (max (place - length z) 1) waiting (omega arith) some,
-        ap length
-            (sym is ∙ begun_on unit delim place z waiting early),
-        length-append z (begun_before unit delim (max (place - length z) 1) waiting),
-      )))
-]
-
 pub start_some : (n size : ℕ) → 0 < n → 0 < size → 0 < chunk_start n size 1
 start_some n size count some = grind (arith, common_steps)
 
-none_of : (chunks : Chunks) (size place : ℕ) → chunk_at chunks size [] place ≡ []
-none_of chunks size place = ap (drop (length (before_chunk chunks size place []))) (begun_of_none _ _ _) ∙ drop-nil _
-
-none_ended : (chunks : Chunks) (size : ℕ) → 0 < chunks.count → 0 < size → ended chunks size [] ≡ 0
-none_ended chunks size count some = ended_only {chunks = chunks} {size = size} {x = []} (record {
-  within = omega arith;
-  before = omega (arith, start_first chunks.count size);
-  next = λ less. omega (arith, start_some chunks.count size count some, passed_open chunks size [] some, open_within chunks.unit chunks.delim []);
-})
+none_before : (chunks : Chunks) (size : ℕ) (z : List ℕ) → cut_before chunks size z 0 ≡ uncut z
+none_before chunks size z = grind arith
 
 pub none_within : (chunks : Chunks) (size : ℕ) → 0 < chunks.count → 0 < size → chunks_within chunks size [] ≡ uncut []
-none_within chunks size count some = grind (arith, common_steps, none_ended, none_of)
-
-empty_map : (f : ℕ → List ℕ) (a n : ℕ) → ((i : ℕ) → f i ≡ []) → map f (range_with_len a n) ≡ replicate n []
-empty_map f a zero none = refl
-empty_map f a (suc n) none = rw (none a) (ap (λ rest. [] ∷ rest) (empty_map f (a + 1) n none))
-
-all_empty : (chunks : Chunks) → 0 < chunks.count → with_fulls chunks.count (uncut []) ≡ chunks_within chunks 0 []
-all_empty chunks count = by chunks.count refl count where
-  by : (n : ℕ) → chunks.count ≡ n → 0 < n → with_fulls n (uncut []) ≡ chunks_within chunks 0 []
-  by zero is some = absurd (omega arith)
-  by (suc n) is some = fulls_are n (uncut [])
-      ∙ ap (λ full. record { full = full; rest = [] })
-      (sym (empty_map (chunk_at chunks 0 []) 0 (suc n) (none_of chunks 0)) ∙ ap (λ n. map (chunk_at chunks 0 []) (range_with_len 0 n)) (sym is))
-      ∙ sym (cut_all chunks 0 [] (omega arith) (omega arith))
-
--- the first chunk of a text is what stands before the second
-first_cut : (chunks : Chunks) (size : ℕ) (z : List ℕ) → 0 < chunks.count → length z ≤ size
-    → before_chunk chunks size 1 z ≡ z → with_fulls (ended chunks size z) (uncut z) ≡ chunks_within chunks size z
-first_cut chunks size z count fits all = by (cases_lt 0 size) where
-  by : (0 < size) ⊎ (size ≤ 0) → with_fulls (ended chunks size z) (uncut z) ≡ chunks_within chunks size z
-  by (inl some) = let none = none_ended chunks size count some in
-      let n : ended chunks size z - ended chunks size [] ≡ ended chunks size z = omega arith in
-      let place : ended chunks size [] + 1 ≡ 1 = omega arith in
-      ap (λ n. with_fulls n (uncut z)) (sym n)
-      ∙ ap (λ cut. with_fulls (ended chunks size z - ended chunks size []) (with_rest z cut)) (sym (none_within chunks size count some))
-      ∙ grown chunks size [] z count fits (ap (λ place. before_chunk chunks size place z) place ∙ all)
-  by (inr empty) = let none : z ≡ [] = nil_from_length z (omega arith) in let e : size ≡ 0 = omega arith in
-      rw (none, e) (ap (λ n. with_fulls n (uncut [])) (ended_all chunks {size = 0} [] count (omega arith)) ∙ all_empty chunks count)
-
--- what is written of a text that is cut up is the same, also if only one chunk is written
-
-fulls_past : (chunk : ℕ) (n : ℕ) (cut : CutUp)
-    → get_or (pieces_in (with_fulls n cut)) chunk [] ≡ get_or (pieces_in cut) chunk []
-fulls_past chunk zero cut = refl
-fulls_past chunk (suc n) cut = piece_full (pieces_in (with_fulls n cut)) chunk ∙ fulls_past chunk n cut
+none_within chunks size count some = within_are [] count (omega arith) (record {
+  within = omega arith;
+  before = omega (arith, start_first chunks.count size);
+  next = λ less. omega (
+    arith,
+    start_some chunks.count size count some,
+    passed_open chunks size [] some,
+    open_within chunks.unit chunks.delim [],
+  );
+}) ∙ none_before chunks size []
 
 pub past_pieces : (chunks : Chunks) (size chunk : ℕ) (z : List ℕ) → before_chunk chunks size chunk z ≡ z
     → get_or (pieces_in (chunks_within chunks size z)) chunk [] ≡ []
 past_pieces chunks size chunk z all =
     grind (arith, common_steps, map-range_with_len_more, cases_lt, get_or-map-range_with_len, chunk_none, get_or_past, length-map-range_with_len)
-
-part_same : (on : Course) (chunks : Chunks) (size : ℕ) (z : List ℕ) → 0 < chunks.count → length z ≤ size
-    → before_chunk chunks size (first_on on) z ≡ z
-    → part_on on (with_fulls (ended chunks size z) (uncut z)) ≡ part_on on (chunks_within chunks size z)
-part_same (in_files filing elide) chunks size z count fits all = ap (part_on (in_files filing elide)) (first_cut _ _ z count fits all)
-part_same (in_output zero) chunks size z count fits all = ap (part_on (in_output zero)) (first_cut _ _ z count fits all)
-part_same (in_output (suc chunk)) chunks size z count fits all = grind (arith, common_steps, fulls_past, past_pieces)
-
-fulls_long : (n : ℕ) (cut : CutUp) → length (with_fulls n cut).full ≡ length cut.full + n
-fulls_long zero cut = omega arith
-fulls_long (suc n) cut = omega (arith, length-append (with_fulls n cut).full ((with_fulls n cut).rest ∷ []), fulls_long n cut)
-
-carries_same : (chunks : Chunks) (size : ℕ) (z : List ℕ) (place : ℕ) (aim : AimState) → 0 < chunks.count
-    → length z ≤ size → before_chunk chunks size (first_on (course_of aim)) z ≡ z
-    → Carries (record { place = place; aim = aim }) (with_fulls (ended chunks size z) (uncut z))
-    → Carries (record { place = place; aim = aim }) (chunks_within chunks size z)
-carries_same chunks size z place (to_files writer elide) count fits all carries =
-    rw (first_cut _ _ z count fits all) at carries
-carries_same chunks size z place (to_output chunk) count fits all carries = grind (arith, common_steps, length-map-range_with_len, fulls_long)
 
 -- what is written so far begins the whole
 
@@ -321,9 +202,57 @@ settled_cut : {cutter : CutterState} {waiting : List ℕ} {size : ℕ} {z : List
     → before_chunk cutter.chunks size (first_on (course cutter)) z ≡ z
 settled_cut {cutter} {waiting} {size} {z} so = grind (arith, common_steps, begun_again)
 
+-- what stands before the chunk `first` reaches the chunk before it
+settled_far : {cutter : CutterState} {waiting : List ℕ} {size : ℕ} {z : List ℕ} → IsFront cutter waiting size z
+    → chunk_start cutter.chunks.count size (first_on (course cutter)) ≤ passed cutter.chunks size z
+settled_far {cutter} {waiting} {size} {z} so = let chunks = cutter.chunks in
+    let place = first_on (course cutter) in let some = some_in so.cut in
+    let few = first_fits (course cutter) chunks.count so.cut.can in elim (cases_lt 0 (length waiting)) [
+      | inr none ↦ omega (arith, so.all, passed_full chunks size z, start_within chunks.count size place some few)
+      | inl more ↦ elim (cases_lt (open_from chunks.unit chunks.delim z) (chunk_start chunks.count size place)) [
+        | inr far ↦ omega (arith, so.all, passed_open chunks size z)
+        | inl early ↦ absurd (omega (
+          arith,
+          ap length (sym so.is ∙ begun_on chunks.unit chunks.delim (chunk_start chunks.count size place) z waiting early),
+          length-append z (begun_before chunks.unit chunks.delim (max (chunk_start chunks.count size place - length z) 1) waiting),
+          begun_some chunks.unit chunks.delim (max (chunk_start chunks.count size place - length z) 1) waiting (omega arith) more,
+        ))
+      ]
+    ]
+
+-- the chunk before `first` counts as begun
+abbrev pub first_begun : CutterState → CutterState
+first_begun cutter = record cutter { sink = record cutter.sink { place = first_on (course cutter) - 1 } }
+
+front_part : (on : Course) (chunks : Chunks) (size : ℕ) (z : List ℕ)
+    → part_on on (uncut z) ≡ part_on on (cut_before chunks size z (first_on on - 1))
+front_part (in_files filing elide) chunks size z = grind (arith, common_steps)
+front_part (in_output zero) chunks size z = grind (arith, common_steps)
+front_part (in_output (suc chunk)) chunks size z = grind (arith, common_steps, get_or_past, length-append, length-map-range_with_len)
+
+front_carries : (aim : AimState) (chunks : Chunks) (size : ℕ) {place : ℕ} (z : List ℕ)
+    → Carries (record { place = place; aim = aim }) (uncut z)
+    → Carries (record { place = first_on (course_of aim) - 1; aim = aim })
+    (cut_before chunks size z (first_on (course_of aim) - 1))
+front_carries (to_files writer elide) chunks size z carries = grind (arith, common_steps)
+front_carries (to_output chunk) chunks size z carries = record { placed = length-map-range_with_len _ 0 _; has = tt }
+
 cut_off_so : {cutter : CutterState} {waiting : List ℕ} {size : ℕ} {z : List ℕ} → IsFront cutter waiting size z
-    → IsCutOff cutter size z (uncut z)
-cut_off_so {cutter} {waiting} {size} {z} so = grind (arith, common_steps, none_waits)
+    → IsCutOff (first_begun cutter) size z
+cut_off_so {cutter} {waiting} {size} {z} so = let place = first_on (course cutter) in
+    let past : place - 1 + 1 ≡ place = omega (arith, first_some (course cutter)) in record {
+      cut = record {
+        can = so.cut.can;
+        all = so.cut.all;
+        at = so.cut.at;
+        within = so.cut.within;
+        carries = front_carries cutter.sink.aim cutter.chunks size z so.cut.carries;
+      };
+      fits = omega (arith, so.all);
+      few = omega (arith, first_fits (course cutter) cutter.chunks.count so.cut.can);
+      before = omega (arith, settled_far so, start_grows cutter.chunks.count size (place - 1) place (omega arith));
+      begun = rw past (settled_cut so);
+    }
 
 to_whole : {cutter : CutterState} {waiting : List ℕ} {size : ℕ} (z : List ℕ) → IsFront cutter waiting size z
     → Begins (part_on (course cutter) (chunks_within cutter.chunks size z))
@@ -331,84 +260,74 @@ to_whole : {cutter : CutterState} {waiting : List ℕ} {size : ℕ} (z : List �
 to_whole {cutter} {waiting} {size} z so = part_trans _ _ _ (so_grows (course cutter) cutter.chunks size z waiting
     (some_in so.cut) (omega (arith, length-append z waiting))) (whole_begins (course cutter) _)
 
-module _ {told : Bool} {cutter mid : CutterState} {waiting : List ℕ} {size : ℕ} {old wet : List Slot} where
-  gives_first : {fault : Option Fault} → EndsFull told cutter size old wet mid fault → {z : List ℕ}
+module _ {told : Bool} {cutter start mid : CutterState} {waiting : List ℕ} {size : ℕ} {old wet : List Slot}
+    (is : start ≡ first_begun cutter) where
+  gives_first : {fault : Option Fault} → EndsFull told start size old wet mid fault → {z : List ℕ}
       → IsFront cutter waiting size z
-      → Gives told (course cutter) cutter.sink mid.sink (uncut z) (chunks_within cutter.chunks size z) old wet fault
-  gives_first {fault} ends {z} so =
-      let e : ended cutter.chunks size z - cutter.sink.place ≡ ended cutter.chunks size z = omega (arith, so.cut.carries.placed) in
-      let full = rw e at (ends.gives z (uncut z) (cut_off_so so)) in let some = some_in so.cut in let all = settled_cut so in record {
-        brings = rw (part_same (course cutter) cutter.chunks size z some (omega arith) all) at full.brings;
-        carries = where_well fault full.carries
-            (carries_same cutter.chunks size z mid.sink.place mid.sink.aim some (omega arith) (rw ends.stays.course all));
-      }
+      → Brings told (course cutter) cutter.sink.aim mid.sink.aim (part_on (course cutter) (uncut z))
+      (part_on (course cutter) (chunks_within cutter.chunks size z)) old wet fault
+      × IfNone fault (IsCut mid size z)
+  gives_first {fault} ends {z} so = grind (arith, common_steps, front_part, cut_off_so)
 
-  pub held_not_ended : {why : Fault} → EndsFull told cutter size old wet mid (Some why)
+  pub held_not_ended : {why : Fault} → EndsFull told start size old wet mid (Some why)
       → EndsHeld told cutter waiting size old wet mid waiting (Some why)
-  held_not_ended ends = record {
-    chunks = ends.chunks;
+  held_not_ended ends = let full = rw is at ends in record {
+    chunks = full.chunks;
     bound = omega arith;
-    stays = ends.stays;
-    brings = λ z so. brings_wider (to_whole z so) (gives_first ends so).brings;
+    stays = full.stays;
+    brings = λ z so. brings_wider (to_whole z so) (gives_first ends so).0;
   }
 
-  module _ (ends : EndsFull told cutter size old wet mid None) {done : List ℕ} {next : CutterState} {new : List Slot}
+  module _ (ends : EndsFull told start size old wet mid None) {done : List ℕ} {next : CutterState} {new : List Slot}
       {fault : Option Fault} (few : length done ≤ length waiting)
       (cuts : CutsMore told mid size done wet new next fault) where
     rest_cut : (z : List ℕ) → IsFront cutter waiting size z
         → Brings told (course cutter) cutter.sink.aim next.sink.aim (part_on (course cutter) (uncut z))
         (part_on (course cutter) (chunks_within cutter.chunks size (z ++ done))) old new fault
         × IfNone fault (IsCut next size (z ++ done))
-    rest_cut z so = let stays = ends.stays.course in let first = gives_first ends so in
-        let fits : length (z ++ done) ≤ size = omega (arith, length-append z done) in
-        let has : IsCut mid size z = record {
-          cut = record {
-            can = rw (stays, ends.chunks) so.cut.can;
-            all = rw (stays, ends.chunks) so.cut.all;
-            at = ends.at ∙ so.cut.at;
-            within = rw ends.chunks (ends.within ∙ so.cut.within);
-            carries = rw (← ends.chunks) at first.carries;
-          };
-          fits = omega arith;
-        } in (
-          brings_then first.brings (rw (stays, ends.chunks) at (cuts.brings z has fits)),
-          cuts.leads z has fits,
+    rest_cut z so = let full = rw is at ends in let first = gives_first ends so in
+        let fits : length (z ++ done) ≤ size = omega (arith, so.all, length-append z done) in (
+          brings_then first.0 (rw (full.stays.course, full.chunks) at (cuts.brings z first.1 fits)),
+          cuts.leads z first.1 fits,
         )
 
   pub held_not_cut : {next : CutterState} {new : List Slot} {why : Fault}
-      → size ≡ cutter.at + length waiting → EndsFull told cutter size old wet mid None
+      → size ≡ cutter.at + length waiting → EndsFull told start size old wet mid None
       → CutsMore told mid size (take (min (length waiting) (size - mid.at)) waiting) wet new next (Some why)
       → EndsHeld told cutter waiting size old new next [] (Some why)
-  held_not_cut all ends stopped =
-      let same = take_all (min (length waiting) (size - mid.at)) waiting (omega arith) in
+  held_not_cut all full stopped =
+      let ends = rw is at full in let same = take_all (min (length waiting) (size - mid.at)) waiting (omega arith) in
       let cuts = rw same at stopped in record {
         chunks = cuts.chunks ∙ ends.chunks;
         bound = omega arith;
         stays = stays_then ends.stays (rw ends.stays.course at cuts.stays);
-        brings = λ z so. brings_wider (whole_begins (course cutter) _) (rest_cut ends (omega arith) cuts z so).0;
+        brings = λ z so. brings_wider (whole_begins (course cutter) _) (rest_cut full (omega arith) cuts z so).0;
       }
 
   -- what is left once the output is complete changes nothing
   pub held_ends : {later next : CutterState} {left : ℕ} {between new : List Slot} (fault : Option Fault)
-      → size ≡ cutter.at + length waiting → EndsFull told cutter size old wet mid None
+      → size ≡ cutter.at + length waiting → EndsFull told start size old wet mid None
       → CutsAs told mid size waiting wet between later left
       → EndsAll told later.sink between new next.sink fault → next.chunks ≡ later.chunks → next.at ≡ later.at
       → EndsHeld told cutter waiting size old new next [] fault
-  held_ends {later} {left = left} {between} fault all ends cuts last chunks at = record {
-    chunks = chunks ∙ is;
-    bound = omega arith;
+  held_ends {later} {left = left} {between} fault all full cuts last chunks at = record {
+    chunks = chunks ∙ same;
+    bound = omega (arith, ends.at);
     stays = stays_then first (rw first.course at last.stays);
-    brings = λ z so. let (brings, has) = rest_cut ends few cuts.cuts z so in
-        brings_then brings (rw (first.course, whole z so has) at (last.brings _ (rw is at has.cut.carries)));
+    brings = λ z so. let (brings, has) = rest_cut full few cuts.cuts z so in
+        brings_then brings (rw (first.course, whole z so has) at (last.brings _ (rw same at has.cut.carries)));
   } where
+    ends : EndsFull told (first_begun cutter) size old wet mid None
+    ends = rw is at full
+
     done : List ℕ
     done = take (length waiting - left) waiting
 
     few : length done ≤ length waiting
     few = omega (arith, length-take (length waiting - left) waiting)
 
-    is : later.chunks ≡ cutter.chunks
-    is = cuts.cuts.chunks ∙ ends.chunks
+    same : later.chunks ≡ cutter.chunks
+    same = cuts.cuts.chunks ∙ ends.chunks
 
     first : Stays (course cutter) cutter.sink.aim later.sink.aim old between None
     first = stays_then ends.stays (rw ends.stays.course at cuts.cuts.stays)
@@ -424,16 +343,16 @@ module _ {told : Bool} {cutter mid : CutterState} {waiting : List ℕ} {size : �
             let rest = drop (length waiting - left) waiting in
             let both : (z ++ done) ++ rest ≡ z ++ waiting = append_assoc z done rest
             ∙ ap (λ those. z ++ those) (take-append-drop (length waiting - left) waiting) in
-            let complete : work.is_complete (z ++ done) ≡ true = rw (first.course, is) at (sym (past_is has) ∙ past) in
+            let complete : work.is_complete (z ++ done) ≡ true = rw (first.course, same) at (sym (past_is has) ∙ past) in
             complete_all on chunks size (z ++ done) rest so.cut.can has.fits complete ∙ ap work.whole both
             ∙ sym (whole_within on chunks size (z ++ waiting) (omega (arith, length-append z waiting)))
-        | inr full ↦ used (omega arith)
+        | inr past ↦ used (omega (arith, ends.at))
       ]
     ] where
       used : left ≡ 0 → whole_on (course cutter) (chunks_within cutter.chunks size (z ++ done))
           ≡ whole_on (course cutter) (chunks_within cutter.chunks size (z ++ waiting))
-      used none = let same : done ≡ waiting = take_all (length waiting - left) waiting (omega arith) in
-          rw same refl
+      used none = let all : done ≡ waiting = take_all (length waiting - left) waiting (omega arith) in
+          rw all refl
 
 -- as the stage ends
 

@@ -116,9 +116,7 @@ impl ChunkCutter {
     {
         let end = self.end_of(size);
         let n = self.write_to(end, text, outs)?;
-        if self.at >= end {
-            self.end_full(size, outs)?;
-        }
+        self.end_full(size, outs)?;
         Ok(n)
     }
 
@@ -197,6 +195,7 @@ impl ChunkCutter {
             (O.slots outs.old) (O.slots outs.new) (seen_cutter self.new) waiting.new (fault_in result) }
     {
         let size = self.at + waiting.len();
+        self.sink.begin_first();
         self.end_full(size, outs)?;
         let cut = self.cut(size, waiting.bytes(), outs);
         waiting.clear();

@@ -1,5 +1,5 @@
 //! Where chunks go: each to a file of its own, or one of them to standard output.
-ghost use Rattle.std.specs.Prelude.{◌≡◌, ◌+◌, ◌<◌, ◌^◌, [], if◌then◌else◌, IsTrue, IfErr};
+ghost use Rattle.std.specs.Prelude.{◌≡◌, ◌+◌, ◌-◌, ◌<◌, ◌^◌, [], if◌then◌else◌, IsTrue, IfErr};
 ghost use Rattle.ports_core.specs.{
   FileWriter.{IsReady, IsWrite, seen_writer},
   Slot.is_writable,
@@ -82,6 +82,14 @@ impl ChunkSink {
             Aim::Files { .. } => 1,
             Aim::Output { chunk } => chunk.max(1),
         }
+    }
+
+    /// Begins the chunk just before the place that `first` returns. All that was written so far went to this chunk.
+    pub(crate) fn begin_first(&mut self)
+        ensures { seen_sink self.new
+            ≡ record (seen_sink self.old) { place = first_on (course_of (seen_sink self.old).aim) - 1 } }
+    {
+        self.place = self.first().saturating_sub(1);
     }
 
     /// Writes more bytes of the chunk that was begun.

@@ -1,11 +1,14 @@
-ghost use Rattle.std.specs.Prelude.{◌≡◌, ◌<◌, ◌≤◌, List, [], true, if◌then◌else◌, length, IfOk, IfErr, OnOk};
-ghost use Rattle.ports_core.specs.{Slot.Slot, Part.{OutputsAt, StoppedBetween, nothing}, FileWriter.CanTell};
+ghost use Rattle.std.specs.Prelude.{◌≡◌, ◌<◌, ◌≤◌, [], None, true, if◌then◌else◌, length, IfOk, IfErr, OnOk};
+ghost use Rattle.ports_core.specs.FileWriter.{CanTell};
 ghost use Rattle.split_core.specs.{
-  Round.{Holds, Owns, Ready, round_plan, work},
+  ChunkWork.work_by,
+  Round.{Holds, Owns, Ready, work},
   inner.{Ways.PassesAs, Sharing.ClosesAll},
-  Sharing.CannotOpen,
-  Split.{TellsNoSizes, are_named, is_verbose, output_by, settled_by, split_work},
+  Sharing.{CannotOpen, HaveOpened, StoppedOpening},
+  Split.{TellsNoSizes, are_named, is_verbose},
 };
+ghost use Rattle.seg_core.specs.declared.cut.{Cut.TheVariants.Round};
+ghost use Rattle.seg_core.specs.declared.cut.Way.TheVariants as cut;
 ghost use Rattle.split_core.specs.declared.splitter.Splitter.TheVariants as way;
 
 use crate::deal::Deal;
@@ -64,19 +67,13 @@ impl RoundSplitter {
         requires tells { TellsNoSizes tells }
         requires output { CanTell tells (O.slots outs.old) }
         ensures holds { IfOk result (λ round. Holds round []) }
-        ensures does { IfOk result (λ round. work round
-            ≡ split_work (round_plan delim count elide (record { names = naming; verbose = is_verbose tells }))) }
+        ensures does { IfOk result (λ round. work round ≡ work_by (cut.Cut (Round count delim)) elide naming tells None) }
         ensures ready { IfOk result (λ round. Ready round (O.slots outs.new)) }
         ensures owns { IfOk result (λ round. Owns round (length (O.slots outs.old)) (O.slots outs.new)) }
-        ensures outputs { OnOk result ((before : List Slot) → OutputsAt O.told before nothing (O.slots outs.old)
-            → OutputsAt O.told before
-            (settled_by (round_plan delim count elide (record { names = naming; verbose = is_verbose tells })) [])
-            (O.slots outs.new)) }
-        ensures cut { IfErr result
-            (λ fault. (before : List Slot) → OutputsAt O.told before nothing (O.slots outs.old)
-            → StoppedBetween (output_by (is_verbose tells)) O.told before nothing
-            (settled_by (round_plan delim count elide
-            (record { names = naming; verbose = is_verbose tells })) []) fault (O.slots outs.new)) }
+        ensures outputs { OnOk result (HaveOpened O.told (work_by (cut.Cut (Round count delim)) elide naming tells None)
+            (O.slots outs.old) (O.slots outs.new)) }
+        ensures cut { IfErr result (StoppedOpening O.told (work_by (cut.Cut (Round count delim)) elide naming tells None)
+            (O.slots outs.old) (O.slots outs.new)) }
         ensures refused { IfErr result (CannotOpen (is_verbose tells) (O.slots outs.old) (O.slots outs.new)) }
     {
         let deal = Deal::new(alloc, count, delim)?;

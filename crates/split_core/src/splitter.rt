@@ -1,13 +1,8 @@
 //! The stage of `split`, for all ways to cut.
 ghost use Rattle.std.specs.Prelude.{◌≡◌, ◌^◌, ◌<◌, ◌≤◌, [], List, ℕ, length, IfOk, IfErr, IfSome, OnOk};
-ghost use Rattle.ports_core.specs.{
-  Guard.HoldsIn,
-  Part.{OutputsAt, StoppedBetween, nothing},
-  Slot.Slot,
-  Engine.MayGet,
-  Work.IsSpare,
-};
+ghost use Rattle.ports_core.specs.{Guard.HoldsIn, Engine.MayGet, Work.IsSpare};
 ghost use Rattle.split_core.specs.{
+  Sharing.{HaveOpened, StoppedOpening},
   Split.{TellsNoSizes, is_verbose},
   ChunkWork.{CanGive, CannotBegin, HasAllNames, work_by},
   Alike.as_if,
@@ -74,12 +69,10 @@ impl Splitter {
         ensures does { IfOk result (λ engine. work engine.stage ≡ work_by way elide naming tells said) }
         ensures ready { IfOk result (λ engine. Ready engine.stage (O.slots outs.new)) }
         ensures owns { IfOk result (λ engine. Owns engine.stage (length (O.slots outs.old)) (O.slots outs.new)) }
-        ensures outputs { OnOk result ((before : List Slot) → OutputsAt O.told before nothing (O.slots outs.old)
-            → OutputsAt O.told before ((work_by way elide naming tells said).settled []) (O.slots outs.new)) }
+        ensures outputs { OnOk result
+            (HaveOpened O.told (work_by way elide naming tells said) (O.slots outs.old) (O.slots outs.new)) }
         ensures cut { IfErr result
-            (λ fault. (before : List Slot) → OutputsAt O.told before nothing (O.slots outs.old)
-            → StoppedBetween (work_by way elide naming tells said).means.output O.told before nothing
-            ((work_by way elide naming tells said).settled []) fault (O.slots outs.new)) }
+            (StoppedOpening O.told (work_by way elide naming tells said) (O.slots outs.old) (O.slots outs.new)) }
         ensures refused { IfErr result
             (CannotBegin way (is_verbose tells) (O.slots outs.old) (O.slots outs.new)) }
     {

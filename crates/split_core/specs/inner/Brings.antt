@@ -1,6 +1,6 @@
 -- What private calls say: what goes to the files of chunks, or to standard output if only one chunk is written.
 use Rattle.std.specs.{
-  Prelude.{◌≡◌, ℕ, Bool, true, false, List, [], ◌∷◌, ◌++◌, length, zero, suc, Option, IfNone, IfSome, IsTrue},
+  Prelude.{◌≡◌, ℕ, Bool, true, false, List, [], ◌∷◌, ◌++◌, length, Option, IfNone, IfSome, IsTrue},
 }
 use Rattle.ports_core.specs.{
   Draft.{Draft, Manner, draft_part, made_of, with_next},
@@ -29,11 +29,6 @@ with_rest bytes cut = record { full = cut.full; rest = cut.rest ++ bytes }
 -- a text that is cut up, with its rest as a full piece
 abbrev pub with_full : CutUp → CutUp
 with_full cut = record { full = cut.full ++ cut.rest ∷ []; rest = [] }
-
--- the same, n times
-abbrev pub with_fulls : ℕ → CutUp → CutUp
-with_fulls zero cut = cut
-with_fulls (suc n) cut = with_full (with_fulls n cut)
 
 -- how files are made, and what standard output gets
 abbrev pub manner_on : Course → Manner

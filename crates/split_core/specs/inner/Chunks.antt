@@ -1,14 +1,21 @@
 -- What private calls say of chunks.
-use Rattle.std.specs.Prelude.{ℕ, ◌≡◌, ◌+◌, ◌<◌, ◌≤◌, List, [], ◌∷◌, ◌++◌}
+use Rattle.std.specs.{Prelude.{ℕ, ◌≡◌, ◌+◌, ◌<◌, ◌≤◌, List, [], ◌∷◌, ◌++◌, drop, length, map}, List.range_with_len}
 use Rattle.ports_core.specs.Part.{IsBeginning}
 use Rattle.seg_core.specs.declared.cut.Chunks.{Chunks}
-use Rattle.split_core.specs.{Chunks.{chunk_start, passed}, Parts.CutUp}
+use Rattle.split_core.specs.{Chunks.{before_chunk, chunk_at, chunk_start, passed}, Parts.CutUp}
 
 -- exactly the chunks before this place have all that goes with them
 pub record HaveEnded (chunks : Chunks) (size : ℕ) (x : List ℕ) (place : ℕ) : Type 0 where
   pub within : place ≤ chunks.count
   pub before : chunk_start chunks.count size place ≤ passed chunks size x
   pub next : place < chunks.count → passed chunks size x < chunk_start chunks.count size (place + 1)
+
+-- a text that has no more than its size, cut up before a place
+abbrev pub cut_before : Chunks → ℕ → List ℕ → ℕ → CutUp
+cut_before chunks size x place = record {
+  full = map (chunk_at chunks size x) (range_with_len 0 place);
+  rest = drop (length (before_chunk chunks size place x)) x;
+}
 
 -- the bytes `low` begin the first piece, or `last` if there is none
 abbrev pub BeginsFirst : List ℕ → List (List ℕ) → List ℕ → Type 0

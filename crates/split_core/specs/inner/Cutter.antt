@@ -5,11 +5,11 @@ use Rattle.std.specs.{
 }
 use Rattle.ports_core.specs.{Part.Part, Slot.Slot, InTurn.fault_in, Work.{IsNeeded, Work}, declared.fault.Fault.Fault}
 use Rattle.split_core.specs.{
-  Chunks.{before_chunk, begun_before, chunks_within, ended, is_within},
-  ChunkerState.{Carries, CutterState, HasAll, HasCut, course, first_on, part_on, whole_on, work_on},
-  Parts.{CutUp, uncut},
+  Chunks.{before_chunk, begun_before, chunk_start, chunks_within, is_within, passed},
+  ChunkerState.{CutterState, HasCut, course, first_on, part_on, whole_on, work_on},
+  Parts.uncut,
   declared.chunk_cutter.ChunkCutter.ChunkCutter,
-  inner.{Seen.{is_past_on, seen_sink}, Brings.{Brings, Changes, Gives, Stays, with_fulls, with_rest}},
+  inner.{Chunks.cut_before, Seen.{is_past_on, seen_sink}, Brings.{Brings, Changes, Stays, with_rest}},
 }
 
 abbrev pub seen_cutter : ChunkCutter → CutterState
@@ -37,28 +37,6 @@ pub record WritesTo (told : Bool) (cutter : CutterState) (end : ℕ) (text : Lis
   pub within : OnOk result
       (next.is_within ≡ is_within cutter.chunks.unit cutter.chunks.delim (cut_to cutter end text))
 
--- x was cut off, up to the end of the chunk that was begun at most, and is cut up like this
-pub record IsCutOff (cutter : CutterState) (size : ℕ) (x : List ℕ) (cut : CutUp) : Type 0 where
-  pub carries : Carries cutter.sink cut
-  pub all : HasAll (course cutter) cutter.chunks.count
-  pub at : cutter.at ≡ length x
-  pub within : cutter.is_within ≡ is_within cutter.chunks.unit cutter.chunks.delim x
-  pub fits : length x ≤ size
-  pub begun : is_within cutter.chunks.unit cutter.chunks.delim x ≡ true → length x < size
-      → before_chunk cutter.chunks size (cutter.sink.place + 1) x ≡ x
-  pub from : cutter.sink.place ≤ ended cutter.chunks size x
-
--- all chunks that had all that goes with them ended
-pub record EndsFull (told : Bool) (cutter : CutterState) (size : ℕ) (old new : List Slot) (next : CutterState)
-    (fault : Option Fault) : Type 0 where
-  pub chunks : next.chunks ≡ cutter.chunks
-  pub at : next.at ≡ cutter.at
-  pub within : next.is_within ≡ cutter.is_within
-  pub stays : Stays (course cutter) cutter.sink.aim next.sink.aim old new fault
-  pub gives : (x : List ℕ) (cut : CutUp) → IsCutOff cutter size x cut
-      → Gives told (course cutter) cutter.sink next.sink cut
-      (with_fulls (ended cutter.chunks size x - cutter.sink.place) cut) old new fault
-
 -- the work of an input that showed this size
 abbrev pub said_work : CutterState → ℕ → Work
 said_work cutter size = work_on (course cutter) cutter.chunks (Some size)
@@ -70,6 +48,28 @@ pub record IsCut (cutter : CutterState) (size : ℕ) (x : List ℕ) : Type 0 whe
 
 abbrev pub part_so : CutterState → ℕ → List ℕ → Part
 part_so cutter size x = part_on (course cutter) (chunks_within cutter.chunks size x)
+
+-- x was cut off, all of it before the end of the chunk that was begun, and the chunks before that have ended
+pub record IsCutOff (cutter : CutterState) (size : ℕ) (x : List ℕ) : Type 0 where
+  pub cut : HasCut cutter x (cut_before cutter.chunks size x cutter.sink.place)
+  pub fits : length x ≤ size
+  pub few : cutter.sink.place ≤ cutter.chunks.count
+  pub before : chunk_start cutter.chunks.count size cutter.sink.place ≤ passed cutter.chunks size x
+  pub begun : before_chunk cutter.chunks size (cutter.sink.place + 1) x ≡ x
+
+abbrev pub part_at : CutterState → ℕ → List ℕ → ℕ → Part
+part_at cutter size x place = part_on (course cutter) (cut_before cutter.chunks size x place)
+
+-- all chunks that had all that goes with them ended
+pub record EndsFull (told : Bool) (cutter : CutterState) (size : ℕ) (old new : List Slot) (next : CutterState)
+    (fault : Option Fault) : Type 0 where
+  pub chunks : next.chunks ≡ cutter.chunks
+  pub at : next.at ≡ cutter.at
+  pub stays : Stays (course cutter) cutter.sink.aim next.sink.aim old new fault
+  pub brings : (x : List ℕ) → IsCutOff cutter size x
+      → Brings told (course cutter) cutter.sink.aim next.sink.aim (part_at cutter size x cutter.sink.place)
+      (part_so cutter size x) old new fault
+  pub leads : (x : List ℕ) → IsCutOff cutter size x → IfNone fault (IsCut next size x)
 
 -- more of a text was cut off, or a fault came meanwhile
 pub record CutsMore (told : Bool) (cutter : CutterState) (size : ℕ) (bytes : List ℕ) (old new : List Slot)

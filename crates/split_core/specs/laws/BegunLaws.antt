@@ -180,6 +180,13 @@ begun_begins unit delim place x =
 pub begun_within : (unit : Unit) (delim place : ℕ) (x : List ℕ) → length (begun_before unit delim place x) ≤ length x
 begun_within unit delim place x = beginning_short _ _ (begun_begins _ _ _ x)
 
+-- what begins before a place begins before a later place
+pub begun_later : (unit : Unit) (delim : ℕ) {place other : ℕ} (x : List ℕ) → place ≤ other
+    → begun_before unit delim place x ≡ x → begun_before unit delim other x ≡ x
+begun_later unit delim {place} {other} x within all =
+    let (more, is) = begun_monotone unit delim {place = place} {other = other} x within in
+    grind (arith, common_steps, begun_within unit delim other x)
+
 pub begun_grows : (unit : Unit) (delim place : ℕ) (x y : List ℕ)
     → IsBeginning (begun_before unit delim place x) (begun_before unit delim place (x ++ y))
 begun_grows unit delim place x y = elim (cases_lt (open_from unit delim x) place) [

@@ -1,27 +1,13 @@
 -- Laws that traits cite: laws of chunks: where they begin, and what of a text that goes on is in them.
-use Rattle.std.{
-  proofs.{
-    lemmas.{
-      Grind.{common_steps, flat_map-append},
-      Bool.{cases_lt, le-leb, Decides.nat_tests},
-      List.{append-nil, take_all, drop_all, length-take, length-append},
-      List.FromFn.{get_or-map-range_with_len, map-range_with_len_more, length-map-range_with_len},
-      Nat.le-div,
-    },
-    Common.{get_or, ◌≡◌, ℕ, ◌+◌, ◌-◌, ◌/◌, ◌<◌, ◌≤◌, max, zero, suc, true, List, [], ◌∷◌, ◌++◌, length, take},
-    Common.{drop, map, replicate, inl, inr, refl, sym, ap, subst, arith},
-    Math.{Nat.{div-mul-le_self, mul-le-mul_left}, Seq.drop-append_seam},
-  },
-  specs.List.{filter, flat_map, range_with_len},
-}
+use Rattle.std.{proofs.{lemmas.{Grind.{common_steps, flat_map-append}, Bool.{cases_lt, le-leb, Decides.nat_tests}, List.{append-nil, drop_all, length-take, length-append}, List.FromFn.{get_or-map-range_with_len, map-range_with_len_more, length-map-range_with_len}, Nat.le-div}, Common.{get_or, ◌≡◌, ℕ, ◌+◌, ◌-◌, ◌/◌, ◌<◌, ◌≤◌, max, zero, suc, true, List, [], ◌++◌, length, take}, Common.{drop, map, inl, inr, refl, sym, ap, subst, arith}, Math.{Nat.{div-mul-le_self, mul-le-mul_left}, Seq.drop-append_seam}}, specs.List.{filter, flat_map, range_with_len}}
 use Rattle.seg_core.specs.{Line.joined, declared.cut.Chunks.Chunks}
 use Rattle.ports_core.{specs.Part.IsBeginning, proofs.PartLemmas.begins_trans}
 use Rattle.split_core.specs.{
   Chunks.{chunks_within, chunk_start, begun_before, before_chunk, chunk_at, open_from, passed, has_ended, ended},
   Chunks.{chunks_of, pieces_in},
-  Parts.CutUp,
-  inner.Chunks.HaveEnded,
-  laws.BegunLaws.{begun_again, begun_all, begun_grows, begun_long, begun_monotone, begun_on, begun_stays},
+  inner.Chunks.{HaveEnded, cut_before},
+  laws.BegunLaws.{begun_again, begun_all, begun_grows, begun_later, begun_long, begun_monotone, begun_on},
+  laws.BegunLaws.begun_stays,
   laws.BegunLaws.{begun_within, open_grows, open_within},
 }
 
@@ -51,20 +37,16 @@ start_by_size n size more place some within less = elim (cases_lt (size / n) (mo
 pub begin_then_rest : (low high : List ℕ) → IsBeginning low high → low ++ drop (length low) high ≡ high
 begin_then_rest low high (rest, is) = grind (arith, drop-append_seam)
 
-pub map_same : (f g : ℕ → List ℕ) (a n : ℕ) → ((i : ℕ) → a ≤ i → i < a + n → f i ≡ g i)
+pub map_same : {X : Type 0} (f g : ℕ → X) (a n : ℕ) → ((i : ℕ) → a ≤ i → i < a + n → f i ≡ g i)
     → map f (range_with_len a n) ≡ map g (range_with_len a n)
 map_same f g a zero same = refl
 map_same f g a (suc n) same = grind (arith, map_same f g (a + 1) n (λ i from to. same i (omega arith) (omega arith)))
 
-pub map_parts : (f : ℕ → List ℕ) (a p k : ℕ) → map f (range_with_len a (p + suc k))
-    ≡ map f (range_with_len a p) ++ f (a + p) ∷ map f (range_with_len (a + p + 1) k)
-map_parts f a zero k = let e : 0 + suc k ≡ suc k = omega arith in let at : a + 0 ≡ a = omega arith in rw (e, at)
-map_parts f a (suc p) k = let e : suc p + suc k ≡ suc (p + suc k) = omega arith in
-    let at : a + suc p ≡ a + 1 + p = omega arith in rw (e, at, map_parts f (a + 1) p k)
-
-empty_pieces : (f : ℕ → List ℕ) (a n : ℕ) → ((i : ℕ) → a ≤ i → f i ≡ []) → map f (range_with_len a n) ≡ replicate n []
-empty_pieces f a zero none = refl
-empty_pieces f a (suc n) none = grind (arith, empty_pieces f (a + 1) n (λ i from. none i (omega arith)))
+pub map_parts : (f : ℕ → List ℕ) (a p k : ℕ) → map f (range_with_len a (p + k))
+    ≡ map f (range_with_len a p) ++ map f (range_with_len (a + p) k)
+map_parts f a zero k = let e : 0 + k ≡ k = omega arith in let at : a + 0 ≡ a = omega arith in rw (e, at) refl
+map_parts f a (suc p) k = let e : suc p + k ≡ suc (p + k) = omega arith in
+    let at : a + suc p ≡ a + 1 + p = omega arith in rw (e, at, map_parts f (a + 1) p k) refl
 
 -- Where a text stands
 
@@ -132,15 +114,8 @@ module _ (chunks : Chunks) (size : ℕ) where
       → HaveEnded chunks size x place → before_chunk chunks size (place + 1) x ≡ x
   before_next x place some within is = grind (arith, begun_all, begun_long)
 
-  -- a text that has no more than its size, cut up before a place
-  abbrev pub cut_before : List ℕ → ℕ → CutUp
-  cut_before x place = record {
-    full = map (chunk_at chunks size x) (range_with_len 0 place);
-    rest = drop (length (before_chunk chunks size place x)) x;
-  }
-
   pub chunks_are : (x : List ℕ) {place : ℕ} → 0 < chunks.count → length x ≤ size
-      → HaveEnded chunks size x place → chunks_of chunks size x ≡ cut_before x place
+      → HaveEnded chunks size x place → chunks_of chunks size x ≡ cut_before chunks size x place
   chunks_are x some within is = grind (arith, common_steps, ended_only, before_next)
 
   pub full_stays : (place : ℕ) (x y : List ℕ) → length (x ++ y) ≤ size
@@ -150,49 +125,19 @@ module _ (chunks : Chunks) (size : ℕ) where
   full_stays place x y within reached = map_same _ _ 0 place (λ i from to. grind (arith, common_steps, before_stays))
 
   -- what stands before a place stands before a later place
-  before_later : (x : List ℕ) (place other : ℕ) → place ≤ other
+  pub before_later : (x : List ℕ) (place other : ℕ) → place ≤ other
       → before_chunk chunks size place x ≡ x → before_chunk chunks size other x ≡ x
-  before_later x place other within all = let (more, is) = before_grows x place other within in
-      grind (arith, common_steps, begun_within chunks.unit chunks.delim (chunk_start chunks.count size other) x)
+  before_later x place other within all = begun_later chunks.unit chunks.delim x (start_grows _ _ _ _ within) all
 
   -- a chunk has nothing if all that came in stands before it
   pub chunk_none : (x : List ℕ) (place : ℕ) → before_chunk chunks size place x ≡ x → chunk_at chunks size x place ≡ []
   chunk_none x place all = grind (arith, common_steps, before_later, drop_all)
 
-  -- if further chunks end in a longer text, the chunk that was begun has its rest and what follows
-  pub fulls_on : (x y : List ℕ) (more : ℕ) → length (x ++ y) ≤ size
-      → ended chunks size x + suc more ≡ ended chunks size (x ++ y)
-      → let f = chunk_at chunks size (x ++ y) in let place = ended chunks size x in
-      (chunks_within chunks size (x ++ y)).full
-      ≡ (chunks_within chunks size x).full ++ f place ∷ map f (range_with_len (place + 1) more)
-  fulls_on x y more within ends = grind (arith, common_steps, map_parts, full_stays, ended_is)
-
+  -- if a text goes on with the chunk that was begun, so does its rest
   pub rest_on : (x y z : List ℕ) → 0 < chunks.count → length (x ++ y) ≤ size
       → before_chunk chunks size (ended chunks size x + 1) (x ++ y) ≡ x ++ z
       → chunk_at chunks size (x ++ y) (ended chunks size x) ≡ (chunks_within chunks size x).rest ++ z
   rest_on x y z some within all = grind (arith, common_steps, before_stays, before_next, ended_is, begun_within)
-
-  -- if no further chunk ends in a longer text, all that follows goes with the chunk that was begun
-  pub goes_on : (x y : List ℕ) → 0 < chunks.count → length (x ++ y) ≤ size
-      → ended chunks size (x ++ y) ≡ ended chunks size x → chunks_of chunks size (x ++ y)
-      ≡ record { full = (chunks_of chunks size x).full; rest = (chunks_of chunks size x).rest ++ y }
-  goes_on x y some within same = grind (arith, common_steps, full_stays, rest_on, before_next, ended_is)
-
-  -- if all that follows goes with the chunk that was begun, and this chunk ends with it, further chunks that end have
-  -- nothing
-  pub ends_here : (x y : List ℕ) (more : ℕ) → 0 < chunks.count → length (x ++ y) ≤ size
-      → before_chunk chunks size (ended chunks size x + 1) (x ++ y) ≡ x ++ y
-      → ended chunks size x + suc more ≡ ended chunks size (x ++ y) → chunks_of chunks size (x ++ y) ≡ record {
-        full = (chunks_of chunks size x).full ++ ((chunks_of chunks size x).rest ++ y) ∷ replicate more [];
-        rest = [];
-      }
-  ends_here x y more some within all ends =
-      let later : (i : ℕ) → ended chunks size x + 1 ≤ i → chunk_at chunks size (x ++ y) i ≡ [] =
-      λ i from. chunk_none _ i (before_later _ _ i from all) in
-      let full = fulls_on x y more within ends in let rest = rest_on x y y some within all in
-      let none = empty_pieces (chunk_at chunks size (x ++ y)) (ended chunks size x + 1) more later in
-      let last = later (ended chunks size (x ++ y)) (omega arith) in
-      rw (take_all size (x ++ y) within, take_all size x (omega (arith, length-append x y))) (cc)
 
   -- All chunks together
 

@@ -1,13 +1,5 @@
 -- Laws that traits cite: those of the work on chunks, and on dealt lines of which those for one file are written.
-use Rattle.std.{
-  proofs.{
-    lemmas.{Grind.common_steps, Bool.cases_lt},
-    lemmas.List.{append-nil, append_assoc, map-append, Elements.filter-append, FromFn.length-map-range_with_len},
-    Common.{◌≡◌, ℕ, ◌+◌, ◌-◌, ◌<◌, ◌≤◌, max, zero, suc, eqb, Bool, true, false, List, [], ◌∷◌, ◌++◌, length},
-    Common.{take, map, get_or, Option, Some, None, inl, inr, refl, sym, arith},
-  },
-  specs.List.range_with_len,
-}
+use Rattle.std.{proofs.{lemmas.{Grind.common_steps}, lemmas.List.{append-nil, append_assoc, map-append, Elements.filter-append, FromFn.length-map-range_with_len}, Common.{◌≡◌, ℕ, ◌+◌, ◌-◌, ◌<◌, ◌≤◌, max, zero, suc, eqb, Bool, true, false, List, [], ◌∷◌, ◌++◌, length}, Common.{take, map, get_or, Option, Some, None, refl, sym, arith}}, specs.List.range_with_len}
 use Rattle.seg_core.specs.declared.{cut.Chunks.Chunks, unit.Unit.TheVariants.Bytes}
 use Rattle.ports_core.{
   specs.{Draft.shares_of, Part.IsBeginning, Work.{IsComplete, IsLawful}, inner.Shares.SharesBegin},
@@ -22,7 +14,7 @@ use Rattle.split_core.specs.{
   inner.Chunks.{BeginsFirst, GoesOn},
   laws.{
     BegunLaws.begun_grows,
-    ChunkLaws.{before_next, cut_all, decided_grows, ended_after, ended_is, ended_grows, full_stays, fulls_on},
+    ChunkLaws.{before_next, cut_all, decided_grows, ended_after, ended_is, ended_grows, full_stays, map_parts},
     ChunkLaws.{rest_on, passed_grows, rest_none, start_first},
     DealLaws.dealt_append,
     ShareLaws.part_begins,
@@ -31,25 +23,24 @@ use Rattle.split_core.specs.{
 
 -- A text that is cut up goes on
 
+-- what begins a chunk begins the first of more chunks, or the last
+begins_on : (f : ℕ → List ℕ) (a n : ℕ) (low : List ℕ) → IsBeginning low (f a)
+    → BeginsFirst low (map f (range_with_len a n)) (f (a + n))
+begins_on f a zero low begins = let e : a + 0 ≡ a = omega arith in rw e begins
+begins_on f a (suc n) low begins = begins
+
 module _ (chunks : Chunks) (size : ℕ) where
   goes_within : (x y : List ℕ) → 0 < chunks.count → length (x ++ y) ≤ size
       → GoesOn (chunks_within chunks size x) (chunks_within chunks size (x ++ y))
-  goes_within x y some within = elim (cases_lt (ended chunks size x) (ended chunks size (x ++ y))) [
-    | inl less ↦ record {
-      more = _;
-      full = fulls_on _ _ x y (ended chunks size (x ++ y) - ended chunks size x - 1) within (omega arith);
-      rest = begins;
-    }
-    | inr same ↦ (let e : ended chunks size (x ++ y) ≡ ended chunks size x = omega (arith, ended_grows) in record {
-      more = [];
-      full = grind (arith, full_stays, ended_is, append-nil);
-      rest = rw e begins;
-    })
-  ] where
-    begins : IsBeginning (chunks_within chunks size x).rest (chunk_at chunks size (x ++ y) (ended chunks size x))
-    begins = let end = chunk_start chunks.count size (ended chunks size x + 1) in
-        let (rest, on) = begun_grows chunks.unit chunks.delim end x y in
-        (rest, rest_on chunks size x y rest some within (grind (arith, common_steps, before_next, ended_is)))
+  goes_within x y some within =
+      let place = ended chunks size x in let more = ended chunks size (x ++ y) - place in
+      let f = chunk_at chunks size (x ++ y) in let all : place + more ≡ ended chunks size (x ++ y) = omega (arith, ended_grows) in
+      let (rest, on) = begun_grows chunks.unit chunks.delim (chunk_start chunks.count size (place + 1)) x y in record {
+        more = map f (range_with_len place more);
+        full = grind (arith, map_parts f 0 place more, full_stays, ended_is);
+        rest = rw all at (begins_on f place more (chunks_within chunks size x).rest
+            (rest, rest_on chunks size x y rest some within (grind (arith, common_steps, before_next, ended_is))));
+      }
 
   -- the pieces of a longer text go on from those of the text
   pub chunks_go_on : (x y : List ℕ) → 0 < chunks.count

@@ -13,12 +13,10 @@ places-preserved g c = ends_next c.requires.whole c.places.invariant (omega arit
 pub returns-in_err-next : goal.returns-in_err-next
 returns-in_err-next g c = rw (handed_on _ _ c.from_residual.ensures.1)
     (ends_stopped c.requires.whole c.places.invariant (omega arith)
-    (omega arith) refl refl refl c.in_err-next.ensures.changes)
+    (omega arith) refl refl c.in_err-next.ensures.changes)
 
 pub returns-else-chunk_start-self : goal.returns-else-chunk_start-self
-returns-else-chunk_start-self g c = ends_so c.requires.whole c.places.invariant
-    (λ less. omega arith)
+returns-else-chunk_start-self g c = ends_so c.places.invariant (λ less. omega arith)
 
 pub returns-after-places : goal.returns-after-places
-returns-after-places g c = ends_so c.requires.whole c.places.invariant
-    (λ less. absurd (omega arith))
+returns-after-places g c = ends_so c.places.invariant (λ less. absurd (omega arith))
