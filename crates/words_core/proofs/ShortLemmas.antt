@@ -111,7 +111,8 @@ module _ {A : Type 0} (values : List (List ℕ × A)) (own : Kind → Kind) (bad
   found_so (row ∷ rows) name =
       both_ways (λ own one. own ≡ option_map own_takes one) (is_among row.names name) refl (found_so rows name)
 
-  begun_so : (start : List ℕ) (rows : List OptionRow) → beginning start (own_rows rows) ≡ own_rows (beginning start rows)
+  begun_so : (start : List ℕ) (rows : List OptionRow)
+      → beginning start (own_rows rows) ≡ own_rows (beginning start rows)
   begun_so start [] = refl
   begun_so start (row ∷ rows) = both_ways (λ own one. own ≡ own_rows one) (begins_one start row.names)
       (ap (λ rows. own_row row ∷ rows) (begun_so start rows)) (begun_so start rows)
@@ -178,7 +179,8 @@ module _ {A : Type 0} (values : List (List ℕ × A)) (own : Kind → Kind) (bad
         (inl (cluster_so place (next ∷ rest)))) (inl refl)
 
     meaning_so : (state : State) (place : ℕ) (word : List ℕ) (words : List (List ℕ))
-        → SpellAlike place (word ∷ words) (meaning_of (own_rows rows) state place word) (meaning_of rows state place word)
+        → SpellAlike place (word ∷ words) (meaning_of (own_rows rows) state place word)
+        (meaning_of rows state place word)
     unfolding foremost
     meaning_so (First calling kind letters) place [] words = inl refl
     meaning_so (First calling kind letters) place (byte ∷ text) words =

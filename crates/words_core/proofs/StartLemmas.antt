@@ -82,7 +82,8 @@ module _ (calling : Calling) (digits letters : List ℕ) (amount : ℕ) {given :
   is : HasParts (digits ++ letters) digits letters
   is = parts digits letters both.1 fit.0
 
-  asked_so : (sign : Sign) → with_letters (tail_table calling) sign 1 (digits ++ letters) ≡ asks sign letters amount given
+  asked_so : (sign : Sign)
+      → with_letters (tail_table calling) sign 1 (digits ++ letters) ≡ asks sign letters amount given
   asked_so sign = rw (is.0, is.1, not_empty digits number, many, sized_so sign amount most, fit.3) refl
 
   pub letters_start : calling ≡ OwnName

@@ -31,7 +31,8 @@ abbrev Alike : {A B : Type 0} → List (List ℕ × A) → UsageKind → List (L
 Alike values bad words own cutters = (own ≡ cutters)
     ⊎ ((place : ℕ) × (cutters ≡ Err (Usage bad place)) × HasShortValue values (word_at words place))
 
-tail_alike : (words : List (List ℕ)) (own cutters : Result Given Fault) → Alike follow_values BadFollow words own cutters
+tail_alike : (words : List (List ℕ)) (own cutters : Result Given Fault)
+    → Alike follow_values BadFollow words own cutters
     → (then_check own (settings_for OwnName tool.Tail) ≡ then_check cutters (settings_for Cutters tool.Tail))
     ⊎ ((then_check cutters (settings_for Cutters tool.Tail) ≡ Err (Usage BadFollow 0))
     ⊎ ((place : ℕ) × (then_check cutters (settings_for Cutters tool.Tail) ≡ Err (Usage BadFollow place))
@@ -43,7 +44,8 @@ tail_alike words own cutters (inl same) = elim (own_tail cutters) [
 tail_alike words own cutters (inr (place, bad, short)) =
     inr (inr (place, ap (λ given. then_check given (settings_for Cutters tool.Tail)) bad, short))
 
-tee_alike : (words : List (List ℕ)) (own cutters : Result Given Fault) → Alike on_broken_values BadMode words own cutters
+tee_alike : (words : List (List ℕ)) (own cutters : Result Given Fault)
+    → Alike on_broken_values BadMode words own cutters
     → say_nothing cutters ≡ false
     → Alike on_broken_values BadMode words (then_check own (settings_for OwnName tool.Tee))
     (then_check cutters (settings_for Cutters tool.Tee))

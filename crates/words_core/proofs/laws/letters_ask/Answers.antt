@@ -61,7 +61,8 @@ module _ (rows : List OptionRow) where
   abbrev Each : ℕ → Type 0
   Each letter = (is_ascii_digit letter ≡ false) × IsKnown letter
 
-  known : (letter : ℕ) (unit : Bool) (option : Option Takes) → is_unit letter ≡ unit → option_lettered rows letter ≡ option
+  known : (letter : ℕ) (unit : Bool) (option : Option Takes)
+      → is_unit letter ≡ unit → option_lettered rows letter ≡ option
       → (unit || is_some (switched option)) ≡ true → (is_some (switched option) ≡ true → IsSafe letter)
       → Each letter
   known letter true option unit found is safe = (unit_is_no_digit letter unit, inl unit)
@@ -74,8 +75,9 @@ module _ (rows : List OptionRow) where
   known_so letter (inr (choice, is)) = rw (is.named, is.alone) (or-true (is_unit letter))
 
   -- known letters after the digits of a text
-  has_letters : ((letter : ℕ) → is_some (switched (option_lettered rows letter)) ≡ true → IsSafe letter) → (text : List ℕ)
-      → are_known rows (after_digits text) ≡ true → HasLetters rows text (leading_digits text) (after_digits text)
+  has_letters : ((letter : ℕ) → is_some (switched (option_lettered rows letter)) ≡ true → IsSafe letter)
+      → (text : List ℕ) → are_known rows (after_digits text) ≡ true
+      → HasLetters rows text (leading_digits text) (after_digits text)
   has_letters safe text is =
       let (all, few) = and_parts (list_all (is_known rows) (after_digits text)) _ is in
       let each = All-weaker (λ letter. is_known rows letter ≡ true) Each
