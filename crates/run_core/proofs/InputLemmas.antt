@@ -626,7 +626,8 @@ took_standard {told_in} {told} {task} {most} {is_first} {failed} was_read laid n
 
 -- a name that could not be opened: it is passed over with a message
 
-pub of_missing : {told_in told : Bool} {task : Task} {most : ℕ} {is_first failed was_read : Bool} {laid : ℕ → List ℕ → Option Content} {name : List ℕ} {sources after : List Source}
+pub of_missing : {told_in told : Bool} {task : Task} {most : ℕ} {is_first failed was_read : Bool}
+    {laid : ℕ → List ℕ → Option Content} {name : List ℕ} {sources after : List Source}
     {fault : Fault} {slot : ℕ} {so_far : Part} {error : Slot} {old new : List Slot} → is_dash name ≡ false
     → OpensNothing told_in laid sources after name fault → fault ≡ Open slot
     → OutputsAt told (streams_with error) so_far old

@@ -456,7 +456,8 @@ spreads_end {code} {closures} {new = new} s z c l eb el begun = spreads_out (add
 
 -- the first numbers lead to no more there
 pub plain_more : (code : List Node) {count : ℕ} {read : Node} → read ≡ get_or code count read → count < length code
-    → ((at_first at_last : Bool) (from to : ℕ) → LeadsOn read at_first at_last from to → LeadsOn read false false from to)
+    → ((at_first at_last : Bool) (from to : ℕ) → LeadsOn read at_first at_last from to
+    → LeadsOn read false false from to)
     → ((number : ℕ) → number < count → IsPlain code number) → (number : ℕ) → number < count + 1 → IsPlain code number
 plain_more code {count} {read} e inside plain before number h at_first at_last to f = elim (cases_eq number count) [
   | inl same ↦

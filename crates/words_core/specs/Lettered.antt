@@ -47,6 +47,7 @@ times sign digits each = counted (sized sign ((if length digits == 0 then 10 els
 -- The letters that may follow the digits. Each stands for a unit or names an option that may stand without a value, and
 -- at most one stands for a unit.
 
+-- what an option asks for, if it may stand without a value
 abbrev pub switched : Option Takes → Option Choice
 switched None = None
 switched (Some takes) = alone takes
@@ -66,10 +67,12 @@ are_of_tail letters = is_among
 abbrev pub without_digits : List (List ℕ)
 without_digits = codes "b" ∷ codes "bf" ∷ codes "l" ∷ codes "lf" ∷ []
 
+-- whether a text begins with a digit
 abbrev pub has_digits : List ℕ → Bool
 has_digits text = nat_lt 0 (length (leading_digits text))
 
--- what a tool takes: `head` a text with digits, `tail` its own letters after digits, and some without digits
+-- Whether digits and letters are of a form that the tool takes: for `head` there are digits; for `tail` the letters are its
+-- own, and there are digits or the text is one of `without_digits`.
 abbrev pub is_taken : Letters → List ℕ → Bool
 is_taken Never text = false
 is_taken OfHead text = has_digits text

@@ -111,6 +111,7 @@ mixed rows place (byte ∷ next ∷ rest) =
 -- A number with letters gives a count, and then what its other letters give after a hyphen. `-5cq` gives what `-c 5 -q`
 -- gives.
 
+-- the count, and then what else is given; or the fault of the count
 abbrev pub counted_with : ℕ → Measured → Result Count UsageKind → Result Meaning Fault → Result Meaning Fault
 counted_with place unit (Ok count) more = before (one_option (Amount unit count) place) more
 counted_with place unit (Err fault) more = Err (Usage fault place)

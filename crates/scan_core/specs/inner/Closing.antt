@@ -17,7 +17,7 @@ pub record Closer (code : List Node) (hops : Hops) (old new : List ℕ) (over : 
   pub fuller : unset new ≤ unset old
   pub less : (over ≡ 0 → ⊥) → unset new < unset old
 
--- what a hop leads to from a set is in another
+-- where this hop leads from a number of `old` is in `new`
 abbrev pub IsFollowed : List ℕ → List ℕ → Hop → Type 0
 IsFollowed old new hop = (bit : ℕ) → bit < 64 → bit_at hop.from bit ≡ 1 → IsIn old (hop.at * 64 + bit)
     → IsIn new (end_of hop)
@@ -28,7 +28,7 @@ pub record Follows (code : List Node) (closures : Closures) (hop : Hop) (old new
   pub followed : IsFollowed old new hop
   pub settled : over ≡ 0 → (number : ℕ) → IsIn new number → IsIn old number
 
--- the first hops to numbers that lead on were followed; if `over` is 0, no number is new
+-- the first `count` hops were followed; if `over` is 0, the set has all that these hops lead to from it
 pub record FollowsFirst (code : List Node) (closures : Closures) (old new : List ℕ) (count over : ℕ) : Type 0 where
   pub closer : Closer code closures.hops old new over
   pub done : over ≡ 0 → (place : ℕ) → place < count
