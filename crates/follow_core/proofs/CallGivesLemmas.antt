@@ -11,9 +11,9 @@ use Rattle.ports_core.{
 }
 use Rattle.follow_core.specs.{
   Sharing.{CameTo, CanPrint},
-  Printing.{PrinterState, broke as short_broke, no_room},
+  Printing.{broke as short_broke, no_room},
   declared.{visitor.Stop.{Stop, TheVariants.{Broke, Over}}},
-  inner.Giving.{Are, ArePut, BrokeAt, ByStop, Came, CanGoOn, Copies, Follows, Gives, Keeps, Moment, Puts, Sight},
+  inner.Giving.{Are, ArePut, BrokeAt, ByStop, Came, CanGoOn, Copies, Follows, Gives, Keeps, Moment, Pen, Puts, Sight},
   inner.Giving.{fault_by, over_by},
   inner.Visits.KeepsOthers,
   Reading.{AreRead, IsLong, Saw, none_read, one_more, read_all, read_part, read_some},
@@ -113,10 +113,9 @@ module _ {told : Bool} {Is : Option Fate → List Event → Type 0} {name : List
 
 -- Bytes that were written are one event.
 
-one_event : {told opened : Bool} {printer after : PrinterState} {name bytes : List ℕ} {old new : List Slot}
-    {over : Option Fault} → Came told printer opened name bytes [] old after new over
-    → Came told printer opened name (bytes_in (gives bytes ∷ [])) [] old after new over
-one_event {bytes} came = rw (append-nil bytes) came
+one_event : {told opened : Bool} {name bytes : List ℕ} {old new : Pen} {over : Option Fault}
+    → Came told opened name bytes [] old new over → Came told opened name (bytes_in (gives bytes ∷ [])) [] old new over
+one_event {bytes = bytes} came = rw (append-nil bytes) came
 
 -- A header alone is no event.
 
@@ -126,7 +125,7 @@ none_put (Some why) {bytes = []} is = refl
 none_put (Some why) {bytes = byte ∷ bytes} (rest, is) = absurd (cc)
 
 pub header_only : {told is_opened : Bool} {name : List ℕ} {old new : Moment} (over : Option Fault)
-    → Puts told is_opened old.printer name [] old.slots new.printer new.slots over
+    → Puts told is_opened name [] old.pen new.pen over
     → Gives told (Are []) sound is_opened name old new (option_map Over over)
 header_only None put = record { events = []; given = refl; came = rw (none_put None put.are) at put.came }
 header_only (Some why) put =
@@ -154,7 +153,7 @@ read_saw snapshot known {at} {n} {old} {new} few long room gave found = (
 pub record Copied (see : Sight) (known : Watched) (from : ℕ) (name : List ℕ) (old new : Moment) (at : ℕ)
     (over : Option Fault) : Type 0 where
   pub bytes : List ℕ
-  pub puts : Puts see.told false old.printer name bytes old.slots new.printer new.slots over
+  pub puts : Puts see.told false name bytes old.pen new.pen over
   pub read : AreRead see.told_in see.snapshot known.name known.opened from bytes at
 
 module _ {see : Sight} {known : Watched} {from : ℕ} {name : List ℕ} {old : Moment} where
@@ -167,7 +166,7 @@ module _ {see : Sight} {known : Watched} {from : ℕ} {name : List ℕ} {old : M
       → (see.told_in ≡ true → GaveFrom (open_contents see.snapshot known) at read_old read_new n)
       → Found see.snapshot known.name (reads_as known.opened at (take n read_new))
       → Copied see known from name old mid at None
-      → Puts see.told false mid.printer name (take n (read_new ++ tail)) mid.slots new.printer new.slots over
+      → Puts see.told false name (take n (read_new ++ tail)) mid.pen new.pen over
       → Copied see known from name old new (at + n) over
   copied_more {n = n} {read_new = read_new} tail few long room gave found so_far put = record {
     bytes = so_far.bytes ++ take n (read_new ++ tail);
@@ -187,24 +186,23 @@ use_after told text output error others new (Some (Broke why)) is can = search r
 use_after told text output error others new (Some (Over why)) (short_broke n part) can = grind (arith, common_steps)
 use_after told text output error others new (Some (Over why)) (no_room n within is) can = grind (arith, common_steps)
 
-came_can : {told is_opened : Bool} {printer after : PrinterState} {name bytes : List ℕ} {lines : List (List ℕ)}
-    {old new : List Slot} (stop : Option Stop)
-    → Came told printer is_opened name bytes lines old after new (over_by stop) → CanPrint old → CanGoOn stop new
-came_can {old = []} stop came can = search rules
-came_can {old = output ∷ []} stop came can = search rules
-came_can {told} {lines = lines} {old = output ∷ error ∷ others} stop came can =
-    let (last, said, text) = came.slots output error others refl in
-    use_after told _ _ _ _ _ stop text (can.0, ap is_open (tells_state told _ lines error last said) ∙ can.1)
+came_can : {told is_opened : Bool} {name bytes : List ℕ} {lines : List (List ℕ)} {old new : Pen} (stop : Option Stop)
+    → Came told is_opened name bytes lines old new (over_by stop) → CanPrint old.slots → CanGoOn stop new.slots
+came_can {told} {lines = lines} {old = old} {new} stop came can = by old.slots refl can where
+  by : (slots : List Slot) → old.slots ≡ slots → CanPrint slots → CanGoOn stop new.slots
+  by [] is can = search rules
+  by (output ∷ []) is can = search rules
+  by (output ∷ error ∷ others) is can = let (last, said, text) = came.slots output error others is in
+      use_after told _ _ _ _ _ stop text (can.0, ap is_open (tells_state told _ lines error last said) ∙ can.1)
 
-pub puts_can : {told is_opened : Bool} {printer after : PrinterState} {name due : List ℕ} {old new : List Slot}
-    (over : Option Fault) → Puts told is_opened printer name due old after new over → CanPrint old
-    → CanGoOn (option_map Over over) new
+pub puts_can : {told is_opened : Bool} {name due : List ℕ} {old new : Pen} (over : Option Fault)
+    → Puts told is_opened name due old new over → CanPrint old.slots → CanGoOn (option_map Over over) new.slots
 puts_can None put can = came_can None put.came can
 puts_can (Some why) put can = came_can (Some (Over why)) put.came can
 
 pub ends_can : {told is_opened : Bool} {Is : Option Fate → List Event → Type 0} {fate : Fate} {name : List ℕ}
-    {old new : Moment} {stop : Option Stop} → Gives told Is fate is_opened name old new stop → CanPrint old.slots
-    → CanGoOn stop new.slots
+    {old new : Moment} {stop : Option Stop} → Gives told Is fate is_opened name old new stop → CanPrint old.pen.slots
+    → CanGoOn stop new.pen.slots
 ends_can {stop = stop} ends can = came_can stop ends.came can
 
 pub opens_same : (names : List Watched) (place : ℕ)

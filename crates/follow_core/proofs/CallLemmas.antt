@@ -18,7 +18,7 @@ use Rattle.follow_core.specs.{
   Telling.{IsFailure, SaysFailure, Tells, TellsAll, failure_message, failure_text, tail_by},
   Followed.{has_header, is_empty, is_last},
   Printing.{PrinterState, Short, broke as short_broke, no_room},
-  inner.Giving.{IsFront, Came, Puts, printer_under, text_under},
+  inner.Giving.{IsFront, Came, Pen, Puts, printer_under, text_under},
   Notice.notice_of,
   Title.title,
   declared.notice.Notice.Notice,
@@ -150,47 +150,42 @@ wrote_after told calling text more lines further {old} new over same also first 
 
 -- What is given in two steps.
 
-pub came_none : {told : Bool} {printer : PrinterState} {name : List ℕ} {slots : List Slot}
-    → Came told printer false name [] [] slots printer slots None
-came_none {told} {printer} = search rules
+pub came_none : {told : Bool} {name : List ℕ} {now : Pen} → Came told false name [] [] now now None
+came_none {told} {now = now} = search rules
 
-pub came_after : {told opened : Bool} {printer mid after : PrinterState} {name first second : List ℕ}
-    {lines more : List (List ℕ)} {old now new : List Slot} {over : Option Fault}
-    → Came told printer opened name first lines old mid now None
-    → Came told mid false name second more now after new over
-    → Came told printer opened name (first ++ second) (lines ++ more) old after new over
-came_after {opened} {printer} {name} {first} {second} {over} one two =
-    let (text, last) = in_two printer opened name first second in record {
+pub came_after : {told opened : Bool} {name first second : List ℕ} {lines more : List (List ℕ)} {old mid new : Pen}
+    {over : Option Fault} → Came told opened name first lines old mid None
+    → Came told false name second more mid new over
+    → Came told opened name (first ++ second) (lines ++ more) old new over
+came_after {opened = opened} {name} {first} {second} {old = old} {over = over} one two =
+    let (text, last) = in_two old.printer opened name first second in record {
       printer_is = λ none. rw (two.printer_is none, one.printer_is refl) last;
       slots = wrote_after _ _ _ _ _ _ _ over text refl one.slots (rw (one.printer_is refl) at two.slots);
     }
 
 -- Bytes that are written.
 
-pub puts_after : {told opened : Bool} {printer mid after : PrinterState} {name first second : List ℕ}
-    {old now new : List Slot} {over : Option Fault}
-    → Puts told opened printer name first old mid now None → Puts told false mid name second now after new over
-    → Puts told opened printer name (first ++ second) old after new over
-puts_after {second} {over} one two = record {
+pub puts_after : {told opened : Bool} {name first second : List ℕ} {old mid new : Pen} {over : Option Fault}
+    → Puts told opened name first old mid None → Puts told false name second mid new over
+    → Puts told opened name (first ++ second) old new over
+puts_after {second = second} {over = over} one two = record {
   bytes = one.bytes ++ two.bytes;
   are = grind (arith, common_steps, one.are, two.are, append_assoc);
   came = came_after one.came two.came;
 }
 
-pub puts_nothing : {told : Bool} {printer : PrinterState} {name : List ℕ} {slots : List Slot}
-    → Puts told false printer name [] slots printer slots None
+pub puts_nothing : {told : Bool} {name : List ℕ} {now : Pen} → Puts told false name [] now now None
 puts_nothing = record { bytes = []; are = refl; came = came_none }
 
 pub front_same : {X : Type 0} {given due : List X} → given ≡ due → IsFront given due
 front_same {X} {given} is = search rules
 
 -- bytes were written under the header that was due, or a beginning of both
-pub puts : {told opened : Bool} {printer : PrinterState} {after : PrinterState} {name bytes : List ℕ}
-    {old mid new : List Slot} {due : Bool} (over : Option Fault)
-    → due ≡ has_header printer.headers printer.last opened name bytes
-    → mid ≡ with_written 0 (told_of told (if due then header_of (title name) (is_none printer.last) else [])) old
-    → CameTo told bytes mid new over
-    → after ≡ record printer { last = if due then Some name else printer.last }
-    → Puts told opened printer name bytes old after new over
-puts {told} {opened} {printer} {after} {name} {bytes} {old} {new} over is header came shown = grind
+pub puts : {told opened : Bool} {name bytes : List ℕ} {old new : Pen} {mid : List Slot} {due : Bool}
+    (over : Option Fault) → due ≡ has_header old.printer.headers old.printer.last opened name bytes
+    → mid ≡ with_written 0 (told_of told (if due then header_of (title name) (is_none old.printer.last) else []))
+    old.slots → CameTo told bytes mid new.slots over
+    → new.printer ≡ record old.printer { last = if due then Some name else old.printer.last }
+    → Puts told opened name bytes old new over
+puts {told} {opened} {name} {bytes} {old} {new} over is header came shown = grind
     (arith, common_steps, wrote_text, text_after, front_same)

@@ -1,16 +1,16 @@
 -- Lemmas on what a call on a name gives: what came to the open file, and where the name leads.
 use Rattle.std.proofs.{
   lemmas.{Grind.common_steps, Bool.{false≢true, eqb-true}},
-  Common.{◌≡◌, ℕ, Bool, List, [], ◌∷◌, inr, inl, ◌∙◌, ap, subst, true, false, Some, None, Option, refl, sym, arith},
+  Common.{◌≡◌, ◌⊎◌, ℕ, Bool, List, [], ◌∷◌, inr, inl, ◌∙◌, ap, subst, true, false, Some, None, Option, refl, sym, arith},
   Common.{Result, Ok, Err, IsTrue, IfOk, option_map},
 }
 use Rattle.follow_core.specs.{
-  inner.Giving.{Adds, Are, Follows, Gives, Keeps, Leads, Moment, Sight, moment, stop_in},
+  inner.Giving.{Adds, Are, Follows, Gives, Keeps, Leads, Moment, Sight, stop_in},
   declared.{visitor.Stop.{Stop}, notice.Notice.Notice},
   Event.{change_between, notes},
   Look.{Fate, sound},
   Version.open_after_look,
-  Reading.{Changed, IsLong, Later, LeftOpen, Saw, came_all, came_early, not_asked, opened_there, unchanged},
+  Reading.{Changed, IsLong, Later, Saw, came_all, came_early, not_asked, opened_there, unchanged},
 }
 use Rattle.follow_core.proofs.CallGivesLemmas.{
   follows_from,
@@ -54,7 +54,7 @@ change_seen snapshot {old} place {found = found} is opened same finds seen = (
 
 -- what is known of a name whether or not names are followed; that it leads nowhere is known only if they are
 pub long_by : {told : Bool} (snapshot : Snapshot) {name : List ℕ} (held : ℕ) {by_name : Bool} (opened : Option ℕ)
-    → (opened ≡ None → by_name ≡ true → LeftOpen told snapshot name None 0)
+    → (opened ≡ None → by_name ≡ true → Saw told snapshot name (leads_to None) ⊎ Saw told snapshot name (opens_as None))
     → IsLong told false snapshot name opened held → IsLong told by_name snapshot name opened held
 long_by snapshot held None lost long = lost refl
 long_by snapshot held (Some file) lost long = long
@@ -64,7 +64,7 @@ long_by snapshot held (Some file) lost long = long
 module _ {see : Sight} {place : ℕ} {name : List ℕ} {position : ℕ} {old : Moment} {watched : List Watched} where
   -- names aren't followed
   leads_not : {by_name : Bool} → by_name ≡ false → watched ≡ old.watched
-      → Leads see by_name place name position old (moment watched old.printer old.slots) (Ok position)
+      → Leads see by_name place name position old (record old { watched = watched }) (Ok position)
   leads_not by same = record {
     fate = sound;
     ends = gives_none sound (not_asked by);
@@ -76,7 +76,7 @@ module _ {see : Sight} {place : ℕ} {name : List ℕ} {position : ℕ} {old : M
   pub leads_same : {led : Option ℕ} → (watched_at old.watched place).name ≡ name
       → Saw see.told_in see.snapshot (watched_at old.watched place).name (leads_to led)
       → change_between (watched_at old.watched place).opened led ≡ None → watched ≡ old.watched
-      → Leads see true place name position old (moment watched old.printer old.slots) (Ok position)
+      → Leads see true place name position old (record old { watched = watched }) (Ok position)
   leads_same {led = led} named saw none same = record {
     fate = sound;
     ends = gives_none sound (unchanged refl saw none);

@@ -164,7 +164,7 @@ pub visited_short : {see : Sight} {ways : Ways} {looks : List Look} {now : List 
     → VisitedTo see ways looks place now old mid before → length new.watched ≡ ways.first + length now
     → (whole part : List Share) × Begun see.told_in ways (texts now) looks see.snapshot new.watched whole part
     × (printed : PrinterState) × (reached : List Slot)
-    × AllShared see.told old.printer whole old.slots printed reached × AllShort see.told printed part reached new.slots why
+    × AllShared see.told old.pen.printer whole old.pen.slots printed reached × AllShort see.told printed part reached new.pen.slots why
 visited_short {see} {ways} {looks} {now} {place = place} {mid = mid} {new} {why = why} within visits sofar many = (
   sofar.shares,
   stopped.1.share ∷ [],
@@ -172,8 +172,8 @@ visited_short {see} {ways} {looks} {now} {place = place} {mid = mid} {new} {why 
       (omega (arith, many, size), λ above. omega (arith, many, size), λ other inside. still other (omega (arith, inside, many, size)))
       (sofar.found sofar.fates front) (rw (text_there now within) stopped.1.found)
       (λ t. subst (BeginsShare stopped.1.share) (share_is t) (stopped.1.begins t sofar.fates)),
-  mid.printer,
-  mid.slots,
+  mid.pen.printer,
+  mid.pen.slots,
   sofar.shared,
   record { slots = rw (append-nil, append-nil) stopped.1.short.slots },
 ) where

@@ -15,7 +15,7 @@ use Rattle.follow_core.specs.{
   Version.{entries_led, held_at, open_after_later, open_after_look},
   Gain.gains_after,
   inner.{
-    Giving.{Are, BrokeAt, ByStop, Came, Follows, Gives, Moment, Shared, Sight, Starts, fault_by, is_read, moment},
+    Giving.{Are, BrokeAt, ByStop, Came, Follows, Gives, Moment, Pen, Shared, Sight, Starts, fault_by, is_read, moment},
     Giving.{stop_in, text_under},
     Visits.{Visits, TellsStop, Visited},
   },
@@ -68,16 +68,16 @@ pub record Looked (see : Sight) (ways : Ways) (before : List Look) (name : List 
   pub found : IsFound see.told_in ways before see.snapshot name fate share
       ⊎ IsMissing see.told_in before see.snapshot name fate share
   pub failed : is_some share.failure ≡ has_failed
-  pub shared : Shared see.told old.printer share old.slots new.printer new.slots None
+  pub shared : Shared see.told share old.pen new.pen None
 
 -- the message of a failure is written after what was given
-said_after : {told : Bool} {printer : PrinterState} {after : PrinterState} {opened : Bool} {name bytes line : List ℕ}
-    {lines : List (List ℕ)} {old mid new : List Slot}
-    → Came told printer opened name bytes lines old after mid None → OnError (Tells told printer.calling line) mid new
-    → Came told printer opened name bytes (lines ++ line ∷ []) old after new None
-said_after {printer} {opened} {name} {bytes} came says = record {
+said_after : {told opened : Bool} {name bytes line : List ℕ} {lines : List (List ℕ)} {old mid : Pen} {slots : List Slot}
+    → Came told opened name bytes lines old mid None
+    → OnError (Tells told old.printer.calling line) mid.slots slots
+    → Came told opened name bytes (lines ++ line ∷ []) old (record mid { slots = slots }) None
+said_after {opened = opened} {name} {bytes} {old = old} came says = record {
   printer_is = came.printer_is;
-  slots = wrote_after _ _ _ _ _ _ _ None (append-nil (text_under printer opened name bytes)) refl came.slots (wrote_line says);
+  slots = wrote_after _ _ _ _ _ _ _ None (append-nil (text_under old.printer opened name bytes)) refl came.slots (wrote_line says);
 }
 
 fault_line : (place : ℕ) (name : List ℕ) (fate : Fate) → is_some (failed_by fate None) ≡ true
@@ -178,8 +178,8 @@ module _ {see : Sight} {ways : Ways} {before : List Look} {name : List ℕ} {old
       (Some (Broke why)))
       → (see.told_in ≡ true → IsShown ways before see.snapshot name fate (Some (Broke why)) ends.events)
       → ((reason : Reason)
-      × SaysOn see.told (tail_by old.printer.calling) reason (failure_message why name) mid.slots slots)
-      → Looked see ways before name old (record mid { slots = slots }) true fate
+      × SaysOn see.told (tail_by old.pen.printer.calling) reason (failure_message why name) mid.pen.slots slots)
+      → Looked see ways before name old (record mid { pen = record mid.pen { slots = slots } }) true fate
   looked_broke place fate broke fault ends shown says =
       let line = fault_line place name fate broke in let (met, openly, can) = look_fits before ends.given in record {
         share = shared_as (is_first before) name ends.events (failure_of fate);
@@ -305,13 +305,13 @@ module _ {see : Sight} {ways : Ways} {place : ℕ} {one : NameState} {old new : 
       {result : Result Bool Fault} → (watched_at old.watched place).name ≡ one.text
       → IsTrue (is_watchable old.watched place) → Follows see.told_in led place old.watched new.watched fate (Some stop)
       → ((looks : List Look) → Stands see.told_in ways looks place one.text (watched_at old.watched place) one.standing
-      → Gave see ways looks place one.text led old (record new { slots = slots }) fate (Err stop))
-      → TellsStop see.told new.printer.calling one.text slots now new.slots stop result
+      → Gave see ways looks place one.text led old (record new { pen = record new.pen { slots = slots } }) fate (Err stop))
+      → TellsStop see.told new.pen.printer.calling one.text slots now new.pen.slots stop result
       → Visits see ways place one old now new result
   gave_fails {slots = slots} fate (Broke why) named can broke gave (tells, left, says) = rw (tells, left) (drops fate why named can broke (λ looks stands.
       let made = gave looks stands in (
         made.kept,
-        looked_broke {mid = record new { slots = slots }} place fate broke.broke broke.fault_is made.ends made.shown
+        looked_broke {mid = record new { pen = record new.pen { slots = slots } }} place fate broke.broke broke.fault_is made.ends made.shown
             (says.0, rw (made.ends.came.printer_is refl) at says.1),
         (look_fits looks made.ends.given).0,
       )))
@@ -345,9 +345,9 @@ pub first_missing : {see : Sight} {ways : Ways} {place : ℕ} {name : List ℕ} 
     {slots : List Slot} {is_there : Bool} {reason : Reason}
     → Reopens see.told_in see.snapshot old.watched watched place is_there → is_there ≡ false
     → (watched_at old.watched place).name ≡ name → IsTrue (is_watchable old.watched place)
-    → SaysOn see.told (tail_by old.printer.calling) reason (failure_message (Open place) name) old.slots slots
+    → SaysOn see.told (tail_by old.pen.printer.calling) reason (failure_message (Open place) name) old.pen.slots slots
     → Visits see ways place (record { text = name; standing = New }) old (if ways.by_name then Followed 0 else Left)
-    (moment watched old.printer slots) (Ok true)
+    (moment watched old.pen.printer slots) (Ok true)
 first_missing {see} {ways} {place} {name} {old} {watched} {slots} reopens gone named can says =
     visits_by _ (opens None) (rw none at reopens.names) can (ready ways.by_name) (λ there looks fresh. rw fresh.0
     (looked_visited sound refl looked (λ fates at. rw there (stands fates at ways.by_name refl)))) where
@@ -360,7 +360,7 @@ first_missing {see} {ways} {place} {name} {old} {watched} {slots} reopens gone n
       lost : Saw see.told_in see.snapshot name (opens_as None)
       lost = (rw (none, named) at reopens.opens, λ t. sym (nowhere t))
 
-      looked : Looked see ways [] name old (moment watched old.printer slots) true sound
+      looked : Looked see ways [] name old (moment watched old.pen.printer slots) true sound
       looked = record {
         share = missing_share name;
         is_share = λ is fates. grind (arith, common_steps, entries_first);
@@ -404,8 +404,8 @@ pub first_unopened : {see : Sight} {ways : Ways} {place : ℕ} {name : List ℕ}
     → (watched_at old.watched place).name ≡ name → IsTrue (is_watchable old.watched place)
     → why ≡ Open place → NameBreaks (λ file. broken.Open) place old.watched watched
     → see.snapshot.breaks (watched_at old.watched place).name ≡ true
-    → TellsStop see.told old.printer.calling name old.slots now slots (Broke why) result
-    → Visits see ways place (record { text = name; standing = New }) old now (moment watched old.printer slots) result
+    → TellsStop see.told old.pen.printer.calling name old.pen.slots now slots (Broke why) result
+    → Visits see ways place (record { text = name; standing = New }) old now (moment watched old.pen.printer slots) result
 first_unopened {place = place} {name} {why = why} named can is broke fails (tells, left, says) =
     rw (tells, left) (drops unopened why named can (broke_at (λ file. broken.Open) refl refl is broke)
     (λ looks fresh. rw fresh.0 (
@@ -431,10 +431,10 @@ first_unopened {place = place} {name} {why = why} named can is broke fails (tell
 -- the file was opened; its start part was given under its header, or what comes before a call that failed
 pub first_gave : {see : Sight} {ways : Ways} {place : ℕ} {name : List ℕ} {inside : PrinterState} {old new : Moment}
     {mid : List Watched} {is_there : Bool} {fate : Fate} {result : Result ℕ Stop}
-    → inside ≡ old.printer → (reopens : Reopens see.told_in see.snapshot old.watched mid place is_there)
+    → inside ≡ old.pen.printer → (reopens : Reopens see.told_in see.snapshot old.watched mid place is_there)
     → is_there ≡ true → (watched_at old.watched place).name ≡ name
     → Gives see.told (First see.told_in see.snapshot name reopens.file ways.seeks ways.start) fate true name
-    (record old { printer = inside }) new (stop_in result)
+    (record old { pen = record old.pen { printer = inside } }) new (stop_in result)
     → (looks : List Look) → Stands see.told_in ways looks place name (watched_at old.watched place) New
     → Gave see ways looks place name (see.snapshot.leads name) old new fate result
 first_gave {see} {ways} {name = name} {old = old} {new} {fate = fate} {result} viewed reopens there named gave looks fresh =
@@ -472,10 +472,10 @@ first_long told by_name seen {place} len {old} reopens there can same long = rw 
     (opened_now place old reopens.names can)) ∙ reopens.found ∙ there))) long)
 
 pub first_started : {see : Sight} {ways : Ways} {now : Snapshot} {place : ℕ} {name : List ℕ} {inside : PrinterState}
-    {old mid new : Moment} {is_there : Bool} {result : Result ℕ Stop} → inside ≡ old.printer
+    {old mid new : Moment} {is_there : Bool} {result : Result ℕ Stop} → inside ≡ old.pen.printer
     → Reopens see.told_in see.snapshot old.watched mid.watched place is_there → is_there ≡ true
     → (watched_at old.watched place).name ≡ name → IsTrue (is_watchable old.watched place) → now ≡ see.snapshot
-    → Gives see.told (Are []) sound true name (record old { printer = inside }) mid None
+    → Gives see.told (Are []) sound true name (record old { pen = record old.pen { printer = inside } }) mid None
     → (starts : Starts (record see { snapshot = now }) ways.seeks ways.start place name mid new (stop_in result))
     → (looks : List Look) → Stands see.told_in ways looks place name (watched_at old.watched place) New
     → Gave see ways looks place name (see.snapshot.leads name) old new starts.fate result

@@ -2,14 +2,14 @@
 use Rattle.follow_core.specs.{
   Standing.BrokeIn,
   Event.{after_change, all_held, bytes_in, came_of, change_between},
-  Version.{Entry, entries_at_look, entries_later, entries_led, entries_open, gap, held_at, open_after, open_after_later},
+  Version.{Entry, entries_at_look, entries_later, entries_led, entries_open, gap, held_at, open_after},
+  Version.open_after_later,
   Version.{open_after_look, version, version_in},
   Gain.{last_from, gains_after, gains_later},
   Look.{Fate, Look, Ways, can_meet, are_met, entries_in, failed_by, failed_in, fate_at, is_dropped, snapshots, sound},
   Look.is_first,
   Run.{AreKept, name_text},
-  Notice.is_missing,
-  Share.{Due, due_at, gain, gains_from, opened_in},
+  Share.{gain, gains_from, opened_in},
 }
 use Rattle.follow_core.proofs.{
   CallGivesLemmas.none_of,

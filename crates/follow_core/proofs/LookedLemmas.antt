@@ -263,7 +263,7 @@ pub makes_look : {see : Sight} {seen seen_new : List Snapshot} {old mid : Follow
     → VisitsAll see (λ from. ways_of from mid.by_name mid.start) mid.first mid.names (moment watched_mid mid.printer slots)
     names new result
     → MakesLook see.told_in see.told see.snapshot seen (point old watched slots) seen_new
-    (point (record mid { names = names; printer = new.printer }) new.watched new.slots) result
+    (point (record mid { names = names; printer = new.pen.printer }) new.watched new.pen.slots) result
 makes_look {see} {seen} {seen_new} {old} {mid} {watched} {watched_mid} {slots} {names} {new} {result} live can begins saw =
     by result where
       others : {those : Result Bool Fault}
@@ -278,7 +278,7 @@ makes_look {see} {seen} {seen_new} {old} {mid} {watched} {watched_mid} {slots} {
           → VisitsAll see (λ from. ways_of from mid.by_name mid.start) mid.first mid.names
           (moment watched_mid mid.printer slots) names new result
           → MakesLook see.told_in see.told see.snapshot seen (point old watched slots) seen_new
-          (point (record mid { names = names; printer = new.printer }) new.watched new.slots) result
+          (point (record mid { names = names; printer = new.pen.printer }) new.watched new.pen.slots) result
       by (Ok failed) visits = record {
         looked = λ asked looks before.
             let holds = begins.holds see.told asked looks slots before in

@@ -12,7 +12,7 @@ use Rattle.watch_core.specs.{
 }
 use Rattle.follow_core.specs.{
   Event.{Event},
-  Look.{Fate, Look, Ways, fate_at, failed_by, failed_in, is_dropped, sound, unled, unopened, unmeasured, is_first},
+  Look.{Fate, Look, Ways, fate_at, failed_by, failed_in, is_dropped, sound, unled, unopened, unmeasured},
   Look.{unsought, unread},
   Reading.{AllInsist, AreAtLook, AreFound, IsFound, IsGiven, LeadsNowhere, LedTo, LookGives, at_first, at_later},
   Reading.came_all,

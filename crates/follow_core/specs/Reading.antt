@@ -105,15 +105,12 @@ pub data First (told : Bool) (snapshot : Snapshot) (name : List ℕ) (file : Opt
       → ReadOn told snapshot name file from len reach events
       → First told snapshot name file seeks start reach events
 
--- a look left this file open, and found `held` bytes in it; or it left none open, since the name leads nowhere
-abbrev pub LeftOpen : Bool → Snapshot → List ℕ → Option ℕ → (held : ℕ) → Type 0
-LeftOpen told snapshot name None held = Saw told snapshot name (leads_to None) ⊎ Saw told snapshot name (opens_as None)
-LeftOpen told snapshot name (Some file) held = Saw told snapshot name (holds_many (Some file) held)
-
--- the same; that the name leads nowhere is known only if names are followed
+-- A look left this file open, and found `held` bytes in it; or it left none open, since the name leads nowhere. That is
+-- known only if names are followed.
 abbrev pub IsLong : (told by_name : Bool) → Snapshot → List ℕ → Option ℕ → (held : ℕ) → Type 0
-IsLong told by_name snapshot name None held = by_name ≡ true → LeftOpen told snapshot name None held
-IsLong told by_name snapshot name (Some file) held = LeftOpen told snapshot name (Some file) held
+IsLong told by_name snapshot name None held = by_name ≡ true → Saw told snapshot name (leads_to None)
+    ⊎ Saw told snapshot name (opens_as None)
+IsLong told by_name snapshot name (Some file) held = Saw told snapshot name (holds_many (Some file) held)
 
 -- what a look after these gives for a name, by what its calls found and by what the look before it left open
 pub data LookGives (told : Bool) (ways : Ways) : List Look → Snapshot → List ℕ → Option Fate → List Event → Type 0 where

@@ -5,7 +5,7 @@ ghost use Rattle.std.specs.{
 ghost use Rattle.ports_core.specs.{Slot.{is_writable, with_written, told_of}, Text.header_of};
 ghost use Rattle.follow_core.specs.{
   Printing.{PrinterState, Short, fresh_printer},
-  inner.Giving.{Puts, over_by, over_in},
+  inner.Giving.{Puts, over_by, over_in, pen},
   Followed.{has_header, is_last},
   Title.title,
 };
@@ -68,8 +68,8 @@ impl Printer {
         outs: &mut O,
     ) -> Result<(), Fault>
         requires { IsTrue (is_writable (O.slots outs.old) 0) }
-        ensures puts { Puts O.told opened self.old name.now bytes.now (O.slots outs.old) self.new (O.slots outs.new)
-            (over_by (over_in result)) }
+        ensures puts { Puts O.told opened name.now bytes.now (pen self.old (O.slots outs.old))
+            (pen self.new (O.slots outs.new)) (over_by (over_in result)) }
         ensures writable { OnOk result (IsTrue (is_writable (O.slots outs.new) 0)) }
     {
         if let Err(fault) = self.show(self.is_due(opened, name, bytes), name, outs) {

@@ -39,7 +39,13 @@ use Rattle.words_core.specs.{
   Words.{HasBadOperands, asks_input, follows, looks},
 }
 use Rattle.words_core.proofs.{CallingLemmas.row_named-tool, LimitLemmas.read-can}
-use Rattle.follow_core.{proofs.LookedLemmas.{ends_by, most_made}, specs.{Ending.{Remains, no_room as no_room_yet, remains, shows_by}, declared.run.Method.{Method, TheVariants.{Descriptor, Name, PresentName, FirstFile}}}}
+use Rattle.follow_core.{
+  proofs.LookedLemmas.{ends_by, most_made},
+  specs.{
+    Ending.{Remains, no_room as no_room_yet, remains, shows_by},
+    declared.run.Method.{Method, TheVariants.{Descriptor, Name, PresentName, FirstFile}},
+  },
+}
 use Rattle.tools_core.specs.{
   Outcome.{refusal, refuser, speaker, RefusesFor, RunEndsAt, names_at},
   Tasks.{by, speaker_of, tool_of},

@@ -31,17 +31,24 @@ abbrev pub printer_under : PrinterState → (is_opened : Bool) → (name bytes :
 printer_under printer is_opened name bytes =
     record printer { last = last_with printer.headers printer.last is_opened name bytes }
 
+-- the printer and the outputs between two calls
+pub record Pen : Type 0 where
+  pub printer : PrinterState
+  pub slots : List Slot
+
+abbrev pub pen : PrinterState → List Slot → Pen
+pen printer slots = record { printer = printer; slots = slots }
+
 -- the outputs got bytes and lines of a name, or the lines and a beginning of the bytes before this fault
-pub record Came (told : Bool) (printer : PrinterState) (is_opened : Bool) (name bytes : List ℕ)
-    (lines : List (List ℕ)) (old : List Slot) (after : PrinterState) (new : List Slot)
+pub record Came (told is_opened : Bool) (name bytes : List ℕ) (lines : List (List ℕ)) (old new : Pen)
     (over : Option Fault) : Type 0 where
-  pub printer_is : over ≡ None → after ≡ printer_under printer is_opened name bytes
-  pub slots : WroteBy told printer.calling (text_under printer is_opened name bytes) lines old new over
+  pub printer_is : over ≡ None → new.printer ≡ printer_under old.printer is_opened name bytes
+  pub slots : WroteBy told old.printer.calling (text_under old.printer is_opened name bytes) lines old.slots new.slots
+      over
 
 -- the outputs got a share, or its lines and a beginning of its bytes before this fault
-abbrev pub Shared : Bool → PrinterState → Share → List Slot → PrinterState → List Slot → Option Fault → Type 0
-Shared told printer share old after new over =
-    Came told printer share.is_opened share.name (bytes_of share) (lines_of share) old after new over
+abbrev pub Shared : Bool → Share → (old new : Pen) → Option Fault → Type 0
+Shared told share old new over = Came told share.is_opened share.name (bytes_of share) (lines_of share) old new over
 
 -- what stopped a call on a name, if anything did
 abbrev pub stop_in : {T : Type 0} → Result T Stop → Option Stop
@@ -64,11 +71,10 @@ ArePut None bytes due = bytes ≡ due
 ArePut (Some why) bytes due = IsFront bytes due
 
 -- standard output got the bytes that are due of a name, or a beginning of them if following ended
-pub record Puts (told is_opened : Bool) (printer : PrinterState) (name due : List ℕ) (old : List Slot)
-    (after : PrinterState) (new : List Slot) (over : Option Fault) : Type 0 where
+pub record Puts (told is_opened : Bool) (name due : List ℕ) (old new : Pen) (over : Option Fault) : Type 0 where
   pub bytes : List ℕ
   pub are : ArePut over bytes due
-  pub came : Came told printer is_opened name bytes [] old after new over
+  pub came : Came told is_opened name bytes [] old new over
 
 -- if a file is open, it was found to hold this many bytes
 abbrev pub HoldsMany : (told : Bool) → Snapshot → Watched → ℕ → Type 0
@@ -133,11 +139,10 @@ sight told_in told snapshot = record { told_in = told_in; told = told; snapshot 
 -- the watched names, the printer and the outputs between two calls
 pub record Moment : Type 0 where
   pub watched : List Watched
-  pub printer : PrinterState
-  pub slots : List Slot
+  pub pen : Pen
 
 abbrev pub moment : List Watched → PrinterState → List Slot → Moment
-moment watched printer slots = record { watched = watched; printer = printer; slots = slots }
+moment watched printer slots = record { watched = watched; pen = pen printer slots }
 
 -- What is given by how far calls came: all; if a call on the name failed with this fate, what comes before it; if
 -- following ended, a beginning.
@@ -151,8 +156,7 @@ pub record Gives (told : Bool) (Is : Option Fate → List Event → Type 0) (fat
     (name : List ℕ) (old new : Moment) (stop : Option Stop) : Type 0 where
   pub events : List Event
   pub given : ByStop Is fate stop events
-  pub came : Came told old.printer is_opened name (bytes_in events) (lines_in name events) old.slots new.printer new.slots
-      (over_by stop)
+  pub came : Came told is_opened name (bytes_in events) (lines_in name events) old.pen new.pen (over_by stop)
 
 -- these are the events, however far calls came
 abbrev pub Are : List Event → Option Fate → List Event → Type 0

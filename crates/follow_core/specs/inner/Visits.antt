@@ -48,7 +48,7 @@ pub record Stopped (see : Sight) (ways : Ways) (before : List Look) (name : List
   pub begins : see.told_in ≡ true → (fates : List Fate)
       → BeginsShare share (share_by ways name before (record { snapshot = see.snapshot; fates = fates }) sound)
   pub found : IsBegun see.told_in ways before see.snapshot name share
-  pub short : Shared see.told old.printer share old.slots new.printer new.slots (Some why)
+  pub short : Shared see.told share old.pen new.pen (Some why)
 
 -- A call on the name failed: that is reported, and the name is dropped. Or following ends: nothing more is reported.
 abbrev pub TellsStop : Bool → Calling → List ℕ → List Slot → Standing → List Slot → Stop → Result Bool Fault → Type 0
@@ -73,7 +73,7 @@ pub record Visited (see : Sight) (ways : Ways) (looks : List Look) (place : ℕ)
   pub found : (fates : List Fate) → fate_at place (record { snapshot = see.snapshot; fates = fates }) ≡ fate
       → IsGiven see.told_in ways looks (record { snapshot = see.snapshot; fates = fates }) place now.text share
   pub is_failed : is_some share.failure ≡ failed
-  pub shared : Shared see.told old.printer share old.slots new.printer new.slots None
+  pub shared : Shared see.told share old.pen new.pen None
   pub stands : (fates : List Fate) → fate_at place (record { snapshot = see.snapshot; fates = fates }) ≡ fate
       → Stands see.told_in ways (looks ++ record { snapshot = see.snapshot; fates = fates } ∷ []) place now.text
       (watched_at new.watched place) now.standing
@@ -104,7 +104,7 @@ pub record VisitedTo (see : Sight) (ways : Ways) (looks : List Look) (place : �
       → AreAtLook see.told_in ways looks (record { snapshot = see.snapshot; fates = all }) ways.first
       (take place (texts names)) shares
   pub is_failed : any_failed shares ≡ failed
-  pub shared : AllShared see.told old.printer shares old.slots new.printer new.slots
+  pub shared : AllShared see.told old.pen.printer shares old.pen.slots new.pen.printer new.pen.slots
   pub done : (all : List Fate) → IsFront fates all → (other : ℕ) → other < place
       → StandsAmong see.told_in ways (looks ++ record { snapshot = see.snapshot; fates = all } ∷ []) names new.watched
       other
@@ -129,13 +129,13 @@ pub record VisitsAll (see : Sight) (ways : ℕ → Ways) (first : ℕ) (names : 
       → StandFrom see.told_in (ways from) looks first names old.watched → (whole part : List Share)
       × Begun see.told_in (ways from) (texts names) looks see.snapshot new.watched whole part
       × (mid : PrinterState) × (reached : List Slot)
-      × AllShared see.told old.printer whole old.slots mid reached × AllShort see.told mid part reached new.slots why)
+      × AllShared see.told old.pen.printer whole old.pen.slots mid reached × AllShort see.told mid part reached new.pen.slots why)
   pub ready : OnOk result (AllReady names_new first new.watched)
   pub count : length new.watched ≡ length old.watched
   pub others : (number : ℕ) → ((place : ℕ) → place < length names → number ≡ first + place → ⊥)
       → watched_at new.watched number ≡ watched_at old.watched number
-  pub can : OnOk result (CanPrint new.slots)
-  pub error : IfErr result (λ why. HasStopped why new.slots)
+  pub can : OnOk result (CanPrint new.pen.slots)
+  pub error : IfErr result (λ why. HasStopped why new.pen.slots)
 
 -- some of these names, from the first on, were added to the watched names
 pub record AddsSome (names : List (List ℕ)) (old new : List Watched) : Type 0 where
