@@ -20,10 +20,6 @@ lines-append name (gives bytes ∷ events) more = lines-append name events more
 
 -- Beginnings.
 
-pub begins_all : (events : List Event) → Begins events events
-begins_all [] = begins_none
-begins_all (event ∷ events) = begins_on (begins_all events)
-
 pub begins_more : {part all : List Event} (more : List Event) → Begins part all → Begins part (all ++ more)
 begins_more more begins_none = begins_none
 begins_more more (begins_within bytes) = begins_within bytes

@@ -158,13 +158,15 @@ opens_keeps Is (name ∷ names) (suc place) zero file is here = is
 opens_keeps Is (name ∷ names) (suc place) (suc other) file is here = opens_keeps Is names place other file is (λ same. here (ap suc same))
 
 -- a look that was stopped at a name
-pub visited_short : {see : Sight} {ways : Ways} {looks : List Look} {now : List NameState} {standing : Standing} {place : ℕ}
+pub visited_short : {see : Sight} {ways : Ways} {looks : List Look} {now : List NameState} {standing : Standing}
+    {place : ℕ}
     {old mid new : Moment} {before : Bool} {why : Fault} → place < length now
     → Visits see ways (ways.first + place) (state_at now place) mid standing new (Err why)
     → VisitedTo see ways looks place now old mid before → length new.watched ≡ ways.first + length now
     → (whole part : List Share) × Begun see.told_in ways (texts now) looks see.snapshot new.watched whole part
     × (printed : PrinterState) × (reached : List Slot)
-    × AllShared see.told old.pen.printer whole old.pen.slots printed reached × AllShort see.told printed part reached new.pen.slots why
+    × AllShared see.told old.pen.printer whole old.pen.slots printed reached
+    × AllShort see.told printed part reached new.pen.slots why
 visited_short {see} {ways} {looks} {now} {place = place} {mid = mid} {new} {why = why} within visits sofar many = (
   sofar.shares,
   stopped.1.share ∷ [],

@@ -116,7 +116,8 @@ led_fits seeks (not_told by changed) = tt
 led_fits seeks (not_opened by changed can) = (by, refl, inr can)
 led_fits {by_name = by_name} seeks (opened_there by changed saw caught) = caught_fits by_name seeks caught
 
-look_fits : {told : Bool} {ways : Ways} {snapshot : Snapshot} {name : List ℕ} {reach : Option Fate} {events : List Event}
+look_fits : {told : Bool} {ways : Ways} {snapshot : Snapshot} {name : List ℕ} {reach : Option Fate}
+    {events : List Event}
     (looks : List Look) → LookGives told ways looks snapshot name reach events
     → Fits (is_first looks) ways.by_name ways.seeks (snapshot.breaks name) reach
 look_fits [] (at_first file saw not_begun) = tt
@@ -240,7 +241,8 @@ looked_visited : {see : Sight} {ways : Ways} {looks : List Look} {place : ℕ} {
     {has_failed : Bool} {standing : Standing} (fate : Fate) → is_dropped place looks ≡ false
     → Looked see ways looks name old new has_failed fate
     → ((fates : List Fate) → fate_at place (seeing see.snapshot fates) ≡ fate
-    → Stands see.told_in ways (looks ++ seeing see.snapshot fates ∷ []) place name (watched_at new.watched place) standing)
+    → Stands see.told_in ways (looks ++ seeing see.snapshot fates ∷ []) place name (watched_at new.watched place)
+    standing)
     → Visited see ways looks place (record { text = name; standing = standing }) old new has_failed
 looked_visited fate kept looked stands = record {
   fate = fate;
@@ -305,7 +307,8 @@ module _ {see : Sight} {ways : Ways} {place : ℕ} {one : NameState} {old new : 
       {result : Result Bool Fault} → (watched_at old.watched place).name ≡ one.text
       → IsTrue (is_watchable old.watched place) → Follows see.told_in led place old.watched new.watched fate (Some stop)
       → ((looks : List Look) → Stands see.told_in ways looks place one.text (watched_at old.watched place) one.standing
-      → Gave see ways looks place one.text led old (record new { pen = record new.pen { slots = slots } }) fate (Err stop))
+      → Gave see ways looks place one.text led old (record new { pen = record new.pen { slots = slots } }) fate
+      (Err stop))
       → TellsStop see.told new.pen.printer.calling one.text slots now new.pen.slots stop result
       → Visits see ways place one old now new result
   gave_fails {slots = slots} fate (Broke why) named can broke gave (tells, left, says) = rw (tells, left) (drops fate why named can broke (λ looks stands.
@@ -380,7 +383,8 @@ first_missing {see} {ways} {place} {name} {old} {watched} {slots} reopens gone n
 
       stands : (fates : List Fate) → fate_at place (seeing see.snapshot fates) ≡ sound → (by_name : Bool)
           → ways.by_name ≡ by_name
-          → Stands see.told_in ways (seeing see.snapshot fates ∷ []) place name (opens None (watched_at old.watched place))
+          → Stands see.told_in ways (seeing see.snapshot fates ∷ []) place name
+          (opens None (watched_at old.watched place))
           (if by_name then Followed 0 else Left)
       stands fates at true way = through_stands [] (seeing see.snapshot fates) (watched_at old.watched place) named can refl at
           (λ t. refl) (λ t. (
@@ -405,7 +409,8 @@ pub first_unopened : {see : Sight} {ways : Ways} {place : ℕ} {name : List ℕ}
     → why ≡ Open place → NameBreaks (λ file. broken.Open) place old.watched watched
     → see.snapshot.breaks (watched_at old.watched place).name ≡ true
     → TellsStop see.told old.pen.printer.calling name old.pen.slots now slots (Broke why) result
-    → Visits see ways place (record { text = name; standing = New }) old now (moment watched old.pen.printer slots) result
+    → Visits see ways place (record { text = name; standing = New }) old now (moment watched old.pen.printer slots)
+    result
 first_unopened {place = place} {name} {why = why} named can is broke fails (tells, left, says) =
     rw (tells, left) (drops unopened why named can (broke_at (λ file. broken.Open) refl refl is broke)
     (λ looks fresh. rw fresh.0 (
@@ -495,7 +500,8 @@ first_started {see} {now = now} {place} {name} {old = old} {mid} viewed reopens 
 pub later_gave : {see : Sight} {ways : Ways} {place : ℕ} {name : List ℕ} {position : ℕ} {old new : Moment}
     {result : Result ℕ Stop} → (again : LooksAgain see ways.by_name place name position old new result)
     → (looks : List Look) → Stands see.told_in ways looks place name (watched_at old.watched place) (Followed position)
-    → Gave see ways looks place name (open_after_look ways.by_name name (watched_at old.watched place).opened see.snapshot)
+    → Gave see ways looks place name (open_after_look ways.by_name name (watched_at old.watched place).opened
+    see.snapshot)
     old new again.fate result
 later_gave again [] followed = absurd (false≢true (sym followed.begun))
 later_gave {see} {ways} {place} {name} {position} {old} {result = result} again (before ∷ looks) followed =
@@ -525,7 +531,8 @@ later_gave {see} {ways} {place} {name} {position} {old} {result = result} again 
       due = due_later ways.by_name name opened position see.snapshot
 
       seen_same : (last : Snapshot) (seen : ℕ) (snapshot : Snapshot) (file : Option ℕ)
-          → IsLong true ways.by_name last name file seen → came_of snapshot file seen ≡ came_of snapshot file (length (held_at last file))
+          → IsLong true ways.by_name last name file seen → came_of snapshot file seen ≡ came_of snapshot file
+          (length (held_at last file))
       seen_same last seen snapshot None long = refl
       seen_same last seen snapshot (Some file) long = ap (came_of snapshot (Some file)) (long.1 refl)
 

@@ -48,7 +48,8 @@ abbrev entry_at : Snapshot → Option ℕ → Entry
 entry_at snapshot None = gap
 entry_at snapshot (Some file) = version_in snapshot file
 
-came_adds : (before snapshot : Snapshot) (opened : Option ℕ) → bytes_in (came_of snapshot opened (length (held_at before opened)))
+came_adds : (before snapshot : Snapshot) (opened : Option ℕ) → bytes_in
+    (came_of snapshot opened (length (held_at before opened)))
     ≡ gains_later (entry_at before opened) (entries_open snapshot opened)
 came_adds before snapshot opened = grind (arith, common_steps, append-nil, eq-eqb, nat_tests)
 
@@ -136,7 +137,8 @@ file_of (version v) = Some v.file
 
 -- the file that a look leaves open is that of its last entry
 pub look_leaves : (by_name : Bool) (name : List ℕ) (opened : Option ℕ) (snapshot : Snapshot) (last : Entry)
-    → open_after_look by_name name opened snapshot ≡ file_of (last_from last (entries_at_look by_name name opened snapshot))
+    → open_after_look by_name name opened snapshot ≡ file_of (last_from last
+    (entries_at_look by_name name opened snapshot))
 look_leaves by_name name opened snapshot last = grind (arith, common_steps, eqb-true)
 
 open_append : (by_name : Bool) (name : List ℕ) (opened : Option ℕ) (snaps : List Snapshot) (snapshot : Snapshot)

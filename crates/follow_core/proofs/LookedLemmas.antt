@@ -169,7 +169,8 @@ module _ {told_in told : Bool} {asked : Asked} {looks : List Look} {follow : Fol
     {slots : List Slot} (holds : Holds told_in told asked looks (point follow watched slots)) where
   pub none_going : 0 < length looks → any_goes_on follow.by_name follow.names ≡ false → NoneGoesOn asked.ways watched
   none_going some none = phase follow.phase holds.stand where
-    phase : (phase : Phase) → StandsIn told_in asked.ways looks follow.names watched phase → NoneGoesOn asked.ways watched
+    phase : (phase : Phase) → StandsIn told_in asked.ways looks follow.names watched phase
+        → NoneGoesOn asked.ways watched
     phase Fresh stand = absurd (let empty = ap length stand.0 in omega arith)
     phase Looking stand = λ place within.
         let inside : place < length follow.names = (let as_many = stand.1 in omega arith) in
@@ -257,10 +258,13 @@ module _ {told_in told : Bool} {snapshot : Snapshot} {seen seen_new : List Snaps
       (λ number other. rw added_now (begins.others number other).1)
 
 -- the names were looked at, after they were watched and the watch began a look
-pub makes_look : {see : Sight} {seen seen_new : List Snapshot} {old mid : FollowState} {watched watched_mid : List Watched}
+pub makes_look : {see : Sight} {seen seen_new : List Snapshot} {old mid : FollowState}
+    {watched watched_mid : List Watched}
     {slots : List Slot} {names : List NameState} {new : Moment} {result : Result Bool Fault} → (old.phase ≡ Over → ⊥)
-    → CanLook old watched slots → BeginsLook see.told_in old watched mid watched_mid → seen_new ≡ seen ++ see.snapshot ∷ []
-    → VisitsAll see (λ from. ways_of from mid.by_name mid.start) mid.first mid.names (moment watched_mid mid.printer slots)
+    → CanLook old watched slots → BeginsLook see.told_in old watched mid watched_mid
+    → seen_new ≡ seen ++ see.snapshot ∷ []
+    → VisitsAll see (λ from. ways_of from mid.by_name mid.start) mid.first mid.names
+    (moment watched_mid mid.printer slots)
     names new result
     → MakesLook see.told_in see.told see.snapshot seen (point old watched slots) seen_new
     (point (record mid { names = names; printer = new.pen.printer }) new.watched new.pen.slots) result

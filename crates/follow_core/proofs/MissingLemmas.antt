@@ -131,7 +131,8 @@ insist_before (first ∷ looks) look all = let rest = insist_before looks look a
 
 -- after one look more, a name that led nowhere at any of the looks is dropped
 one_more_go : (ways : Ways) (names : List (List ℕ)) (before : List Look) (look : Look) {more : List Share}
-    → AreAtLook true ways before look ways.first names more → ways.by_name ≡ true → look.snapshot.insists ≡ true → (place : ℕ) → place < length names
+    → AreAtLook true ways before look ways.first names more → ways.by_name ≡ true → look.snapshot.insists ≡ true
+    → (place : ℕ) → place < length names
     → (LeadsNowhere (get_or names place []) before → is_dropped (ways.first + place) before ≡ true)
     → LeadsNowhere (get_or names place []) (before ++ look ∷ []) → (dropped : Bool)
     → is_dropped (ways.first + place) before ≡ dropped → is_dropped (ways.first + place) (before ++ look ∷ []) ≡ true

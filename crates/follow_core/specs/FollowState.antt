@@ -90,8 +90,9 @@ pub record Asked : Type 0 where
   pub names : List (List ℕ)
   pub first : List Slot
 
--- what is asked by following these names so, from where the outputs are as they are in `first`
-abbrev pub asked_so : Calling → (by_name : Bool) → Start → (headers : Bool) → List (List ℕ) → (first : List Slot) → Asked
+-- a request to follow these names, which are watched from number 0 on; `first` are the outputs before that
+abbrev pub asked_so : Calling → (by_name : Bool) → Start → (headers : Bool) → List (List ℕ) → (first : List Slot)
+    → Asked
 asked_so calling by_name start headers names first = record {
   calling = calling;
   ways = ways_of 0 by_name start;
@@ -118,7 +119,8 @@ pub record Holds (told_in told : Bool) (asked : Asked) (looks : List Look) (now 
   pub stand : StandsIn told_in asked.ways looks now.follow.names now.watched now.follow.phase
   pub shares : List Share
   pub found : AreFound told_in asked.ways asked.names looks shares
-  pub shared : AllShared told (fresh_printer asked.calling asked.headers) shares asked.first now.follow.printer now.slots
+  pub shared : AllShared told (fresh_printer asked.calling asked.headers) shares asked.first now.follow.printer
+      now.slots
   pub failed : any_failed shares ≡ now.follow.has_failed
 
 -- What a look that was stopped gave: nothing; or it came to the name at a place. There are fates for the names before

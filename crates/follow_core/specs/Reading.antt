@@ -12,7 +12,7 @@ use Rattle.follow_core.specs.{
   Version.held_at,
 }
 
--- what a call on a name finds if what the look sees is visible; a read gives no bytes only from the end on
+-- what a call finds on a name is true of this snapshot; a read gives no bytes only from the end on
 abbrev pub Shows : Snapshot → List ℕ → Finding → Type 0
 Shows snapshot name (leads_to led) = led ≡ snapshot.leads name
 Shows snapshot name (opens_as file) = file ≡ snapshot.leads name
@@ -20,7 +20,7 @@ Shows snapshot name (holds_many file len) = len ≡ length (held_at snapshot fil
 Shows snapshot name (reads_as file at bytes) = (bytes ≡ take (length bytes) (drop at (held_at snapshot file)))
     × (bytes ≡ [] → length (held_at snapshot file) ≤ at)
 
--- a call on a name found this; if what the look sees is visible, it is what the snapshot shows
+-- a call on a name can find this; if what the look sees is visible, it is also true of the snapshot
 abbrev pub Saw : Bool → Snapshot → List ℕ → Finding → Type 0
 Saw told snapshot name finding = Found snapshot name finding × (told ≡ true → Shows snapshot name finding)
 
@@ -32,10 +32,11 @@ pub data AreRead (told : Bool) (snapshot : Snapshot) (name : List ℕ) (file : O
       → Saw told snapshot name (reads_as file at piece)
       → AreRead told snapshot name file from (bytes ++ piece) (at + length piece)
 
--- What calls give is told by how far they came: to their end, with the fate `sound`; to a call that failed, with its
--- fate; or to a place where following ended, without a fate.
+-- The index of type `Option Fate` says how far calls came. `Some sound`: all were made. `Some fate`: the call of this
+-- fate failed. `None`: following ended before, and the outputs got a beginning of the events.
 
--- reads of a file of this length gave these bytes: up to the length, or until a read gave nothing
+-- Reads of a file of this length gave these bytes, from `from` on: up to the length, or until a read gave nothing; up to
+-- a read that failed; or as far as following went.
 pub data ReadOn (told : Bool) (snapshot : Snapshot) (name : List ℕ) (file : Option ℕ) (from len : ℕ) : Option Fate
     → List Event → Type 0 where
   read_all : {bytes : List ℕ} {at : ℕ} → AreRead told snapshot name file from bytes at

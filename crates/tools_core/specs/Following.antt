@@ -49,7 +49,7 @@ abbrev pub pause_by : Calling → ℕ → ℕ
 pause_by OwnName pause = min pause 500
 pause_by Cutters pause = pause
 
--- how `tail` is called, and whether what its looks see and its outputs are visible
+-- how `tail` is called, and whether what its looks see (`told_in`) and its outputs (`told`) are visible
 pub record Caller : Type 0 where
   pub calling : Calling
   pub told_in : Bool
@@ -64,7 +64,8 @@ called calling told_in told = record { calling = calling; told_in = told_in; tol
 abbrev pub FollowsAs : Caller → TailSettings → Followed → (looks : ℕ) → (ℕ → Snapshot) → Remains → (status : ℕ) → Type 0
 FollowsAs caller asked followed looks shows left status = let ends = asked.ends in
     FollowEndsBy asked.process caller.told_in caller.told
-    (asked_so caller.calling (is_name followed) (start_of ends) (has_headers ends.headers ends.names) ends.names streams)
+    (asked_so caller.calling (is_name followed) (start_of ends) (has_headers ends.headers ends.names) ends.names
+        streams)
     looks (λ n. waiting (max (pause_by caller.calling asked.pause) 1)
     (shows_by caller.calling (method_of followed) shows n)) left status
 

@@ -51,11 +51,6 @@ adds_count rows sign place text unit counted {count} old mid new result which ma
     let told : times sign (leading_digits text) (unit_in (after_digits text)).1 ≡ Ok count = rw (← which) (sym many ∙ is) in
     rw told (rw (← which) (adds_both old (one_option (Amount unit.0 count) place) _ new result (rw met at adds)))
 
--- a letter of an option gives it, and then come the others
-pub switch_gives : (place : ℕ) (rest : List ℕ) (more : Result Meaning Fault) (option : Option Takes) {choice : Choice}
-    → switched option ≡ Some choice → lettered place rest more option ≡ before (bare choice place) more
-switch_gives place rest more option is = search rules
-
 pub start_known : (calling : Calling) (rows : List OptionRow) (letters : Letters) (text : List ℕ)
     → is_start calling rows letters text ≡ true → are_known rows (after_digits text) ≡ true
 start_known OwnName rows OfTail text is = (and_parts (are_known rows (after_digits text)) _ is).0

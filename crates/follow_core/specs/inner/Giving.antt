@@ -196,6 +196,7 @@ pub record Leads (see : Sight) (by_name : Bool) (place : ℕ) (name : List ℕ) 
       Gives see.told (LedTo see.told_in by_name see.snapshot known.name known.opened) fate false name old new
       (stop_in result)
   pub long : HoldsMany see.told_in see.snapshot (watched_at old.watched place) position
-      → let now = watched_at new.watched place in IfOk result (IsLong see.told_in by_name see.snapshot now.name now.opened)
+      → let now = watched_at new.watched place in IfOk result
+      (IsLong see.told_in by_name see.snapshot now.name now.opened)
   pub follows : Follows see.told_in (open_after_look by_name name (watched_at old.watched place).opened see.snapshot)
       place old.watched new.watched fate (stop_in result)

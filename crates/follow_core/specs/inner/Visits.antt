@@ -129,7 +129,8 @@ pub record VisitsAll (see : Sight) (ways : ℕ → Ways) (first : ℕ) (names : 
       → StandFrom see.told_in (ways from) looks first names old.watched → (whole part : List Share)
       × Begun see.told_in (ways from) (texts names) looks see.snapshot new.watched whole part
       × (mid : PrinterState) × (reached : List Slot)
-      × AllShared see.told old.pen.printer whole old.pen.slots mid reached × AllShort see.told mid part reached new.pen.slots why)
+      × AllShared see.told old.pen.printer whole old.pen.slots mid reached
+      × AllShort see.told mid part reached new.pen.slots why)
   pub ready : OnOk result (AllReady names_new first new.watched)
   pub count : length new.watched ≡ length old.watched
   pub others : (number : ℕ) → ((place : ℕ) → place < length names → number ≡ first + place → ⊥)

@@ -17,7 +17,8 @@ invariant-loop-place g l = let snapshot = latest (g.W.Watch.seen l.fn.watch) in 
   visited : (from : ℕ) (looks : List Look)
       → StandFrom g.W.Watch.told (ways_of from l.fn.by_name l.fn.start) looks l.fn.first l.fn.names
       (g.W.Watch.watched l.fn.watch)
-      → VisitedTo (sight g.W.Watch.told g.O.Outs.told snapshot) (ways_of from l.fn.by_name l.fn.start) looks l.place l.names
+      → VisitedTo (sight g.W.Watch.told g.O.Outs.told snapshot) (ways_of from l.fn.by_name l.fn.start) looks l.place
+      l.names
       (moment (g.W.Watch.watched l.fn.watch) l.fn.visitor (g.O.Outs.slots l.fn.outs))
       (moment (g.W.Watch.watched l.watch) l.visitor (g.O.Outs.slots l.outs)) l.has_failed;
   count : length (g.W.Watch.watched l.watch) ≡ length (g.W.Watch.watched l.fn.watch);
