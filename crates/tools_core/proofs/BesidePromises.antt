@@ -2,7 +2,7 @@
 use Rattle.std.{
   proofs.Common.{◌≡◌, ℕ, ◌+◌, ◌≤◌, ◌<◌, ◌^◌, suc, zero, Bool, true, false, ◌||◌, cond, List, [], ◌∷◌, ◌++◌},
   proofs.Common.{length, map, Option, Some, None, inl, inr, ◌⊎◌, refl, sym, ◌∙◌, ap, arith, lit<, append_assoc},
-  proofs.Common.{append-nil, is_none, length-append},
+  proofs.Common.{append-nil, length-append},
   proofs.Math.Seq.get_or-append_seam,
   proofs.lemmas.{Bool.{cases_Bool, cases_lt, false≢true}, List.{get_or_past, length-map}},
   specs.List.concat,
