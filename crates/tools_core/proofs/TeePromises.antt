@@ -621,12 +621,7 @@ up_to : (run : Run) (on_broken : OnBroken) {before last x : List ℕ} {start old
     → (ends_run (stands_as old) on_broken ≡ true → IsBeginning before old.written
     × (old.state ≡ Unopened → (source_at run.inputs 0).reads ≡ 0))
     → Final x start.name old new → HasUpTo run on_broken before last new
-up_to run on_broken {old = old} empty all part some as_before = record {
-  no_more = rw all at (has_named empty part).2;
-  sound = λ sound. ap (λ (slot : Slot). slot.written) (has_sound part (sound_slot old sound)) ∙ rw empty all;
-  some = λ ends. (some ends).0;
-  unopened = λ ends. (some ends).1;
-}
+up_to run on_broken empty all part some as_before = grind (arith, common_steps, has_named, has_sound, sound_slot)
 up_to run on_broken empty all part some (is_whole new sound has_it named closed) =
     up_to_all run on_broken (has_it ∙ all) (λ is. absurd (cc (closed, is)))
 
