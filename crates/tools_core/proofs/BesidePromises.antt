@@ -295,8 +295,9 @@ files_change Change first last changes output error names =
       each (suc zero) file = absurd (omega (arith, file.0))
       each (suc (suc n)) file = file_changes Change first last changes error names n (omega (arith, file.1))
 
-      others : ChangesEach (λ old new. Change old new ⊎ (new ≡ old)) (IsOutputOf names) (output ∷ error ∷ map first names)
-          (output ∷ error ∷ map last names) → (place : ℕ) → (IsFileOf names place → ⊥)
+      others : ChangesEach (λ old new. Change old new ⊎ (new ≡ old)) (IsOutputOf names)
+          (output ∷ error ∷ map first names) (output ∷ error ∷ map last names) → (place : ℕ)
+          → (IsFileOf names place → ⊥)
           → slot_at (output ∷ error ∷ map last names) place ≡ slot_at (output ∷ error ∷ map first names) place
       others all zero none = refl
       others all (suc zero) none = refl

@@ -237,7 +237,8 @@ module _ (job : TeeRun) (final : List Slot) (Line : Message → Type 0)
     pub said : SaysAll job.told (tee_called job.calling) lines standard_error (slot_at slots 1)
     pub are : All Line lines
     pub each : (n : ℕ) → n ≤ length job.names → (output_at slots n).is_broken ≡ true
-        → tee.is_told job.on_broken (stands_as (output_at final n)) ≡ true → HasLine (line_at job n (output_at final n)) lines
+        → tee.is_told job.on_broken (stands_as (output_at final n)) ≡ true
+        → HasLine (line_at job n (output_at final n)) lines
 
   reports_said : {lines messages : List Message} {old new : List Slot} → HasStreams old (length job.names)
       → Reports lines old → SaysTo job messages old new → All Line messages → Reports (lines ++ messages) new
@@ -272,7 +273,8 @@ module _ (job : TeeRun) (final : List Slot) (Line : Message → Type 0)
       mid = streams_kept has step.changes.count (step.changes.others 1 apart)
 
       -- the line about an output that broke in the step
-      line : (n : ℕ) → n ≤ length job.names → (output_at old n).is_broken ≡ false → (output_at step.mid n).is_broken ≡ true
+      line : (n : ℕ) → n ≤ length job.names → (output_at old n).is_broken ≡ false
+          → (output_at step.mid n).is_broken ≡ true
           → line_of job fault (standings_of old) (standings_of step.mid) n ≡ line_at job n (output_at final n)
       line n within sound broken =
           rw (stay n (rw (now_at n) broken), now_at n, (breaks n within).1 sound broken) refl
@@ -407,7 +409,8 @@ has_named empty has_all = grind (arith, common_steps, begins_itself)
 has_named empty (has_none kept why named) = grind (arith, common_steps, nothing_begins)
 has_named empty (has_begun y why begins) = grind (arith, common_steps)
 
-final_named : {x : List ℕ} {start old new : Slot} → start.written ≡ [] → Has true x start old → Final x start.name old new
+final_named : {x : List ℕ} {start old new : Slot} → start.written ≡ [] → Has true x start old
+    → Final x start.name old new
     → IsCalled new start.name × ((new.name ≡ start.name) ⊎ (new.written ≡ [])) × IsBeginning new.written x
 final_named empty has as_before = has_named empty has
 final_named empty has (is_whole new sound all named closed) = grind (arith, common_steps, begins_itself)
@@ -589,7 +592,8 @@ tee_begins run {asked} {content} place differs (tee.copied pieces fault old mid 
             named = rw name named;
           }
 
-      by : (n : ℕ) → BeginsAs (output_at run.outputs n) (slot_at (slots_of (tee_made asked content).part) (output_slot n))
+      by : (n : ℕ)
+          → BeginsAs (output_at run.outputs n) (output_at (slots_of (tee_made asked content).part) n)
       by zero = begins 0 (omega arith) refl refl
       by (suc n) = elim (cases_lt n (length asked.names)) [
         | inl within ↦
