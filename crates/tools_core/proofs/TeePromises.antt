@@ -1,6 +1,6 @@
 -- Lemmas on what a run of `tee` leaves and reports of its outputs, and on what ended it.
 use Rattle.std.proofs.{
-  Common.{◌≡◌, ◌⊎◌, ℕ, ◌+◌, ◌≤◌, ◌<◌, ◌^◌, get_or, map, zero, suc, Bool, true, false, List, [], ◌∷◌, ◌++◌, length},
+  Common.{◌≡◌, ◌⊎◌, ℕ, ◌+◌, ◌≤◌, ◌<◌, ◌^◌, get_or, zero, suc, Bool, true, false, List, [], ◌∷◌, ◌++◌, length},
   Common.{Option, Some, inl, inr, refl, sym, ◌∙◌, ap, arith, append-nil, All, codes, not},
   lemmas.{
     List.{
@@ -305,24 +305,20 @@ module _ (job : TeeRun) (final : List Slot) (Line : Message → Type 0)
     first : HasStreams (all_opened job) (length job.names)
     first = streams_of (omega (arith, length-map job.names (λ name. opened name job.mode))) refl
 
-    start : (n : ℕ) → (output_at (all_opened job) n).is_broken ≡ false
-    start zero = refl
-    start (suc n) = by job.names n where
-      by : (names : List (List ℕ)) (n : ℕ) → (slot_at (map (λ name. opened name job.mode) names) n).is_broken ≡ false
-      by [] n = refl
-      by (name ∷ names) zero = refl
-      by (name ∷ names) (suc n) = by names n
+    start : (n : ℕ) → n ≤ length job.names → (output_at (all_opened job) n).is_broken ≡ false
+    start zero within = refl
+    start (suc n) within = rw (mapped_at (λ name. opened name job.mode) job.names n within) refl
 
     none : Reports [] (all_opened job)
     none = record {
       said = refl;
       are = All-nil Line;
-      each = λ n within broken told. absurd (false≢true (sym (start n) ∙ broken));
+      each = λ n within broken told. absurd (false≢true (sym (start n within) ∙ broken));
     }
 
     breaks : (n : ℕ) → n ≤ length job.names → Breaks (Open 0) (output_at (all_opened job) n) (output_at step.mid n)
     breaks zero within = same_breaks (step.changes.others 0 (λ file. omega (arith, file.0)))
-    breaks (suc n) within = opened_breaks (start (suc n)) (step.changes.each (suc (suc n)) (omega arith, omega (arith, within)))
+    breaks (suc n) within = opened_breaks (start (suc n) within) (step.changes.each (suc (suc n)) (omega arith, omega (arith, within)))
   reports_of (tee.one_more pieces piece old new so_far goes some few step) stay =
       let (lines, reports) = reports_of so_far (stay_before (stands_streams stands) step breaks stay) in
       (_, reports_next (stands_streams stands) step breaks stay (λ is. is.0 refl) reports) where
