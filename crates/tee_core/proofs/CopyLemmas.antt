@@ -25,7 +25,7 @@ use Rattle.tee_core.specs.{
   Run.{IsFileOf, IsOutputOf, stands_as, started, tee_called, tells},
   inner.Steps.{HasStreams, IsTeeOf, output_at, output_slot},
   TeeState.TeeState,
-  declared.standing.Standing.{Standing, TheVariants.{Sound, Broken, Gone}},
+  declared.standing.Standing.{Standing, TheVariants.{Sound}},
 }
 use Rattle.tee_core.proofs.TellLemmas.{count_standings, input_silent}
 use Rattle.tee_core.proofs.ChangeLemmas.{IsDecided, KeepsBroken, stay_broken, still_broken}
@@ -272,13 +272,15 @@ sound_stand has sound =
 
 quiet_at : (on_broken : OnBroken) (was : Standing) (n count : ℕ)
     → tells on_broken was (get_or (replicate count Sound) n Sound) ≡ false
-quiet_at on_broken Sound n zero = refl
-quiet_at on_broken Broken n zero = refl
-quiet_at on_broken Gone n zero = refl
-quiet_at on_broken Sound zero (suc count) = refl
-quiet_at on_broken Broken zero (suc count) = refl
-quiet_at on_broken Gone zero (suc count) = refl
-quiet_at on_broken was (suc n) (suc count) = quiet_at on_broken was n count
+quiet_at on_broken was n count = rw (by n count) (quiet was) where
+  by : (n count : ℕ) → get_or (replicate count Sound) n Sound ≡ Sound
+  by n zero = refl
+  by zero (suc count) = refl
+  by (suc n) (suc count) = by n count
+
+  quiet : (was : Standing) → tells on_broken was Sound ≡ false
+  quiet Sound = refl
+  quiet was = refl
 
 quiet_since : (run : TeeRun) (fault : Fault) (known : List Standing) (count n : ℕ)
     → said_since run fault known (replicate count Sound) n ≡ []

@@ -378,6 +378,7 @@ module _ {run : TeeRun} {told_in : Bool} where
 
   pub whole_of : (there : Content) {source : Source} {new : List Slot} {status : ℕ} → told_in ≡ true → status ≡ 0
       → (forgives run.on_broken ≡ true → AreSound new)
-      → OfContent told_in there (λ content. EndsAs run told_in content source new status × CameFrom told_in content source)
+      → OfContent told_in there
+      (λ content. EndsAs run told_in content source new status × CameFrom told_in content source)
       → new ≡ all_copied run.told run.mode run.names there.bytes
   whole_of there tells zero_is sound (content, is, holds) = cc (whole_if zero_is sound holds.0, is tells)

@@ -2,7 +2,7 @@
 use Rattle.std.{
   proofs.Common.{◌≡◌, ℕ, ◌+◌, ◌≤◌, ◌<◌, ◌^◌, suc, zero, Bool, true, false, ◌||◌, cond, List, [], ◌∷◌, ◌++◌},
   proofs.Common.{length, map, Option, Some, None, inl, inr, ◌⊎◌, refl, sym, ◌∙◌, ap, arith, lit<, append_assoc},
-  proofs.Common.{append-nil, is_none, length-append},
+  proofs.Common.{append-nil, length-append},
   proofs.Math.Seq.get_or-append_seam,
   proofs.lemmas.{Bool.{cases_Bool, cases_lt, false≢true}, List.{get_or_past, length-map}},
   specs.List.concat,
@@ -303,8 +303,9 @@ files_change Change first last changes output error names =
       each (suc zero) file = absurd (omega (arith, file.0))
       each (suc (suc n)) file = file_changes Change first last changes error names n (omega (arith, file.1))
 
-      others : ChangesEach (λ old new. Change old new ⊎ (new ≡ old)) (IsOutputOf names) (output ∷ error ∷ map first names)
-          (output ∷ error ∷ map last names) → (place : ℕ) → (IsFileOf names place → ⊥)
+      others : ChangesEach (λ old new. Change old new ⊎ (new ≡ old)) (IsOutputOf names)
+          (output ∷ error ∷ map first names) (output ∷ error ∷ map last names) → (place : ℕ)
+          → (IsFileOf names place → ⊥)
           → slot_at (output ∷ error ∷ map last names) place ≡ slot_at (output ∷ error ∷ map first names) place
       others all zero none = refl
       others all (suc zero) none = refl

@@ -1,9 +1,15 @@
 -- Lemmas on what a run of `tee` leaves and reports of its outputs, and on what ended it.
 use Rattle.std.proofs.{
-  Common.{◌≡◌, ◌⊎◌, ℕ, ◌+◌, ◌≤◌, ◌<◌, ◌^◌, get_or, map, zero, suc, Bool, true, false, List, [], ◌∷◌, ◌++◌, length},
-  Common.{take, Option, Some, cond, inl, inr, refl, sym, ◌∙◌, ap, arith, append-nil, All, codes, not},
+  Common.{◌≡◌, ◌⊎◌, ℕ, ◌+◌, ◌≤◌, ◌<◌, ◌^◌, get_or, zero, suc, Bool, true, false, List, [], ◌∷◌, ◌++◌, length},
+  Common.{Option, Some, inl, inr, refl, sym, ◌∙◌, ap, arith, append-nil, All, codes, not},
   lemmas.{
-    List.{Elements.{All-append, All-nil}, Folds.{Any-from_list_any, list_any_at}, get_or_default, get_or_past, length-map},
+    List.{
+      Elements.{All-append, All-nil},
+      Folds.{Any-from_list_any, list_any_at},
+      get_or_default,
+      get_or_past,
+      length-map,
+    },
     Grind.common_steps,
     Bool.{cases_Bool, cases_lt, cond_both, false≢true, not-true, or_cases, or_parts},
   },
@@ -17,7 +23,7 @@ use Rattle.ports_core.specs.{
     slot.{State.{State, TheVariants.Unopened}, Mode.Mode},
   },
   Inputs.largest_piece,
-  Slot.{Slot, closes, is_open, no_slot, opened, slot_at},
+  Slot.{Slot, is_open, no_slot, opened, slot_at},
   Source.{Content, Source, source_at},
   Streams.{streams_with, standard_error},
   Part.{IsBeginning},
@@ -84,18 +90,12 @@ lost_sound reason.Gone is = cc
 lost_sound why is = cc
 
 sound_slot : (slot : Slot) → stands_as slot ≡ Sound → slot.is_broken ≡ false
-sound_slot slot is = by slot.is_broken is where
-  by : (broken : Bool) → cond broken (lost_for slot.reason) Sound ≡ Sound → broken ≡ false
-  by false is = refl
-  by true is = absurd (lost_sound slot.reason is)
+sound_slot slot is = grind (arith, common_steps, lost_sound)
 
 -- a standing other than `Sound` that passes a test
 broken_slot : (test : Standing → Bool) → test Sound ≡ false → (slot : Slot) → test (stands_as slot) ≡ true
     → slot.is_broken ≡ true
-broken_slot test lost slot is = by slot.is_broken is where
-  by : (broken : Bool) → test (cond broken (lost_for slot.reason) Sound) ≡ true → broken ≡ true
-  by false is = absurd (false≢true (sym lost ∙ is))
-  by true is = refl
+broken_slot test lost slot is = grind (arith, common_steps)
 
 stands_lost : (slot : Slot) → slot.is_broken ≡ true → stands_as slot ≡ lost_for slot.reason
 stands_lost slot broken = rw broken refl
@@ -204,22 +204,22 @@ Breaks fault old new = (old.is_broken ≡ true → new ≡ old)
     × (old.is_broken ≡ false → new.is_broken ≡ true → failing 0 new.state ≡ fault)
 
 same_breaks : {fault : Fault} {old new : Slot} → new ≡ old → Breaks fault old new
-same_breaks is = (λ broken. is, λ sound broken. absurd (false≢true (sym sound ∙ ap (λ (slot : Slot). slot.is_broken) (sym is) ∙ broken)))
+same_breaks is = grind (arith, common_steps)
 
 sound_breaks : {fault : Fault} {old new : Slot} → old.is_broken ≡ false
     → (new.is_broken ≡ true → failing 0 new.state ≡ fault) → Breaks fault old new
-sound_breaks sound fails = (λ broken. absurd (false≢true (sym sound ∙ broken)), λ was. fails)
+sound_breaks sound fails = grind (arith, common_steps)
 
 opened_breaks : {mode : Mode} {name : List ℕ} {old new : Slot} → old.is_broken ≡ false → OpensAs mode name new
     → Breaks (Open 0) old new
-opened_breaks sound is_opened = sound_breaks sound (λ broken. absurd (cc))
-opened_breaks sound (is_unopened kept why named) = sound_breaks sound (λ broken. refl)
+opened_breaks sound is_opened = grind (arith, common_steps)
+opened_breaks sound (is_unopened kept why named) = grind (arith, common_steps)
 
 gets_breaks : {piece : List ℕ} {told : Bool} {old new : Slot} → (old.is_broken ≡ false → is_open old.state ≡ true)
     → Gets told piece old new → Breaks (Write 0) old new
-gets_breaks usable (gets_all sound) = sound_breaks sound (λ broken. absurd (false≢true (sym sound ∙ broken)))
-gets_breaks {old = old} usable (breaks_off sound n why within) = sound_breaks sound (λ broken. open_writes old.state (usable sound))
-gets_breaks usable (gets_none broken) = same_breaks refl
+gets_breaks usable (breaks_off sound n why within) = grind (arith, common_steps, open_writes)
+gets_breaks usable (gets_all sound) = grind (arith, common_steps)
+gets_breaks usable (gets_none broken) = grind (arith, common_steps)
 
 -- an output that is told of is broken
 told_slot : (on_broken : OnBroken) (slot : Slot) → tee.is_told on_broken (stands_as slot) ≡ true → slot.is_broken ≡ true
@@ -237,7 +237,8 @@ module _ (job : TeeRun) (final : List Slot) (Line : Message → Type 0)
     pub said : SaysAll job.told (tee_called job.calling) lines standard_error (slot_at slots 1)
     pub are : All Line lines
     pub each : (n : ℕ) → n ≤ length job.names → (output_at slots n).is_broken ≡ true
-        → tee.is_told job.on_broken (stands_as (output_at final n)) ≡ true → HasLine (line_at job n (output_at final n)) lines
+        → tee.is_told job.on_broken (stands_as (output_at final n)) ≡ true
+        → HasLine (line_at job n (output_at final n)) lines
 
   reports_said : {lines messages : List Message} {old new : List Slot} → HasStreams old (length job.names)
       → Reports lines old → SaysTo job messages old new → All Line messages → Reports (lines ++ messages) new
@@ -272,7 +273,8 @@ module _ (job : TeeRun) (final : List Slot) (Line : Message → Type 0)
       mid = streams_kept has step.changes.count (step.changes.others 1 apart)
 
       -- the line about an output that broke in the step
-      line : (n : ℕ) → n ≤ length job.names → (output_at old n).is_broken ≡ false → (output_at step.mid n).is_broken ≡ true
+      line : (n : ℕ) → n ≤ length job.names → (output_at old n).is_broken ≡ false
+          → (output_at step.mid n).is_broken ≡ true
           → line_of job fault (standings_of old) (standings_of step.mid) n ≡ line_at job n (output_at final n)
       line n within sound broken =
           rw (stay n (rw (now_at n) broken), now_at n, (breaks n within).1 sound broken) refl
@@ -303,24 +305,20 @@ module _ (job : TeeRun) (final : List Slot) (Line : Message → Type 0)
     first : HasStreams (all_opened job) (length job.names)
     first = streams_of (omega (arith, length-map job.names (λ name. opened name job.mode))) refl
 
-    start : (n : ℕ) → (output_at (all_opened job) n).is_broken ≡ false
-    start zero = refl
-    start (suc n) = by job.names n where
-      by : (names : List (List ℕ)) (n : ℕ) → (slot_at (map (λ name. opened name job.mode) names) n).is_broken ≡ false
-      by [] n = refl
-      by (name ∷ names) zero = refl
-      by (name ∷ names) (suc n) = by names n
+    start : (n : ℕ) → n ≤ length job.names → (output_at (all_opened job) n).is_broken ≡ false
+    start zero within = refl
+    start (suc n) within = rw (mapped_at (λ name. opened name job.mode) job.names n within) refl
 
     none : Reports [] (all_opened job)
     none = record {
       said = refl;
       are = All-nil Line;
-      each = λ n within broken told. absurd (false≢true (sym (start n) ∙ broken));
+      each = λ n within broken told. absurd (false≢true (sym (start n within) ∙ broken));
     }
 
     breaks : (n : ℕ) → n ≤ length job.names → Breaks (Open 0) (output_at (all_opened job) n) (output_at step.mid n)
     breaks zero within = same_breaks (step.changes.others 0 (λ file. omega (arith, file.0)))
-    breaks (suc n) within = opened_breaks (start (suc n)) (step.changes.each (suc (suc n)) (omega arith, omega (arith, within)))
+    breaks (suc n) within = opened_breaks (start (suc n) within) (step.changes.each (suc (suc n)) (omega arith, omega (arith, within)))
   reports_of (tee.one_more pieces piece old new so_far goes some few step) stay =
       let (lines, reports) = reports_of so_far (stay_before (stands_streams stands) step breaks stay) in
       (_, reports_next (stands_streams stands) step breaks stay (λ is. is.0 refl) reports) where
@@ -348,10 +346,8 @@ gets_last : (on_broken : OnBroken) {x piece : List ℕ} {start old new : Slot} �
     → is_open start.state ≡ true → Has true x start old → (ends_run (stands_as old) on_broken ≡ true → ⊥)
     → Gets true piece old new → ends_run (stands_as new) on_broken ≡ true
     → IsBeginning x new.written × (new.state ≡ Unopened → ⊥)
-gets_last on_broken {x} {piece} none opened has goes (gets_all sound) ends =
-    rw (has_sound has sound, none) ((piece, refl), λ is. absurd (cc))
-gets_last on_broken {x} {piece} none opened has goes (breaks_off sound n why within) ends =
-    rw (has_sound has sound, none) ((take n piece, refl), λ is. absurd (cc))
+gets_last on_broken none opened has goes (gets_all sound) ends = grind (arith, common_steps, has_sound)
+gets_last on_broken none opened has goes (breaks_off sound n why within) ends = grind (arith, common_steps, has_sound)
 gets_last on_broken none opened has goes (gets_none broken) ends = absurd (goes ends)
 
 last_of : (run : Run) (asked : TeeAsked) {pieces : List (List ℕ)} {slots : List Slot}
@@ -392,10 +388,10 @@ pub data Final (x name : List ℕ) (old : Slot) : Slot → Type 0 where
 
 closed_final : {x : List ℕ} {start old new : Slot} → start.written ≡ [] → Has true x start old → Closes old new
     → Final x start.name old new
-closed_final empty has (is_closed sound) = let all = has_sound has sound in
-    is_whole _ sound (rw (all, empty) refl) (rw all refl) refl
-closed_final empty has (fails_to_close sound why) = let all = has_sound has sound in
-    is_whole _ sound (rw (all, empty) refl) (rw all refl) refl
+closed_final empty has (is_closed sound) = is_whole _ sound (grind (arith, common_steps, has_sound))
+    (grind (arith, common_steps, has_sound)) refl
+closed_final empty has (fails_to_close sound why) = is_whole _ sound (grind (arith, common_steps, has_sound))
+    (grind (arith, common_steps, has_sound)) refl
 closed_final empty has (was_broken broken) = as_before
 
 final_breaks : {x name : List ℕ} {old new : Slot} → Final x name old new → Breaks (Write 0) old new
@@ -405,15 +401,15 @@ final_breaks (is_whole new sound all named closed) = sound_breaks sound (λ brok
 -- its name, and what it has
 has_named : {x : List ℕ} {start output : Slot} → start.written ≡ [] → Has true x start output
     → IsCalled output start.name × ((output.name ≡ start.name) ⊎ (output.written ≡ [])) × IsBeginning output.written x
-has_named {x} empty has_all = (inl refl, inl refl, rw empty (begins_itself x))
-has_named {x} empty (has_none kept why (inl named)) = (inl named, inr refl, nothing_begins x)
-has_named {x} empty (has_none kept why (inr none)) = (inr (none, refl), inr refl, nothing_begins x)
-has_named empty (has_begun y why begins) = (inl refl, inl refl, rw empty begins)
+has_named empty has_all = grind (arith, common_steps, begins_itself)
+has_named empty (has_none kept why named) = grind (arith, common_steps, nothing_begins)
+has_named empty (has_begun y why begins) = grind (arith, common_steps)
 
-final_named : {x : List ℕ} {start old new : Slot} → start.written ≡ [] → Has true x start old → Final x start.name old new
+final_named : {x : List ℕ} {start old new : Slot} → start.written ≡ [] → Has true x start old
+    → Final x start.name old new
     → IsCalled new start.name × ((new.name ≡ start.name) ⊎ (new.written ≡ [])) × IsBeginning new.written x
 final_named empty has as_before = has_named empty has
-final_named {x} empty has (is_whole new sound all named closed) = (inl named, inl named, rw all (begins_itself x))
+final_named empty has (is_whole new sound all named closed) = grind (arith, common_steps, begins_itself)
 
 pub failing_stops : (run : Run) (asked : Settings) {name : List ℕ} {place : ℕ} (which : State)
     → BrokeAt run place name (failing place which) → StopsRun run asked name (failing place which)
@@ -592,7 +588,8 @@ tee_begins run {asked} {content} place differs (tee.copied pieces fault old mid 
             named = rw name named;
           }
 
-      by : (n : ℕ) → BeginsAs (output_at run.outputs n) (slot_at (slots_of (tee_made asked content).part) (output_slot n))
+      by : (n : ℕ)
+          → BeginsAs (output_at run.outputs n) (output_at (slots_of (tee_made asked content).part) n)
       by zero = begins 0 (omega arith) refl refl
       by (suc n) = elim (cases_lt n (length asked.names)) [
         | inl within ↦
@@ -617,24 +614,14 @@ read_up_to source few (tee.to_broken_output x rest is leaves) = (rest, is, leave
 
 up_to_all : (run : Run) (on_broken : OnBroken) {before last : List ℕ} {output : Slot} → output.written ≡ before ++ last
     → (output.state ≡ Unopened → ⊥) → HasUpTo run on_broken before last output
-up_to_all run on_broken {before} {last} all opens = record {
-  no_more = rw all (begins_itself (before ++ last));
-  sound = λ sound. all;
-  some = λ ends. rw all (last, refl);
-  unopened = λ ends unopened. absurd (opens unopened);
-}
+up_to_all run on_broken all opens = grind (arith, common_steps, begins_itself)
 
 up_to : (run : Run) (on_broken : OnBroken) {before last x : List ℕ} {start old new : Slot} → start.written ≡ []
     → x ≡ before ++ last → Has true x start old
     → (ends_run (stands_as old) on_broken ≡ true → IsBeginning before old.written
     × (old.state ≡ Unopened → (source_at run.inputs 0).reads ≡ 0))
     → Final x start.name old new → HasUpTo run on_broken before last new
-up_to run on_broken {old = old} empty all part some as_before = record {
-  no_more = rw all at (has_named empty part).2;
-  sound = λ sound. ap (λ (slot : Slot). slot.written) (has_sound part (sound_slot old sound)) ∙ rw empty all;
-  some = λ ends. (some ends).0;
-  unopened = λ ends. (some ends).1;
-}
+up_to run on_broken empty all part some as_before = grind (arith, common_steps, has_named, has_sound, sound_slot)
 up_to run on_broken empty all part some (is_whole new sound has_it named closed) =
     up_to_all run on_broken (has_it ∙ all) (λ is. absurd (cc (closed, is)))
 

@@ -7,7 +7,8 @@ pub returns-in_err-known-clause-asked : goal.returns-in_err-known-clause-asked
 returns-in_err-known-clause-asked g c = fresh_asks _ _ c.requires.fresh
 
 pub copy_all-requires-clause-tee : goal.copy_all-requires-clause-tee
-copy_all-requires-clause-tee g c = is_tee_of c.args.job.now.names.now c.requires.outputs c.in_ok-tee.ensures.live c.in_ok-tee.ensures.files.0 c.in_ok-tee.ensures.files.1
+copy_all-requires-clause-tee g c =
+    is_tee_of c.args.job.now.names.now c.requires.outputs c.in_ok-tee.ensures.live c.in_ok-tee.ensures.files.0 c.in_ok-tee.ensures.files.1
 
 pub copy_all-requires-clause-opened : goal.copy_all-requires-clause-opened
 copy_all-requires-clause-opened g c = rw c.requires.outputs at c.in_ok-tee.ensures.opens

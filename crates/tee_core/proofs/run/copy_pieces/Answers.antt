@@ -56,7 +56,8 @@ pieces-preserved g c =
           c.copy_piece.ensures.copies;
       known = c.copy_piece.ensures.known;
       same = c.copy_piece.ensures.same ∙ so_far.same;
-      counted = rw (← (joined_more so_far.pieces piece)) (counted_more (concat so_far.pieces) c.read.new.buffer c.in-Ok.n so_far.counted within c.in-Some.ensures.1);
+      counted = rw (← (joined_more so_far.pieces piece)) (counted_more (concat so_far.pieces) c.read.new.buffer c.in-Ok.n
+          so_far.counted within c.in-Some.ensures.1);
       small = omega arith;
       readable = still_readable _ _ _ _ c.in-Ok.n c.in-Ok.ensures.rest so_far.readable;
       others = keeps_again _ _ _ _ so_far.others (keeps_others _ _ _ _ c.in-Ok.ensures.rest);
@@ -125,7 +126,8 @@ returns-in_default-clause-copies g c =
     let small : length (concat so_far.pieces) < 2 ^ 63 = omega (arith, so_far.counted, so_far.small) in
     let (content, rest, is, bytes, leaves, breaks) = seen_more _ _ _ _ _ _ so_far.read so_far.readable c.in-Ok.ensures.bytes c.in-Ok.ensures.rest in
     let piece = take c.in-Ok.n c.read.new.buffer in
-    let long : length (concat so_far.pieces ++ piece) ≡ c.pieces.fed + c.in-Ok.n = sym (counted_more (concat so_far.pieces) c.read.new.buffer c.in-Ok.n so_far.counted (omega (arith, c.in-Ok.ensures.bound, c.read.auto.buffer)) refl) in (
+    let long : length (concat so_far.pieces ++ piece) ≡ c.pieces.fed + c.in-Ok.n = sym
+    (counted_more (concat so_far.pieces) c.read.new.buffer c.in-Ok.n so_far.counted (omega (arith, c.in-Ok.ensures.bound, c.read.auto.buffer)) refl) in (
       content,
       is,
       (
