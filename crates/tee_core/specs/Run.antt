@@ -29,7 +29,7 @@ use Rattle.ports_core.specs.declared.reason.Reason.TheVariants as reason
 abbrev pub tee_called : Calling → Speaker
 tee_called calling = record { calling = calling; tool = Tee }
 
--- what is asked of a run, and whether its outputs tell their bytes
+-- What is asked of a run of `tee`. `told` says whether the bytes of its outputs are visible.
 pub record TeeRun : Type 0 where
   pub told : Bool
   pub calling : Calling
@@ -46,7 +46,7 @@ lost_for why = Broken
 abbrev pub stands_as : Slot → Standing
 stands_as slot = if slot.is_broken then lost_for slot.reason else Sound
 
--- how the outputs stand: standard output, and then the files; standard error stands between them
+-- How the outputs stand to which `tee` copies: slot 0, and then the files. Slot 1, standard error, is left out.
 abbrev pub standings_of : List Slot → List Standing
 standings_of [] = []
 standings_of (output ∷ []) = []
@@ -98,7 +98,8 @@ tells on_broken was now = false
 abbrev pub output_names : List (List ℕ) → List (List ℕ)
 output_names names = codes "standard output" ∷ names
 
--- the messages for those of the first n outputs that broke since, in their order
+-- The messages for those of the first n outputs that are sound in `was` and broken in `now`, in their order. Standard
+-- error isn't counted, and a break that isn't reported has no message.
 abbrev pub said_since : TeeRun → Fault → (was now : List Standing) → ℕ → List Message
 said_since run fault was now zero = []
 said_since run fault was now (suc n) = said_since run fault was now n
@@ -114,7 +115,7 @@ abbrev pub said_of_input : Option Fault → List Message
 said_of_input None = []
 said_of_input (Some fault) = message_of fault (codes "standard input") ∷ []
 
--- standard error got these messages, and no other output changed
+-- standard error got these messages, and no other slot changed
 pub record SaysTo (run : TeeRun) (messages : List Message) (old new : List Slot) : Type 0 where
   pub error : Slot
   pub said : SaysAll run.told (tee_called run.calling) messages (slot_at old 1) error
@@ -185,39 +186,41 @@ pub record ComesIn (told : Bool) (content : Content) (source : Source) (is_vain 
   -- one read for each piece, and one that reported the end, failed or gave too much, unless broken outputs ended that
   pub reads : source.reads ≡ length pieces + (if is_vain then 0 else 1)
 
--- the outputs before a run, and its files as they are if each can be opened
+-- What `OpensAll` starts from: the streams as a run finds them, and for each name a slot as if its file had been opened.
 abbrev pub all_opened : TeeRun → List Slot
 all_opened run = standard_output ∷ standard_error ∷ map (λ name. opened name run.mode) run.names
 
--- the places of the files of these names, which follow the streams
+-- the slots of the files of these names
 abbrev pub IsFileOf : List (List ℕ) → ℕ → Type 0
 IsFileOf names place = (2 ≤ place) × (place < length names + 2)
 
--- and those of all outputs: standard error is none
+-- the slots to which `tee` copies: slot 0 and the files
 abbrev pub IsOutputOf : List (List ℕ) → ℕ → Type 0
 IsOutputOf names place = (place ≡ 1 → ⊥) × (place < length names + 2)
 
--- One step of a run: outputs were changed so, and then those that broke in that were reported.
+-- One step of a run: each slot that `IsOne` names was changed as `Change` says. Then standard error got the message of
+-- `fault` for each output that broke in this step, unless its reader is gone and that isn't reported.
 pub record Step (run : TeeRun) (fault : Fault) (Change : Slot → Slot → Type 0) (IsOne : ℕ → Type 0)
     (old new : List Slot) : Type 0 where
   pub mid : List Slot
   pub changes : ChangesEach Change IsOne old mid
   pub said : SaysTo run (said_in run fault old mid) mid new
 
--- Each file was opened, or couldn't be. Messages about outputs don't have the numbers of their slots.
+-- Each file was opened, or couldn't be. The 0 of `Open 0` and `Write 0` says nothing: a message has the name of an output,
+-- and no number of a slot.
 abbrev pub OpensAll : TeeRun → List Slot → List Slot → Type 0
 OpensAll run = Step run (Open 0) (λ file now. OpensAs file.mode file.name now) (IsFileOf run.names)
 
--- each output got a piece, unless it was broken
+-- each output that wasn't broken got the piece, or it got a beginning of the piece and broke
 abbrev pub CopiesPiece : TeeRun → List ℕ → List Slot → List Slot → Type 0
 CopiesPiece run piece = Step run (Write 0) (Gets run.told piece) (IsOutputOf run.names)
 
--- each file was closed, unless it was broken
+-- each file that wasn't broken was closed, or broke as it was closed
 abbrev pub ClosesAll : TeeRun → List Slot → List Slot → Type 0
 ClosesAll run = Step run (Write 0) Closes (IsFileOf run.names)
 
--- The files were opened, and these pieces were copied. Each has a size that one read gives. Before each piece the
--- outputs stood so that the run went on.
+-- The files were opened, and these pieces were copied. Each has a size that one read gives. Before each piece `is_done`
+-- was false: no broken output had ended the run.
 pub data Copied (run : TeeRun) : List (List ℕ) → List Slot → Type 0 where
   started : (new : List Slot) → OpensAll run (all_opened run) new → Copied run [] new
   one_more : (pieces : List (List ℕ)) (piece : List ℕ) (old new : List Slot) → Copied run pieces old
@@ -227,11 +230,11 @@ pub data Copied (run : TeeRun) : List (List ℕ) → List Slot → Type 0 where
 -- How a run ends.
 pub data EndsAs (run : TeeRun) (told_in : Bool) (content : Content) (source : Source) (new : List Slot) (status : ℕ)
     : Type 0 where
-  -- The input came in pieces, and each was copied. Then the fault that ended the reading was reported, if one did, and
-  -- the files were closed. The status says whether anything failed.
-  copied : (pieces : List (List ℕ)) (fault : Option Fault) (old mid : List Slot)
-      → ComesIn told_in content source (is_done run.on_broken (standings_of old)) pieces fault → Copied run pieces old
-      → SaysTo run (said_of_input fault) old mid → ClosesAll run mid new
+  -- The input came in pieces, and each was copied: `fed` is what that left. Then the fault that ended the reading was
+  -- reported, if one did (`mid`), and the files were closed. The status says whether anything failed.
+  copied : (pieces : List (List ℕ)) (fault : Option Fault) (fed mid : List Slot)
+      → ComesIn told_in content source (is_done run.on_broken (standings_of fed)) pieces fault → Copied run pieces fed
+      → SaysTo run (said_of_input fault) fed mid → ClosesAll run mid new
       → status ≡ status_for run.on_broken (standings_of new) fault → EndsAs run told_in content source new status
   -- There was no memory for the run, and nothing was opened or read.
   no_room : (error : Slot)

@@ -65,7 +65,7 @@ abbrev pub FollowsAs : Caller → TailSettings → Followed → (looks : ℕ) �
 FollowsAs caller asked followed looks shows left status = let ends = asked.ends in
     FollowEndsBy asked.process caller.told_in caller.told
     (asked_so caller.calling (is_name followed) (start_of ends) (has_headers ends.headers ends.names) ends.names
-        streams)
+    streams)
     looks (λ n. waiting (max (pause_by caller.calling asked.pause) 1)
     (shows_by caller.calling (method_of followed) shows n)) left status
 

@@ -11,7 +11,7 @@ use Rattle.tee_core.specs.{
   declared.run.Job.Job,
 }
 
--- what is asked of a run
+-- the run that a job asks for
 abbrev pub run_for : Bool → Job → TeeRun
 run_for told job = record {
   told = told;
