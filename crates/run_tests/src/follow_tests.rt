@@ -2,13 +2,15 @@
 //! output, messages and status out; and runs in which each call is refused in turn.
 ghost use Rattle.std.specs.Prelude.{◌≡◌, [], IfOk};
 ghost use Rattle.mem_core.specs.MemWatchState.{seen};
+ghost use Rattle.ports_core.specs.Slot.{streams};
 
+use crate::left::{LAID, inputs_of};
 use mem_core::{Edit, MemOut, MemWatch};
-use ports_core::{Fault, Outs};
+use ports_core::{Calling, Fault, Outs};
 use std::alloc::Global;
 use std::process::Abort;
 use std::test::Fail;
-use tools_core::run_follow;
+use tools_core::{run_follow, run_words};
 
 /// A run that follows: its words, the edits before each look, and what it is to leave.
 #[derive(Clone, Copy)]
@@ -197,6 +199,22 @@ pub(crate) fn watch_of(alloc: Global, looks: &[&[Edit<'_>]]) -> Result<MemWatch,
     Ok(watch)
 }
 
+/// Runs the words, as the program is called so, over files with a look after each of these lists of edits, and returns the status. Beside
+/// them there are two lines of standard input and a file that isn't watched.
+pub(crate) fn play(
+    alloc: Global,
+    calling: Calling,
+    words: &[&str],
+    looks: &[&[Edit<'_>]],
+    outs: &mut MemOut,
+) -> Result<u8, Fault>
+    requires { outs.old ≡ streams }
+{
+    let mut inputs = inputs_of(alloc, LAID, b"x\ny\n")?;
+    let mut watch = watch_of(alloc, looks)?;
+    Ok(run_words(alloc, calling, words, &mut inputs, &mut watch, outs))
+}
+
 #[test]
 fn follows_in_looks(rt: HostRuntime) -> Result<(), Fail> {
     for row in &ROWS {
@@ -217,7 +235,7 @@ fn follows(rt: &impl Abort, alloc: Global, row: &Row<'_>, mut watch: MemWatch) -
     Ok(())
 }
 
-fn check_left(rt: &impl Abort, outs: &MemOut, status: u8, row: &Row<'_>) {
+pub(crate) fn check_left(rt: &impl Abort, outs: &MemOut, status: u8, row: &Row<'_>) {
     let is_so = is_written(outs, status, row) && outs.bytes(1) == row.messages;
     assert!(rt; is_so, "of {:?}", row.words);
 }

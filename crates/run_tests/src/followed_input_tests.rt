@@ -1,28 +1,14 @@
 //! Whole runs of `tail` over memory that are to follow standard input: it is followed by the tool's own name alone, and only if it is a
 //! file.
-use crate::follow_tests::watch_of;
-use crate::left::{LAID, inputs_of};
+use crate::follow_tests::{Row, check_left, play};
 use mem_core::{Edit, MemOut};
 use ports_core::{Calling, Fault};
 use std::alloc::Global;
 use std::process::Abort;
 use std::test::Fail;
-use tools_core::run_words;
 
-/// A run: how it is called, its words, the edits before each look, and what it is to leave.
-#[derive(Clone, Copy)]
-struct Row<'a> {
-    calling: Calling,
-    words: &'a [&'a str],
-    looks: &'a [&'a [Edit<'a>]],
-    output: &'a [u8],
-    messages: &'a [u8],
-    status: u8,
-}
-
-/// A run by the tool's own name that is to write nothing.
+/// A run over standard input that is a file, which is to write nothing.
 const SILENT: Row<'static> = Row {
-    calling: Calling::OwnName,
     words: &[],
     looks: FED,
     output: b"",
@@ -53,7 +39,8 @@ const FED: &[&[Edit<'static>]] = &[
 /// That file alone.
 const UNFED: &[&[Edit<'static>]] = &[&[Edit::Replace("f", b"1\n2\n")]];
 
-const ROWS: &[Row<'static>] = &[
+/// Runs by the tool's own name.
+const OWN: &[Row<'static>] = &[
     Row {
         words: LAST,
         output: b"b\nc\nd\n",
@@ -112,15 +99,16 @@ const ROWS: &[Row<'static>] = &[
         words: &["tail", "-F", "-"],
         ..REFUSED
     },
-    // After `cutters` it is never followed.
+];
+
+/// Runs after `cutters`, where it is never followed.
+const OTHER: &[Row<'static>] = &[
     Row {
-        calling: Calling::Cutters,
         words: LAST,
         output: b"y\n",
         ..SILENT
     },
     Row {
-        calling: Calling::Cutters,
         words: BOTH,
         messages: b"tail: invalid following\n",
         ..REFUSED
@@ -129,31 +117,18 @@ const ROWS: &[Row<'static>] = &[
 
 #[test]
 fn follows_standard_input_that_is_a_file(rt: HostRuntime) -> Result<(), Fail> {
-    for row in ROWS {
-        let (outs, status) = ran(rt.alloc(), row)?;
-        let words = row.words;
-        assert!(rt; leaves(&outs, status, row), "of {words:?}");
+    for row in OWN {
+        check(&rt, rt.alloc(), Calling::OwnName, row)?;
+    }
+    for row in OTHER {
+        check(&rt, rt.alloc(), Calling::Cutters, row)?;
     }
     Ok(())
 }
 
-/// What the run of a row leaves, where standard input has two lines.
-fn ran(alloc: Global, row: &Row<'_>) -> Result<(MemOut, u8), Fault> {
-    let mut inputs = inputs_of(alloc, LAID, b"x\ny\n")?;
-    let mut watch = watch_of(alloc, row.looks)?;
+fn check(rt: &impl Abort, alloc: Global, calling: Calling, row: &Row<'_>) -> Result<(), Fault> {
     let mut outs = MemOut::new(alloc)?;
-    let status = run_words(
-        alloc,
-        row.calling,
-        row.words,
-        &mut inputs,
-        &mut watch,
-        &mut outs,
-    );
-    Ok((outs, status))
-}
-
-/// Whether it left what its row says.
-fn leaves(outs: &MemOut, status: u8, row: &Row<'_>) -> bool {
-    outs.bytes(0) == row.output && outs.bytes(1) == row.messages && status == row.status
+    let status = play(alloc, calling, row.words, row.looks, &mut outs)?;
+    check_left(rt, &outs, status, row);
+    Ok(())
 }

@@ -12,10 +12,23 @@ ghost use Rattle.seg_core.specs.{
     cut.{Cut.TheVariants.Parts, Limit.TheVariants.Bytes, Way.TheVariants.Cut},
   },
 };
-ghost use Rattle.ports_core.specs.{Slot.{Slot, slot_at, streams}, Source.{source_of, unshown}};
+ghost use Rattle.ports_core.specs.{Slot.{Slot, slot_at, streams}, Source.IsFresh};
+ghost use Rattle.run_tests.specs.inner.Calls.{in_pipe, run_of};
 ghost use Rattle.tools_core.specs.{
-  Promises.{forgives_gone, AreCopies, Does, CountAlike, HasInput, IsBare, OnlyGrows, Ran, Run, SkipNothing, counted},
-  Tasks.{is_plus, names_of},
+  Promises.{
+    forgives_gone,
+    AreCopies,
+    Does,
+    CountAlike,
+    IsBare,
+    OnlyGrows,
+    Ran,
+    Run,
+    SkipNothing,
+    counted,
+    to_follow,
+  },
+  Tasks.is_plus,
 };
 ghost use Rattle.words_core.specs.{
   CsplitWords.CsplitAsked,
@@ -25,7 +38,7 @@ ghost use Rattle.words_core.specs.{
   TeeWords.TeeAsked,
   Words.{follows, settings_of},
   declared.{
-    value.Followed.{Followed, TheVariants.Descriptor},
+    value.Followed.Followed,
     settings.Settings.{Settings, TheVariants.{Csplit, Head, Split, Tail, Tee}},
   },
 };
@@ -42,7 +55,7 @@ use tools_core::{
 
 /// Standard input with these bytes, of which a read gives this many, and no files.
 fn standard_input(alloc: Global, bytes: &[u8], pieces: usize) -> Result<MemIn, Fault>
-    ensures { IfOk result (λ inputs. inputs.sources ≡ source_of (unshown bytes.now) ∷ []) }
+    ensures { IfOk result (λ inputs. inputs ≡ in_pipe bytes.now) }
 {
     let mut inputs = MemIn::new(alloc)?;
     inputs.input(bytes)?;
@@ -50,54 +63,86 @@ fn standard_input(alloc: Global, bytes: &[u8], pieces: usize) -> Result<MemIn, F
     Ok(inputs)
 }
 
-/// Runs the words over these bytes, which come by this many at once, and returns the status. They follow nothing.
-fn ran(
+/// Runs the words over these inputs, and returns the status. There is no file to be watched.
+pub(crate) fn ran(
     alloc: Global,
+    calling: Calling,
+    words: &[&str],
+    inputs: &mut MemIn,
+    outs: &mut MemOut,
+) -> Result<u8, Fault>
+    requires fresh { IsFresh inputs.old.sources }
+    requires empty { outs.old ≡ streams }
+    ensures { (asked : Settings) → settings_of calling (map (λ word. word.now) words.now) ≡ Ok asked
+        → follows calling false asked ≡ false
+        → IfOk result
+        (λ status. (rest : Run) × Ran
+        (run_of calling (map (λ word. word.now) words.now) inputs.old rest outs.new status) asked) }
+{
+    program_makes_these_runs();
+    let mut watch = MemWatch::new(alloc)?;
+    Ok(run_words(alloc, calling, words, inputs, &mut watch, outs))
+}
+
+/// The same over standard input with these bytes, which come by this many at once.
+pub(crate) fn ran_over(
+    alloc: Global,
+    calling: Calling,
     words: &[&str],
     bytes: &[u8],
     pieces: usize,
     outs: &mut MemOut,
 ) -> Result<u8, Fault>
     requires { outs.old ≡ streams }
-    ensures { (asked : Settings) → settings_of Calling.Cutters (map (λ word. word.now) words.now) ≡ Ok asked
-        → names_of asked ≡ codes "-" ∷ [] → follows Calling.Cutters false asked ≡ false
+    ensures { (asked : Settings) → settings_of calling (map (λ word. word.now) words.now) ≡ Ok asked
+        → follows calling false asked ≡ false
         → IfOk result
-        (λ status. (one : Run) × Ran one asked × HasInput one bytes.now × (one.calling ≡ Calling.Cutters)
-        × (one.words ≡ map (λ word. word.now) words.now) × (one.outputs ≡ outs.new) × (one.status ≡ status)) }
+        (λ status. (rest : Run) × Ran
+        (run_of calling (map (λ word. word.now) words.now) (in_pipe bytes.now) rest outs.new status) asked) }
 {
-    program_makes_these_runs();
     let mut inputs = standard_input(alloc, bytes, pieces)?;
-    let mut watch = MemWatch::new(alloc)?;
-    Ok(run_words(
-        alloc,
-        Calling::Cutters,
-        words,
-        &mut inputs,
-        &mut watch,
-        outs,
-    ))
+    ran(alloc, calling, words, &mut inputs, outs)
 }
 
-/// What a run of the words leaves of these bytes, if its status is 0. A reader that is gone is a fault for them.
-fn left_of(
+/// What a run of the words leaves over these inputs, if its status is 0. A reader that is gone is a fault for them.
+pub(crate) fn left_over(
     alloc: Global,
+    calling: Calling,
+    words: &[&str],
+    inputs: &mut MemIn,
+) -> Result<Option<MemOut>, Fault>
+    requires { IsFresh inputs.old.sources }
+    ensures { (asked : Settings) → settings_of calling (map (λ word. word.now) words.now) ≡ Ok asked
+        → follows calling false asked ≡ false → forgives_gone asked ≡ false
+        → IfOk result
+        (λ left. IfSome left
+        (λ outs. (rest : Run) × Does
+        (run_of calling (map (λ word. word.now) words.now) inputs.old rest outs 0) asked)) }
+{
+    let mut outs = MemOut::new(alloc)?;
+    if ran(alloc, calling, words, inputs, &mut outs)? != 0 {
+        return Ok(None);
+    }
+    Ok(Some(outs))
+}
+
+/// The same over standard input with these bytes, which come by this many at once.
+pub(crate) fn left_of(
+    alloc: Global,
+    calling: Calling,
     words: &[&str],
     bytes: &[u8],
     pieces: usize,
 ) -> Result<Option<MemOut>, Fault>
-    ensures { (asked : Settings) → settings_of Calling.Cutters (map (λ word. word.now) words.now) ≡ Ok asked
-        → names_of asked ≡ codes "-" ∷ [] → follows Calling.Cutters false asked ≡ false
-        → forgives_gone asked ≡ false
+    ensures { (asked : Settings) → settings_of calling (map (λ word. word.now) words.now) ≡ Ok asked
+        → follows calling false asked ≡ false → forgives_gone asked ≡ false
         → IfOk result
         (λ left. IfSome left
-        (λ outs. (one : Run) × Does one asked × HasInput one bytes.now × (one.calling ≡ Calling.Cutters)
-        × (one.words ≡ map (λ word. word.now) words.now) × (one.outputs ≡ outs))) }
+        (λ outs. (rest : Run) × Does
+        (run_of calling (map (λ word. word.now) words.now) (in_pipe bytes.now) rest outs 0) asked)) }
 {
-    let mut outs = MemOut::new(alloc)?;
-    if ran(alloc, words, bytes, pieces, &mut outs)? != 0 {
-        return Ok(None);
-    }
-    Ok(Some(outs))
+    let mut inputs = standard_input(alloc, bytes, pieces)?;
+    left_over(alloc, calling, words, &mut inputs)
 }
 
 /// What `head` and then `tail` write of the same bytes, if both go well: all of them, where `tail` begins with the line or byte
@@ -111,10 +156,10 @@ fn met(alloc: Global, head: &[&str], tail: &[&str], bytes: &[u8]) -> Result<Opti
         → IfOk result (λ both. IfSome both (λ all. all.items ≡ bytes.now)) }
 {
     head_and_tail_meet();
-    let Some(front) = left_of(alloc, head, bytes, 3)? else {
+    let Some(front) = left_of(alloc, Calling::Cutters, head, bytes, 3)? else {
         return Ok(None);
     };
-    let Some(back) = left_of(alloc, tail, bytes, 64)? else {
+    let Some(back) = left_of(alloc, Calling::Cutters, tail, bytes, 64)? else {
         return Ok(None);
     };
     let mut all = Vec::from_slice(alloc, front.bytes(0))?;
@@ -138,7 +183,7 @@ fn pieces(alloc: Global, words: &[&str], bytes: &[u8]) -> Result<Option<MemOut>,
         (λ left. IfSome left (λ outs. joined (map (λ (file : Slot). file.written) (drop 2 outs)) ≡ bytes.now)) }
 {
     split_loses_nothing();
-    left_of(alloc, words, bytes, 3)
+    left_of(alloc, Calling::Cutters, words, bytes, 3)
 }
 
 /// What `tee` leaves of these bytes, if that goes well: standard output and each file that is named has them.
@@ -151,7 +196,7 @@ fn copied(alloc: Global, words: &[&str], bytes: &[u8]) -> Result<Option<MemOut>,
         × AreCopies asked.mode asked.names bytes.now (drop 2 outs))) }
 {
     tee_copies();
-    left_of(alloc, words, bytes, 3)
+    left_of(alloc, Calling::Cutters, words, bytes, 3)
 }
 
 /// The files into which `csplit` cuts these bytes, if that goes well: joined they are the bytes, where no section is skipped and no
@@ -163,17 +208,17 @@ fn sections(alloc: Global, words: &[&str], bytes: &[u8]) -> Result<Option<MemOut
         (λ left. IfSome left (λ outs. joined (map (λ (file : Slot). file.written) (drop 2 outs)) ≡ bytes.now)) }
 {
     csplit_loses_nothing();
-    left_of(alloc, words, bytes, 3)
+    left_of(alloc, Calling::Cutters, words, bytes, 3)
 }
 
-/// What a `tail` leaves that follows one file by descriptor, if it goes well. If the file only grows, that is what it ends with at the
+/// What a `tail` leaves that follows one file, in either way, if it goes well. If the file only grows, that is what it ends with at the
 /// first look and all that came by the last.
 fn grown(alloc: Global, words: &[&str], watch: &mut MemWatch) -> Result<Option<MemOut>, Fault>
     requires seen { seen watch.old ≡ [] }
     requires watched { watch.old.watched ≡ [] }
-    ensures { (options : EndsAsked) (name came : List ℕ) (file n pause : ℕ)
-        → settings_of Calling.Cutters (map (λ word. word.now) words.now) ≡ Ok (Tail
-        (record { ends = options; followed = Some Descriptor; looks = n + 1; pause = pause; process = None }))
+    ensures { (options : EndsAsked) (followed : Followed) (name came : List ℕ) (file n pause : ℕ)
+        → settings_of Calling.Cutters (map (λ word. word.now) words.now)
+        ≡ Ok (Tail (to_follow options followed (n + 1) pause))
         → has_dash options.names ≡ false → IsBare options → options.names ≡ name ∷ []
         → ((count : ℕ) → OnlyGrows count (shows watch.old) name file)
         → (shows watch.old n).holds file ≡ (shows watch.old 0).holds file ++ came
@@ -204,15 +249,14 @@ fn grown(alloc: Global, words: &[&str], watch: &mut MemWatch) -> Result<Option<M
 /// What the words leave of these bytes where they come byte by byte, and where they come whole, if both go well: the same.
 fn both(alloc: Global, words: &[&str], bytes: &[u8]) -> Result<Option<(MemOut, MemOut)>, Fault>
     ensures { (asked : Settings) → settings_of Calling.Cutters (map (λ word. word.now) words.now) ≡ Ok asked
-        → names_of asked ≡ codes "-" ∷ [] → follows Calling.Cutters false asked ≡ false
-        → forgives_gone asked ≡ false
+        → follows Calling.Cutters false asked ≡ false → forgives_gone asked ≡ false
         → IfOk result (λ left. IfSome left (λ outs. outs.0 ≡ outs.1)) }
 {
     cutting_changes_nothing();
-    let Some(one) = left_of(alloc, words, bytes, 1)? else {
+    let Some(one) = left_of(alloc, Calling::Cutters, words, bytes, 1)? else {
         return Ok(None);
     };
-    let Some(other) = left_of(alloc, words, bytes, 64)? else {
+    let Some(other) = left_of(alloc, Calling::Cutters, words, bytes, 64)? else {
         return Ok(None);
     };
     Ok(Some((one, other)))
@@ -223,11 +267,10 @@ fn both(alloc: Global, words: &[&str], bytes: &[u8]) -> Result<Option<(MemOut, M
 fn status_of(alloc: Global, words: &[&str], bytes: &[u8], outs: &mut MemOut) -> Result<u8, Fault>
     requires { outs.old ≡ streams }
     ensures { (asked : EndsAsked) → settings_of Calling.Cutters (map (λ word. word.now) words.now) ≡ Ok (Head asked)
-        → asked.names ≡ codes "-" ∷ []
         → IfOk result (λ status. (slot_at outs.new 0).is_broken ≡ true → status ≡ 1) }
 {
     faults_leave_a_beginning();
-    ran(alloc, words, bytes, 3, outs)
+    ran_over(alloc, Calling::Cutters, words, bytes, 3, outs)
 }
 
 /// Three lines, the last of them open.
@@ -263,12 +306,14 @@ fn sections_are_there(rt: HostRuntime) -> Result<(), Fail> {
 
 #[test]
 fn grown_file_is_there(rt: HostRuntime) -> Result<(), Fail> {
-    let mut watch = MemWatch::new(rt.alloc())?;
-    watch.then(&[Edit::Replace("f", TEXT)])?;
-    watch.then(&[Edit::Append("f", b"d\n")])?;
-    let words = ["tail", "-f", "-n", "1", "--looks", "2", "f"];
-    let found = grown(rt.alloc(), &words, &mut watch)?;
-    assert!(rt; found.is_some_and(|outs| outs.bytes(0) == b"cccd\n".as_slice()));
+    for way in ["-f", "-F"] {
+        let mut watch = MemWatch::new(rt.alloc())?;
+        watch.then(&[Edit::Replace("f", TEXT)])?;
+        watch.then(&[Edit::Append("f", b"d\n")])?;
+        let words = ["tail", way, "-n", "1", "--looks", "2", "f"];
+        let found = grown(rt.alloc(), &words, &mut watch)?;
+        assert!(rt; found.is_some_and(|outs| outs.bytes(0) == b"cccd\n".as_slice()));
+    }
     Ok(())
 }
 

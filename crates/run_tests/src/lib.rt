@@ -20,6 +20,8 @@ mod followed_input_tests;
 #[cfg(test)]
 mod growth_tests;
 #[cfg(test)]
+mod law_calls;
+#[cfg(test)]
 mod law_tests;
 #[cfg(test)]
 mod left;

@@ -3,7 +3,7 @@
 ghost use Rattle.std.specs.Prelude.{◌≡◌, OnOk};
 ghost use Rattle.ports_core.specs.Source.{IsFresh};
 
-use crate::follow_tests::watch_of;
+use crate::follow_tests::play;
 use crate::left::{LAID, Left, NOTHING, differs, inputs_of};
 use mem_core::{Edit, MemIn, MemOut, MemWatch};
 use ports_core::{Calling, Fault, Reason};
@@ -269,18 +269,10 @@ fn ends_with_its_reader_by_its_own_name_alone(rt: HostRuntime) -> Result<(), Fai
 }
 
 fn follow_unread(alloc: Global, calling: Calling, question: u64) -> Result<(MemOut, u8), Fault> {
-    let mut inputs = inputs_of(alloc, LAID, b"")?;
-    let mut watch = watch_of(alloc, GROWING)?;
     let mut outs = MemOut::new(alloc)?;
     outs.unread_at(question);
-    let status = run_words(
-        alloc,
-        calling,
-        &["tail", "-f", "-n", "1", "--looks=3", "f"],
-        &mut inputs,
-        &mut watch,
-        &mut outs,
-    );
+    let words = ["tail", "-f", "-n", "1", "--looks=3", "f"];
+    let status = play(alloc, calling, &words, GROWING, &mut outs)?;
     Ok((outs, status))
 }
 

@@ -1,18 +1,18 @@
-use Rattle.std.proofs.{
-  Common.{◌≡◌, List, [], ◌∷◌, map, drop, Option, Some, None, Result, Ok, Err, refl, sym, ◌∙◌, ap, IfOk, IfSome},
-}
+use Rattle.std.proofs.Common.{◌≡◌, [], ◌∷◌, map, drop, refl, ap}
 use Rattle.seg_core.specs.Line.{joined}
-use Rattle.ports_core.specs.{Slot.Slot, declared.fault.Fault.Fault}
+use Rattle.ports_core.specs.Slot.{Slot}
 use Rattle.words_core.specs.declared.settings.Settings.TheVariants.{Split}
+use Rattle.run_tests.{
+  specs.inner.Calls.{in_pipe, run_of},
+  proofs.{CallLemmas.{pipe_given, weaker}},
+}
 use Rattle.run_tests.proofs.law_tests.pieces.Goals as goal
-
-weaker : (result : Result (Option (List Slot)) Fault) (P Q : List Slot → Type 0) → ((outs : List Slot) → P outs → Q outs) → IfOk result (λ left. IfSome left P) → IfOk result (λ left. IfSome left Q)
-weaker (Ok (Some outs)) P Q more holds = more outs holds
-weaker (Ok None) P Q more holds = tt
-weaker (Err fault) P Q more holds = tt
 
 pub returns : goal.returns
 returns c asked n read only cut =
     weaker c.left_of.result _ (λ outs. joined (map (λ (file : Slot). file.written) (drop 2 outs)) ≡ c.args.bytes.now)
-    (λ outs (one, does, has, called, words, same). ap (λ slots. joined (map (λ (file : Slot). file.written) (drop 2 slots))) (sym same) ∙ (c.split_loses_nothing.ensures.bytes one asked n c.args.bytes.now does has cut).all)
-    (c.left_of.ensures (Split asked) read (ap (λ name. name ∷ []) only) refl refl)
+    (λ outs (rest, does).
+    let one = run_of _ _ (in_pipe c.args.bytes.now) rest outs 0 in
+    let has = pipe_given one (Split asked) c.args.bytes.now refl read (ap (λ name. name ∷ []) only) in
+    (c.split_loses_nothing.ensures.bytes one asked n c.args.bytes.now does has cut).all)
+    (c.left_of.ensures (Split asked) read refl refl)

@@ -1,0 +1,67 @@
+-- Lemmas that the callers in `law_tests` and `law_calls` share.
+use Rattle.std.proofs.{
+  Common.{◌≡◌, ◌⊎◌, ◌<◌, ℕ, zero, suc, List, [], ◌∷◌, true, false, codes, Option, Some, None, Result, Ok, inl, inr},
+  Common.{refl, ◌∙◌, ap, arith, subst, IfOk, IfSome},
+  lemmas.{Option.IfSome_then, Result.IfOk-weaker},
+}
+use Rattle.ports_core.specs.Source.{Source, source_of, unshown}
+use Rattle.mem_core.specs.MemInState.{shown_by}
+use Rattle.words_core.specs.{Words.settings_of, declared.settings.Settings.Settings}
+use Rattle.tools_core.specs.{
+  Outcome.names_at,
+  Program.ProgramEnds,
+  Promises.{HasInput, IsOfProgram, Run, in_full},
+  Tasks.names_of,
+}
+
+-- what is true of what was left may be replaced by what follows from it
+pub weaker : {A E : Type 0} (result : Result (Option A) E) (P Q : A → Type 0) → ((left : A) → P left → Q left)
+    → IfOk result (λ left. IfSome left P) → IfOk result (λ left. IfSome left Q)
+weaker result P Q more = IfOk-weaker result (λ left. IfSome left P) (λ left. IfSome left Q) (λ left holds. IfSome_then left holds more)
+
+-- a run is of the program if it began with its standard input alone
+pub of_program : (run : Run) {old : List Source} → old ≡ source_of run.world.standard ∷ []
+    → ProgramEnds run.calling run.fed true true true run.words run.world.laid old run.inputs run.shows run.seen
+    run.watched run.outputs run.status
+    → IsOfProgram run
+of_program run fresh ends =
+    subst (λ old. ProgramEnds run.calling run.fed true true true run.words run.world.laid old run.inputs run.shows run.seen
+    run.watched run.outputs run.status) fresh ends
+
+-- standard input that shows nothing gives its bytes to a run that reads it alone
+pub pipe_given : (run : Run) (asked : Settings) (bytes : List ℕ) → run.world.standard ≡ unshown bytes
+    → settings_of run.calling run.words ≡ Ok asked → names_of asked ≡ codes "-" ∷ [] → HasInput run bytes
+pipe_given run asked bytes same read only = record {
+  name = codes "-";
+  only = ap (λ (meant : Result Settings _). names_at meant) read ∙ only;
+  content = unshown bytes;
+  holds = ap Some same;
+  gives = λ asked read. in_full refl refl (λ looks. inl refl);
+}
+
+shown_as : (bytes : List ℕ) → (shown_by bytes ≡ None) ⊎ (shown_by bytes ≡ Some bytes)
+shown_as [] = inl refl
+shown_as (byte ∷ bytes) = inr refl
+
+-- so does a file that shows them
+pub file_given : (run : Run) (asked : Settings) (bytes : List ℕ)
+    → run.world.laid 1 (codes "f") ≡ Some (record { bytes = bytes; breaks_off = false; shown = shown_by bytes })
+    → settings_of run.calling run.words ≡ Ok asked → names_of asked ≡ codes "f" ∷ [] → HasInput run bytes
+file_given run asked bytes lies read only = record {
+  name = codes "f";
+  only = ap (λ (meant : Result Settings _). names_at meant) read ∙ only;
+  content = record { bytes = bytes; breaks_off = false; shown = shown_by bytes };
+  holds = lies;
+  gives = λ asked read. in_full refl refl (λ looks. shown_as bytes);
+}
+
+-- of two values the first for 0, and the second for all other numbers
+abbrev pub one_or : {A : Type 0} → A → A → ℕ → A
+one_or one other zero = one
+one_or one other (suc place) = other
+
+-- what is true of 0 and 1 is true of each number below 2
+pub below_two : (P : ℕ → Type 0) → P 0 → P 1 → (place : ℕ) → place < 2 → P place
+below_two P first second zero within = first
+below_two P first second (suc zero) within = second
+below_two P first second (suc (suc place)) within = absurd (omega (arith, within))

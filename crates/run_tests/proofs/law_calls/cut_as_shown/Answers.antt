@@ -1,0 +1,48 @@
+use Rattle.std.proofs.Common.{◌≡◌, ℕ, ◌<◌, List, [], ◌∷◌, Some, Result, codes, false, length, inl, inr, refl, ◌∙◌, ap, arith}
+use Rattle.mem_core.specs.MemInState.{shown_by}
+use Rattle.run_core.specs.Input.{Input, file_input, inputs_at}
+use Rattle.words_core.specs.{SplitWords.SplitAsked, declared.settings.Settings.{Settings, TheVariants.Split}}
+use Rattle.tools_core.specs.{
+  Outcome.{names_at, names_read},
+  Promises.{GivesOther, Run},
+}
+use Rattle.run_tests.{
+  specs.inner.Calls.{in_file, run_of},
+}
+use Rattle.run_tests.proofs.law_calls.cut_as_shown.Goals as goal
+
+shown_some : (text : List ℕ) → 0 < length text → shown_by text ≡ Some text
+shown_some [] some = absurd (omega (arith, some))
+shown_some (byte ∷ text) some = refl
+
+-- what a file shows and what it has, as an input
+abbrev changing : (bytes shown : List ℕ) → Input
+changing bytes shown = file_input (codes "f") 1 (Some (record { bytes = bytes; breaks_off = false; shown = shown_by shown }))
+
+gives_other : (run : Run) (asked : SplitAsked) (bytes shown : List ℕ) → names_read run.calling run.words ≡ codes "f" ∷ []
+    → inputs_at run.world (codes "f" ∷ []) ≡ changing bytes shown ∷ []
+    → 0 < length shown → (length bytes ≡ length shown → ⊥) → GivesOther run (changing bytes shown) shown bytes
+gives_other run asked bytes shown only lies some other = record {
+  only = ap (inputs_at run.world) only ∙ lies;
+  showed = shown_some shown some;
+  some = some;
+  gave = ap (λ shown. Some (record { bytes = bytes; breaks_off = false; shown = shown })) (shown_some shown some);
+  other = other;
+}
+
+pub returns : goal.returns
+returns c asked chunks read only way some other =
+    let bytes = c.args.bytes.now in
+    let shown = c.args.shown.now in
+    let (rest, ran) = rw c.in_ok-inputs.ensures at (c.in_ok-status.ensures (Split asked) read refl) in
+    let one = run_of _ _ (in_file bytes shown) rest c.ran.new.outs c.in_ok-status.status in
+    let names = ap (λ (meant : Result Settings _). names_at meant) read ∙ ap (λ name. name ∷ []) only in (
+      one,
+      refl,
+      refl,
+      elim (c.cutting_changes_nothing.ensures.ended one (Split asked) ran) [
+        | inl whole ↦ inl (c.split_loses_nothing.ensures.changed one asked chunks (changing bytes shown) shown bytes whole
+            (gives_other one asked bytes shown names refl some other) way)
+        | inr short ↦ inr short
+      ],
+    )

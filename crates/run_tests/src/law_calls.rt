@@ -1,0 +1,315 @@
+//! More callers of `run_words` that rest on the laws of `tools_core`, as those of `law_tests` do: by both ways to call the program, over a
+//! file that shows its bytes or another text, and of runs that a fault may stop.
+ghost use Rattle.std.specs.{
+  Prelude.{◌≡◌, ◌<◌, ◌^◌, ◌⊎◌, ◌∷◌, [], ℕ, Ok, false, length, map, codes, IfOk, IfSome},
+};
+ghost use Rattle.ports_core.specs.{Part.IsBeginning, Slot.{slot_at, streams}, Source.IsFresh};
+ghost use Rattle.run_tests.specs.inner.Calls.{IsCutShort, in_file, in_pipe, run_of};
+ghost use Rattle.seg_core.specs.declared.cut.Chunks.{Chunks};
+ghost use Rattle.tools_core.specs.{
+  Promises.{AreDealt, BeginsEach, Completes, EndsWithBreak, FindAlike, IsCutAsShown, LeaveAlike, Run, SaysWhy, Splits},
+  Tasks.names_of,
+};
+ghost use Rattle.words_core.specs.{
+  SplitWords.SplitAsked,
+  TeeWords.TeeAsked,
+  Words.{HasOperands, follows, settings_of},
+  declared.settings.Settings.{Settings, TheVariants.{Split, Tee}},
+};
+ghost use Rattle.seg_core.specs.declared.cut.Way.TheVariants as way;
+
+use crate::law_tests::{left_of, left_over, ran, ran_over};
+use mem_core::{MemIn, MemOut};
+use ports_core::{Calling, Fault, Outs};
+use std::alloc::Global;
+use std::process::Abort;
+use std::test::Fail;
+use tools_core::{
+    cutting_changes_nothing, faults_leave_a_beginning, split_loses_nothing, tee_copies,
+};
+
+/// An empty standard input, and a file `f` with these bytes, which shows that text before it is read.
+fn file_input(alloc: Global, bytes: &[u8], shown: &[u8]) -> Result<MemIn, Fault>
+    ensures { IfOk result (λ inputs. inputs ≡ in_file bytes.now shown.now) }
+{
+    let mut inputs = MemIn::new(alloc)?;
+    inputs.file_showing("f", bytes, shown)?;
+    inputs.pieces(3);
+    Ok(inputs)
+}
+
+/// What a `split` of `f` leaves, which shows its bytes, if it goes well.
+fn split_of(
+    alloc: Global,
+    calling: Calling,
+    words: &[&str],
+    bytes: &[u8],
+) -> Result<Option<MemOut>, Fault>
+    ensures { (asked : SplitAsked) → settings_of calling (map (λ word. word.now) words.now) ≡ Ok (Split asked)
+        → asked.input ≡ codes "f"
+        → IfOk result
+        (λ left. IfSome left
+        (λ outs. (rest : Run) × Splits
+        (run_of calling (map (λ word. word.now) words.now) (in_file bytes.now bytes.now) rest outs 0) asked asked.way
+        bytes.now)) }
+{
+    let mut inputs = file_input(alloc, bytes, bytes)?;
+    left_over(alloc, calling, words, &mut inputs)
+}
+
+/// What two runs write of `f`, each of them one half, if both go well: joined it is all that `f` has.
+fn halves(
+    alloc: Global,
+    calling: Calling,
+    first: &[&str],
+    second: &[&str],
+    bytes: &[u8],
+) -> Result<Option<Vec<u8>>, Fault>
+    ensures { (one other : SplitAsked) (chunks : Chunks) → chunks.count ≡ 2
+        → settings_of calling (map (λ word. word.now) first.now) ≡ Ok (Split one)
+        → settings_of calling (map (λ word. word.now) second.now) ≡ Ok (Split other)
+        → one.input ≡ codes "f" → other.input ≡ codes "f"
+        → one.way ≡ way.Chunk 0 chunks → other.way ≡ way.Chunk 1 chunks
+        → IfOk result (λ both. IfSome both (λ all. all.items ≡ bytes.now)) }
+{
+    split_loses_nothing();
+    let Some(front) = split_of(alloc, calling, first, bytes)? else {
+        return Ok(None);
+    };
+    let Some(back) = split_of(alloc, calling, second, bytes)? else {
+        return Ok(None);
+    };
+    let mut all = Vec::from_slice(alloc, front.bytes(0))?;
+    all.extend_from_slice(back.bytes(0))?;
+    Ok(Some(all))
+}
+
+/// What two runs write of standard input, each of them the lines of one file of two, if both go well: each line is in one of them, in turn.
+fn dealt(
+    alloc: Global,
+    calling: Calling,
+    first: &[&str],
+    second: &[&str],
+    bytes: &[u8],
+) -> Result<Option<(MemOut, MemOut)>, Fault>
+    ensures { (one other : SplitAsked) (delim : ℕ)
+        → settings_of calling (map (λ word. word.now) first.now) ≡ Ok (Split one)
+        → settings_of calling (map (λ word. word.now) second.now) ≡ Ok (Split other)
+        → one.input ≡ codes "-" → other.input ≡ codes "-"
+        → one.way ≡ way.Turn 0 2 delim → other.way ≡ way.Turn 1 2 delim
+        → IfOk result
+        (λ left. IfSome left
+        (λ both. AreDealt delim 2 false bytes.now
+        ((slot_at both.0 0).written ∷ (slot_at both.1 0).written ∷ []))) }
+{
+    split_loses_nothing();
+    let Some(one) = left_of(alloc, calling, first, bytes, 3)? else {
+        return Ok(None);
+    };
+    let Some(other) = left_of(alloc, calling, second, bytes, 64)? else {
+        return Ok(None);
+    };
+    Ok(Some((one, other)))
+}
+
+/// What the words leave of these bytes where they come byte by byte, and where they come whole, whatever the status is: the same, unless
+/// a fault stopped one of both runs.
+fn left_twice(
+    alloc: Global,
+    calling: Calling,
+    words: &[&str],
+    bytes: &[u8],
+) -> Result<(MemOut, MemOut), Fault>
+    ensures { (asked : Settings) → settings_of calling (map (λ word. word.now) words.now) ≡ Ok asked
+        → follows calling false asked ≡ false
+        → IfOk result
+        (λ left. (one other : Run) × (one.outputs ≡ left.0) × (other.outputs ≡ left.1)
+        × (LeaveAlike asked one other ⊎ IsCutShort one asked ⊎ IsCutShort other asked)) }
+{
+    cutting_changes_nothing();
+    let mut one = MemOut::new(alloc)?;
+    ran_over(alloc, calling, words, bytes, 1, &mut one)?;
+    let mut other = MemOut::new(alloc)?;
+    ran_over(alloc, calling, words, bytes, 64, &mut other)?;
+    Ok((one, other))
+}
+
+/// The files into which `split -n N` cuts `f`, which showed this text and then gave these bytes, and the status: they are what came, cut as
+/// chunks of a text of the length that was shown, and that is told, unless a fault stopped the run.
+fn cut_as_shown(
+    alloc: Global,
+    calling: Calling,
+    words: &[&str],
+    bytes: &[u8],
+    shown: &[u8],
+) -> Result<(MemOut, u8), Fault>
+    ensures { (asked : SplitAsked) (chunks : Chunks)
+        → settings_of calling (map (λ word. word.now) words.now) ≡ Ok (Split asked)
+        → asked.input ≡ codes "f" → asked.way ≡ way.Chunks chunks
+        → 0 < length shown.now → (length bytes.now ≡ length shown.now → ⊥)
+        → IfOk result
+        (λ left. (one : Run) × (one.outputs ≡ left.0) × (one.status ≡ left.1)
+        × (IsCutAsShown one asked chunks (codes "f") shown.now bytes.now ⊎ IsCutShort one (Split asked))) }
+{
+    cutting_changes_nothing();
+    split_loses_nothing();
+    let mut inputs = file_input(alloc, bytes, shown)?;
+    let mut outs = MemOut::new(alloc)?;
+    let status = ran(alloc, calling, words, &mut inputs, &mut outs)?;
+    Ok((outs, status))
+}
+
+/// Runs `tee` over these bytes, into outputs that may break, and returns the status. It read to the end, or to where an output ended the
+/// run or none was left, or there was no memory; and each output has a beginning of the bytes.
+fn copied_so_far(
+    alloc: Global,
+    calling: Calling,
+    words: &[&str],
+    bytes: &[u8],
+    outs: &mut MemOut,
+) -> Result<u8, Fault>
+    requires { outs.old ≡ streams }
+    ensures ends { (asked : TeeAsked) → settings_of calling (map (λ word. word.now) words.now) ≡ Ok (Tee asked)
+        → length bytes.now < 2 ^ 63
+        → IfOk result
+        (λ status. (rest : Run) × EndsWithBreak
+        (run_of calling (map (λ word. word.now) words.now) (in_pipe bytes.now) rest outs.new status) asked) }
+    ensures begins { (asked : TeeAsked) (place : ℕ)
+        → settings_of calling (map (λ word. word.now) words.now) ≡ Ok (Tee asked)
+        → length bytes.now < 2 ^ 63 → (place ≡ 1 → ⊥) → place < length outs.new
+        → IfOk result (λ status. IsBeginning (slot_at outs.new place).written bytes.now) }
+{
+    tee_copies();
+    ran_over(alloc, calling, words, bytes, 3, outs)
+}
+
+/// Runs the words over these inputs, into outputs that may break, and returns the status. If it is 1, a fault that was met was told.
+fn told_why(
+    alloc: Global,
+    calling: Calling,
+    words: &[&str],
+    inputs: &mut MemIn,
+    outs: &mut MemOut,
+) -> Result<u8, Fault>
+    requires fresh { IsFresh inputs.old.sources }
+    requires empty { outs.old ≡ streams }
+    ensures { (asked : Settings) → settings_of calling (map (λ word. word.now) words.now) ≡ Ok asked
+        → follows calling false asked ≡ false
+        → IfOk result
+        (λ status. status ≡ 1 → (rest : Run) × SaysWhy
+        (run_of calling (map (λ word. word.now) words.now) inputs.old rest outs.new status) asked) }
+{
+    faults_leave_a_beginning();
+    ran(alloc, calling, words, inputs, outs)
+}
+
+/// Runs the words over these bytes, into outputs that may break, and returns the status. Each output has a beginning of what a run of the
+/// same words over the same input gives it that no fault stops; and there is such a run.
+fn begun(
+    alloc: Global,
+    calling: Calling,
+    words: &[&str],
+    bytes: &[u8],
+    outs: &mut MemOut,
+) -> Result<u8, Fault>
+    requires { outs.old ≡ streams }
+    ensures { (asked : Settings) → settings_of calling (map (λ word. word.now) words.now) ≡ Ok asked
+        → names_of asked ≡ codes "-" ∷ [] → follows calling false asked ≡ false → HasOperands asked
+        → length bytes.now < 2 ^ 63
+        → IfOk result
+        (λ status. (one well : Run) × (one.outputs ≡ outs.new) × FindAlike asked one well × Completes well asked
+        × BeginsEach one well) }
+{
+    faults_leave_a_beginning();
+    ran_over(alloc, calling, words, bytes, 3, outs)
+}
+
+/// Three lines, the last of them open.
+const TEXT: &[u8] = b"a\nbb\nccc";
+
+/// Both ways to call the program.
+const CALLINGS: [Calling; 2] = [Calling::Cutters, Calling::OwnName];
+
+/// Whether an output has these bytes.
+fn has(outs: &MemOut, slot: usize, bytes: &[u8]) -> bool {
+    outs.bytes(slot) == bytes
+}
+
+#[test]
+fn halves_meet(rt: HostRuntime) -> Result<(), Fail> {
+    for calling in CALLINGS {
+        let first = ["split", "-n", "1/2", "f"];
+        let second = ["split", "-n", "2/2", "f"];
+        let found = halves(rt.alloc(), calling, &first, &second, TEXT)?;
+        assert!(rt; found.is_some_and(|all| all.as_slice() == TEXT));
+    }
+    Ok(())
+}
+
+#[test]
+fn lines_are_dealt(rt: HostRuntime) -> Result<(), Fail> {
+    let first = ["split", "-n", "r/1/2"];
+    let second = ["split", "-n", "r/2/2"];
+    let found = dealt(rt.alloc(), Calling::OwnName, &first, &second, TEXT)?;
+    assert!(rt; found.is_some_and(|both| has(&both.0, 0, b"a\nccc") && has(&both.1, 0, b"bb\n")));
+    Ok(())
+}
+
+#[test]
+fn no_match_leaves_the_same(rt: HostRuntime) -> Result<(), Fail> {
+    let words = ["csplit", "-k", "-", "/bb/", "/z/"];
+    let (one, other) = left_twice(rt.alloc(), Calling::OwnName, &words, TEXT)?;
+    assert!(rt; has(&one, 2, b"a\n") && has(&other, 2, b"a\n"));
+    assert!(rt; one.bytes(1) == other.bytes(1));
+    Ok(())
+}
+
+#[test]
+fn change_is_told(rt: HostRuntime) -> Result<(), Fail> {
+    let words = ["split", "-n", "3", "f"];
+    let (outs, status) = cut_as_shown(rt.alloc(), Calling::Cutters, &words, b"vwxyz", TEXT)?;
+    assert!(rt; has(&outs, 2, b"vwx") && has(&outs, 3, b"yz") && status == 1);
+    Ok(())
+}
+
+#[test]
+fn broken_copy_ends_the_run(rt: HostRuntime) -> Result<(), Fail> {
+    let mut outs = MemOut::new(rt.alloc())?;
+    outs.limit(2, 4)?;
+    let words = ["tee", "--output-error=exit", "s"];
+    let status = copied_so_far(rt.alloc(), Calling::OwnName, &words, TEXT, &mut outs)?;
+    assert!(rt; has(&outs, 0, b"a\nbb\nc") && has(&outs, 2, b"a\nbb") && status == 1);
+    Ok(())
+}
+
+#[test]
+fn missing_file_is_told(rt: HostRuntime) -> Result<(), Fail> {
+    for calling in CALLINGS {
+        let mut inputs = file_input(rt.alloc(), TEXT, TEXT)?;
+        let mut outs = MemOut::new(rt.alloc())?;
+        let status = told_why(
+            rt.alloc(),
+            calling,
+            &["head", "f", "g"],
+            &mut inputs,
+            &mut outs,
+        )?;
+        assert!(rt; status == 1 && outs.bytes(1).starts_with(b"head: cannot open 'g'"));
+    }
+    Ok(())
+}
+
+#[test]
+fn broken_output_has_a_beginning(rt: HostRuntime) -> Result<(), Fail> {
+    let mut outs = MemOut::new(rt.alloc())?;
+    outs.limit(0, 3)?;
+    let status = begun(
+        rt.alloc(),
+        Calling::OwnName,
+        &["tail", "-n", "2"],
+        TEXT,
+        &mut outs,
+    )?;
+    assert!(rt; has(&outs, 0, b"bb\n") && status == 1);
+    Ok(())
+}
