@@ -44,7 +44,7 @@ map_same f g a (suc n) same = grind (arith, map_same f g (a + 1) n (λ i from to
 
 pub map_parts : (f : ℕ → List ℕ) (a p k : ℕ) → map f (range_with_len a (p + k))
     ≡ map f (range_with_len a p) ++ map f (range_with_len (a + p) k)
-map_parts f a zero k = let e : 0 + k ≡ k = omega arith in let at : a + 0 ≡ a = omega arith in rw (e, at) refl
+map_parts f a zero k = grind (arith, common_steps)
 map_parts f a (suc p) k = let e : suc p + k ≡ suc (p + k) = omega arith in
     let at : a + suc p ≡ a + 1 + p = omega arith in rw (e, at, map_parts f (a + 1) p k) refl
 

@@ -68,7 +68,7 @@ begins_pieces f (suc n) low last some begins = begins
 -- the pieces at the end go on from those that are decided
 decided_ends : (chunks : Chunks) (said : Option ℕ) (x : List ℕ) → 0 < chunks.count
     → GoesOn (decided chunks 1 said x) (in_the_end chunks said x)
-decided_ends chunks (Some size) x some = record { more = []; full = sym (append-nil _); rest = begins_itself _ }
+decided_ends chunks (Some size) x some = grind (arith, common_steps)
 decided_ends chunks None x some = grind (arith, common_steps, start_first, cut_all, begins_pieces)
 
 -- What files get of a text that is cut up
