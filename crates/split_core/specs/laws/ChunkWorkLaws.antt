@@ -1,5 +1,13 @@
 -- Laws that traits cite: those of the work on chunks, and on dealt lines of which those for one file are written.
-use Rattle.std.{proofs.{lemmas.{Grind.common_steps}, lemmas.List.{append-nil, append_assoc, map-append, Elements.filter-append, FromFn.length-map-range_with_len}, Common.{◌≡◌, ℕ, ◌+◌, ◌-◌, ◌<◌, ◌≤◌, max, zero, suc, eqb, Bool, true, false, List, [], ◌∷◌, ◌++◌, length}, Common.{take, map, get_or, Option, Some, None, refl, sym, arith}}, specs.List.range_with_len}
+use Rattle.std.{
+  proofs.{
+    lemmas.Grind.common_steps,
+    lemmas.List.{append-nil, append_assoc, map-append, Elements.filter-append, FromFn.length-map-range_with_len},
+    Common.{◌≡◌, ℕ, ◌+◌, ◌-◌, ◌<◌, ◌≤◌, max, zero, suc, eqb, Bool, true, false, List, [], ◌∷◌, ◌++◌, length},
+    Common.{take, map, get_or, Option, Some, None, refl, sym, arith},
+  },
+  specs.List.range_with_len,
+}
 use Rattle.seg_core.specs.declared.{cut.Chunks.Chunks, unit.Unit.TheVariants.Bytes}
 use Rattle.ports_core.{
   specs.{Draft.shares_of, Part.IsBeginning, Work.{IsComplete, IsLawful}, inner.Shares.SharesBegin},
