@@ -2,9 +2,9 @@
 use Rattle.std.{
   proofs.{
     lemmas.Grind.common_steps,
-    lemmas.List.{append-nil, append_assoc, map-append, Elements.filter-append, FromFn.length-map-range_with_len},
+    lemmas.List.{append_assoc, map-append, Elements.filter-append, FromFn.length-map-range_with_len},
     Common.{◌≡◌, ℕ, ◌+◌, ◌-◌, ◌<◌, ◌≤◌, max, zero, suc, eqb, Bool, true, false, List, [], ◌∷◌, ◌++◌, length},
-    Common.{take, map, get_or, Option, Some, None, refl, sym, arith},
+    Common.{take, map, get_or, Option, Some, None, refl, arith},
   },
   specs.List.range_with_len,
 }

@@ -10,7 +10,7 @@ use Rattle.ports_core.specs.{
   Draft.{opening_line, part_of, told_of_files},
   Part.{File, FilesBegin, IsBeginning, Begins},
   inner.Shares.SharesBegin,
-  declared.{file_writer.Opening.TheVariants.Late, slot.State.TheVariants.{Open, Closed}},
+  declared.{slot.State.TheVariants.{Open, Closed}},
 }
 use Rattle.ports_core.proofs.{
   ShareLemmas.{files_begin, files_stop, made_begin, openings_begin, shares_after},
