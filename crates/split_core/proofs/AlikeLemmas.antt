@@ -1,4 +1,5 @@
 -- Lemmas on inputs that a work can't tell apart, and on what a stage owes that was fed one in place of the other.
+use Rattle.std.proofs.lemmas.Grind.{common_steps}
 use Rattle.std.proofs.{
   Common.{◌≡◌, ℕ, ◌≤◌, ◌<◌, Bool, true, false, List, [], ◌++◌, length, drop, Result, Ok, Err, inl, inr},
   Common.{refl, sym, ◌∙◌, ap, arith, append_assoc, rules},
@@ -103,12 +104,11 @@ module _ {S : Type 0} (terms : Terms S) where
   -- a call that takes in a piece
   takes_in : {piece : List ℕ} {old new : S} → terms.work new ≡ terms.work old → TakesIn terms.Holds piece old new
       → TakesIn (as_if terms).Holds piece old new
-  takes_in {piece} same takes x is =
-      record { other = is.other ++ piece; alike = rw same (alike_more is.alike piece); holds = takes is.other is.holds }
+  takes_in {piece} same takes x is = grind (arith, common_steps, alike_more)
 
   stands_so : {old : S} {told : Bool} {start before : List Slot} {x : List ℕ}
       → (at : StandsAt (as_if terms) old told start x before) → StandsAt terms old told start at.holds.other before
-  stands_so at = record { holds = at.holds.holds; owns = at.owns; outputs = rw (settled_as at.holds.alike) at at.outputs }
+  stands_so at = grind (arith, common_steps, settled_as)
 
   puts_out : {old : S} {told : Bool} {before after : List Slot} {due : List ℕ → Part}
       → ((x z : List ℕ) → AreAlike (terms.work old) x z → due x ≡ due z) → PutsOut terms old due told before after
@@ -152,6 +152,4 @@ module _ {S : Type 0} (terms : Terms S) where
   -- A front that was passed over is alike to one that it stands after.
   pub took_as : {before after : S} {x z : List ℕ} → AreAlike (terms.work before) x z → TookIn terms before after z
       → TookIn (as_if terms) before after x
-  took_as {before} {after} {x} {z} alike took =
-      let holds : (as_if terms).Holds after x = record { other = z; alike = rw took.same alike; holds = took.holds } in
-      grind (arith, settled_as, complete_as, nil_from_length)
+  took_as {before} {after} {x} {z} alike took = grind (arith, common_steps, settled_as, complete_as, nil_from_length)

@@ -25,8 +25,23 @@ use Rattle.seg_core.{
   specs.{Line.joined, declared.{cut.Chunks.Chunks, unit.Unit.{Unit as Which, TheVariants.{Bytes, Lines}}}},
   proofs.FirstLines.joined-append,
 }
-use Rattle.ports_core.{specs.{Agreed.{file_bytes}, Part.{IsBeginning}}, proofs.AgreedLemmas.{common, copies_come, none_comes, beginning_short}}
-use Rattle.split_core.specs.{Parts.{CutUp, uncut, unless_empty}, Place.beside_output, Split.{are_named}, Chunks.{before_chunk, begun_before, chunk_at, chunk_start, chunks_of, decided, ended, in_the_end, is_longer}, Chunks.{pieces_in}, ChunkAgreed.{AgreeAt, CanFollow, HasNoMore}, ChunkWork.{ChunksPlan, chunk_work, chunks_settled, chunks_whole, chunks_work, files_by, kept}, inner.Chunks.HaveEnded, laws.ChunkWorkLaws.{chunk_lawful, chunks_lawful, length-kept}, laws.BegunLaws.{begun_first, begun_on, begun_some, begun_within, open_within}, laws.ChunkLaws.{all_joined, before_stays, chunks_are, cut_all, ended_is, full_stays, map_parts, passed_open}}
+use Rattle.ports_core.{
+  specs.{Agreed.file_bytes, Part.IsBeginning},
+  proofs.AgreedLemmas.{common, copies_come, none_comes, beginning_short},
+}
+use Rattle.split_core.specs.{
+  Parts.{CutUp, uncut, unless_empty},
+  Place.beside_output,
+  Split.are_named,
+  Chunks.{before_chunk, begun_before, chunk_at, chunk_start, chunks_of, decided, ended, in_the_end, is_longer},
+  Chunks.pieces_in,
+  ChunkAgreed.{AgreeAt, CanFollow, HasNoMore},
+  ChunkWork.{ChunksPlan, chunk_work, chunks_settled, chunks_whole, chunks_work, files_by, kept},
+  inner.Chunks.HaveEnded,
+  laws.ChunkWorkLaws.{chunk_lawful, chunks_lawful, length-kept},
+  laws.BegunLaws.{begun_first, begun_on, begun_some, begun_within, open_within},
+  laws.ChunkLaws.{all_joined, before_stays, chunks_are, cut_all, ended_is, full_stays, map_parts, passed_open},
+}
 use Rattle.split_core.proofs.{
   AgreedLemmas.{bytes_named, each_named},
   CutLaws.bytes_of_shares,

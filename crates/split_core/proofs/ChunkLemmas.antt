@@ -131,13 +131,7 @@ module _ (chunks : Chunks) (x : List ℕ) where
 
   -- chunks of lines cut no line
   pub lines_in_chunks : 0 < chunks.count → chunks.unit ≡ Lines → KeepLines chunks.delim x (chunks_in chunks x)
-  lines_in_chunks some is = grind (
-    arith,
-    chunks_in_are,
-    begun_long,
-    map_chunks chunks (length x) (lines_of chunks.delim) x refl
-        (λ at. rw is (lines_between _ x (start at) _ (grind arith))) chunks.count,
-  )
+  lines_in_chunks some is = grind (arith, common_steps, chunks_in_are, begun_long, map_chunks, lines_between)
 
   -- a line goes with the chunk in which its first byte is
   pub begin_in_chunks : chunks.unit ≡ Lines → BeginInChunks chunks.delim chunks.count x (chunks_in chunks x)

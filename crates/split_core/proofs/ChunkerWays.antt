@@ -1,10 +1,31 @@
 -- Lemmas on chunks of an input, as one of the ways to split.
 use Rattle.std.proofs.Common.{rules}
-use Rattle.std.{specs.Option.is_none, proofs.lemmas.Grind.common_steps, proofs.Common.{◌≡◌, ℕ, ◌+◌, ◌≤◌, Bool, true, false, IsTrue, List, ◌++◌, length, Option, Some, None, Result, Ok}, proofs.Common.{Err, IfNone, IfSome, refl, ap, arith}}
-use Rattle.ports_core.specs.{Engine.{IsMet, StandsAt}, FileWriter.{Breaks, IsWrite}, Part.{Part, gets_bytes, writes}, Slot.{Slot, is_writable}, InTurn.fault_in, Work.{IsSettled, IsSpare, Judges, Means, Needs, Work}, declared.{fault.Fault.{Fault, TheVariants.{Memory, Verdict}}, verdict.Verdict.{Verdict as Judgement, TheVariants.{Changed, Suffixes}}}, inner.Part.HasLines}
+use Rattle.std.{
+  specs.Option.is_none,
+  proofs.lemmas.Grind.common_steps,
+  proofs.Common.{◌≡◌, ℕ, ◌+◌, ◌≤◌, Bool, true, false, IsTrue, List, ◌++◌, length, Option, Some, None, Result, Ok},
+  proofs.Common.{Err, IfNone, IfSome, refl, ap, arith},
+}
+use Rattle.ports_core.specs.{
+  Engine.{IsMet, StandsAt},
+  FileWriter.{Breaks, IsWrite},
+  Part.{Part, gets_bytes, writes},
+  Slot.{Slot, is_writable},
+  InTurn.fault_in,
+  Work.{IsSettled, IsSpare, Judges, Means, Needs, Work},
+  declared.{
+    fault.Fault.{Fault, TheVariants.{Memory, Verdict}},
+    verdict.Verdict.{Verdict as Judgement, TheVariants.{Changed, Suffixes}},
+  },
+  inner.Part.HasLines,
+}
 use Rattle.ports_core.proofs.{PartLemmas.stopped_in_turn, ShareLemmas.has_told, SpareLemmas.all_used}
 use Rattle.seg_core.specs.declared.cut.Chunks.{Chunks}
-use Rattle.split_core.specs.{ChunkerState.{AimState, ChunkerState, Course, Holds, HoldsBy, IsAimed, course, course_of}, ChunkerState.{to_files, to_output, in_files, in_output, total, work, work_on}, inner.{Chunker.{Comes, EndsAs, IsLike, PassesAs}, Brings.{AtAim, IsOf, manner_on, output_on}}}
+use Rattle.split_core.specs.{
+  ChunkerState.{AimState, ChunkerState, Course, Holds, HoldsBy, IsAimed, course, course_of, to_files, to_output},
+  ChunkerState.{in_files, in_output, total, work, work_on},
+  inner.{Chunker.{Comes, EndsAs, IsLike, PassesAs}, Brings.{AtAim, IsOf, manner_on, output_on}},
+}
 use Rattle.split_core.proofs.{PartsLemmas.{met_files, unjudged}, WayLemmas.passes_lacking}
 use Rattle.ports_core.specs.Engine as engine
 use Rattle.split_core.specs.Ways as ways

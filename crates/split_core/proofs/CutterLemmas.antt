@@ -28,10 +28,27 @@ use Rattle.seg_core.{
   },
   proofs.FirstLines.{delimiters-first_lines, first_lines-is_take, lines_of-first_lines},
 }
-use Rattle.split_core.specs.{Chunks.{before_chunk, begun_before, chunk_start, chunks_of, chunks_within, ended, is_within, open_from, passed, chunk_at}, ChunkWork.draft_by, ChunkerState.{Carries, Course, CutterState, HasAll, HasCut, IsAimed, can_cut, part_on, work_on, SinkState, course}, ChunkerState.{in_files, in_output}, Parts.CutUp, Split.manner_of, inner.Cutter.{CutsMore, CutsAs, EndsFull, IsCut, IsCutOff, IsOpen, CutsStretch, WritesTo, cut_to, part_at}, inner.Cutter.{said_work}, inner.Chunks.GoesOn as Goes, inner.Seen.{is_past_at, is_past_on}, inner.Brings.{Brings, Changes, Gives, HasName, Stays, with_full, with_rest}, inner.Chunks.{HaveEnded, cut_before}, laws.BegunLaws.{begun_begins, begun_long, begun_some, begun_stays, begun_within, open_append, open_within}, laws.ChunkLaws.{before_later, before_next, before_stays, chunks_are, ended_after, ended_grows, ended_is, full_stays}, laws.ChunkLaws.{passed_full, passed_grows, passed_open, piece_all, start_grows, start_past}, laws.ChunkWorkLaws.{chunks_go_on, piece_on, shares_on}, laws.ShareLaws.part_begins}
+use Rattle.split_core.specs.{
+  Chunks.{before_chunk, begun_before, chunk_start, chunks_of, chunks_within, ended, is_within, open_from, passed},
+  Chunks.chunk_at,
+  ChunkWork.draft_by,
+  ChunkerState.{Carries, Course, CutterState, HasAll, HasCut, IsAimed, can_cut, part_on, work_on, SinkState, course},
+  ChunkerState.{in_files, in_output},
+  Parts.CutUp,
+  Split.manner_of,
+  inner.Cutter.{CutsMore, CutsAs, EndsFull, IsCut, IsCutOff, IsOpen, CutsStretch, WritesTo, cut_to, part_at},
+  inner.Cutter.said_work,
+  inner.Chunks.{GoesOn as Goes, HaveEnded, cut_before},
+  inner.Seen.{is_past_at, is_past_on},
+  inner.Brings.{Brings, Changes, Gives, HasName, Stays, with_full, with_rest},
+  laws.BegunLaws.{begun_begins, begun_long, begun_some, begun_stays, begun_within, open_append, open_within},
+  laws.ChunkLaws.{before_later, before_next, before_stays, chunks_are, ended_after, ended_grows, ended_is},
+  laws.ChunkLaws.{full_stays, passed_full, passed_grows, passed_open, piece_all, start_grows, start_past},
+  laws.ChunkWorkLaws.{chunks_go_on, piece_on, shares_on},
+  laws.ShareLaws.part_begins,
+}
 use Rattle.split_core.proofs.{
-  SinkLemmas.{brings_none, brings_then, brings_wider, ends_begin, ends_full, piece_full, stays_none},
-  SinkLemmas.stays_then,
+  SinkLemmas.{brings_none, brings_then, brings_wider, ends_begin, ends_full, piece_full, stays_none, stays_then},
 }
 
 -- The lines that begin before a place
@@ -313,7 +330,8 @@ placed_at {cutter} {size} {x} is = grind (arith, common_steps, length-map-range_
 
 pub place_of : {cutter : CutterState} {size : ℕ} {x : List ℕ} (y : List ℕ) → IsCut cutter size x → 0 < length y
     → length (x ++ y) ≤ size → Place cutter size x
-place_of {cutter} {size} {x} y is some within = grind (arith, common_steps, length-append, some_in, placed_at, ended_is, cases_lt, start_past, passed_open, open_within)
+place_of {cutter} {size} {x} y is some within =
+    grind (arith, common_steps, length-append, some_in, placed_at, ended_is, cases_lt, start_past, passed_open, open_within)
 
 -- the end of the chunk that was begun
 abbrev pub end_so : CutterState → ℕ → ℕ

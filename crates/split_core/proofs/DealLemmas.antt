@@ -104,7 +104,7 @@ none_seen sees none all = grind (arith, common_steps, delimiters-none, take_all,
 -- the first delimiter
 
 length-window : (k : ℕ) {n : ℕ} (x : List ℕ) → k + n ≤ length x → length (take n (drop k x)) ≡ n
-length-window k {n} x inside = length-take-le n (drop k x) (omega (arith, length-drop k x))
+length-window k {n} x inside = grind (arith, common_steps)
 
 -- the first delimiter of the window is the first of the text
 first_of_text : {delim : ℕ} {x : List ℕ} (k n : ℕ) {at : ℕ} → k + n ≤ length x → HasNone delim (take k x)

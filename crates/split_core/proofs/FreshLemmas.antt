@@ -8,7 +8,15 @@ use Rattle.std.proofs.{
 }
 use Rattle.seg_core.specs.declared.{cut.Chunks.Chunks}
 use Rattle.ports_core.{specs.{Draft.draft_part, Part.nothing}, proofs.ShareLemmas.nothing_part}
-use Rattle.split_core.specs.{ChunkWork.{draft_by, piece_at}, Split.{Filing, manner_of}, Parts.uncut, Chunks.{chunks_within, decided}, ChunkerState.{Carries, Course, CutterState, HasAll, HasCut, HoldsBy, SinkState, can_cut, course_of, in_files}, ChunkerState.{in_output, work_on}, laws.BegunLaws.begun_of_none}
+use Rattle.split_core.specs.{
+  ChunkWork.{draft_by, piece_at},
+  Split.{Filing, manner_of},
+  Parts.uncut,
+  Chunks.{chunks_within, decided},
+  ChunkerState.{Carries, Course, CutterState, HasAll, HasCut, HoldsBy, SinkState, can_cut, course_of, in_files},
+  ChunkerState.{in_output, work_on},
+  laws.BegunLaws.begun_of_none,
+}
 use Rattle.split_core.proofs.{UnsaidLemmas.none_within, CutterLemmas.some_of}
 
 module _ (chunks : Chunks) (sink : SinkState) (can : can_cut (course_of sink.aim) chunks.count ≡ true)

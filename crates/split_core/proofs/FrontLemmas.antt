@@ -10,7 +10,22 @@ use Rattle.std.proofs.{
 }
 use Rattle.ports_core.specs.{Engine.TookIn, Part.{only_out, nothing}, Work.Work}
 use Rattle.seg_core.specs.{Line.delimiters, declared.{cut.Chunks.Chunks, unit.Unit.TheVariants.{Bytes, Lines}}}
-use Rattle.split_core.{specs.Alike.{AreAlike, as_if}, specs.Chunks.{chunk_start, chunks_within, ended, is_within, open_from, passed}, specs.ChunkWork.{chunk_work, piece_at}, specs.ChunkerState.{ChunkerState, HasCut, Holds, HoldsBy, IsSaid, course, course_of, in_output}, specs.ChunkerState.{to_output, work, work_on}, specs.inner.Chunker.{TakesFront, passed_to}, specs.laws.{BegunLaws.{begun_long, open_from_none}, ChunkLaws.{ended_only, passed_open, start_first}}, proofs.{AlikeLemmas.{same_alike, took_as}, ChunkAlikeLemmas.{alike_before, goes_on}, ChunkerLemmas.is_said, FreshLemmas.settled_none, UnsaidLemmas.{past_pieces, start_some}}}
+use Rattle.split_core.{
+  specs.Alike.{AreAlike, as_if},
+  specs.Chunks.{chunk_start, chunks_within, ended, is_within, open_from, passed},
+  specs.ChunkWork.{chunk_work, piece_at},
+  specs.ChunkerState.{ChunkerState, HasCut, Holds, HoldsBy, IsSaid, course, course_of, in_output, to_output, work},
+  specs.ChunkerState.work_on,
+  specs.inner.Chunker.{TakesFront, passed_to},
+  specs.laws.{BegunLaws.{begun_long, open_from_none}, ChunkLaws.{ended_only, passed_open, start_first}},
+  proofs.{
+    AlikeLemmas.{same_alike, took_as},
+    ChunkAlikeLemmas.{alike_before, goes_on},
+    ChunkerLemmas.is_said,
+    FreshLemmas.settled_none,
+    UnsaidLemmas.{past_pieces, start_some},
+  },
+}
 use Rattle.split_core.specs.Ways as ways
 use Rattle.split_core.specs.declared.splitter.Splitter.TheVariants as way
 

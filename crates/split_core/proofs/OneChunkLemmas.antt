@@ -128,8 +128,7 @@ module _ (place : ℕ) (chunks : Chunks) (within : place < chunks.count) where
             (grind (arith, common_steps))
 
   few : (said : Option ℕ) (x : List ℕ) (i : ℕ) → AtMostOne (one_chunk_spots place chunks said x i)
-  few said x i = cond_both (nat_lt i _) _ _ AtMostOne (λ less. tt)
-      (λ past. spots_few 0 (get_or (pieces_in (in_the_end chunks said x)) place [] ∷ []) _)
+  few said x i = grind (arith, common_steps, cond_both, AtMostOne, spots_few)
 
   pub chunk_waits : (said : Option ℕ) (x : List ℕ)
       → DifferOn (CanFollow said x) (GoesBy (one_chunk_spots place chunks said)) x

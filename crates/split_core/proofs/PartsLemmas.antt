@@ -36,7 +36,8 @@ use Rattle.split_core.specs.{
   inner.CutLaws.{cut_so, named},
   inner.Sharing.{CannotClose, always_named},
   inner.Step.{IsTurned, Leads},
-  inner.Takes.{Extends, Finishes, Moves, TakesStretch, Takes, BeginsNext, numbers, settled_part, begins_next, whole_part},
+  inner.Takes.{Extends, Finishes, Moves, TakesStretch, Takes, BeginsNext, numbers, settled_part, begins_next},
+  inner.Takes.whole_part,
   laws.{
     CutLaws.{cut_none, cut_on},
     ShareLaws.{are_named_more, named_short, part_begins, settled_count, settled_grow, shares_fewer},

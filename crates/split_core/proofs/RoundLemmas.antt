@@ -1,5 +1,12 @@
 -- Lemmas on dealing lines in turn, as a stage, and on what waits in the engine in each of its two ways to cut.
-use Rattle.std.proofs.{Common.{◌⊎◌, inl, inr, ◌≡◌, ℕ, ◌+◌, ◌%◌, ◌<◌, ◌≤◌, zero, suc, max, Bool, true, false, cond, List, [], ◌∷◌}, Common.{◌++◌, length, map, get_or, refl, sym, ◌∙◌, ap, arith, Ok, Err, OnOk, Result, rules}, Math.{Nat.{mod-add-mod, mod-eq_of_lt, mod-mod, mod-le}, Path.fun_ext, Seq.drop-length}, lemmas.Bool.{cases_lt, Decides.nat_tests}, lemmas.List.{append-nil, length-map, get_or_past, FromFn.{length-map-range_with_len, get_or-map-range_with_len}}, lemmas.Grind.common_steps}
+use Rattle.std.proofs.{
+  Common.{◌⊎◌, inl, inr, ◌≡◌, ℕ, ◌+◌, ◌%◌, ◌<◌, ◌≤◌, zero, suc, max, Bool, true, false, cond, List, [], ◌∷◌},
+  Common.{◌++◌, length, map, get_or, refl, sym, ◌∙◌, ap, arith, Ok, Err, OnOk, Result, rules},
+  Math.{Nat.{mod-add-mod, mod-eq_of_lt, mod-mod, mod-le}, Path.fun_ext, Seq.drop-length},
+  lemmas.Bool.{cases_lt, Decides.nat_tests},
+  lemmas.List.{append-nil, length-map, get_or_past, FromFn.{length-map-range_with_len, get_or-map-range_with_len}},
+  lemmas.Grind.common_steps,
+}
 use Rattle.std.specs.List.{filter, range_with_len}
 use Rattle.seg_core.{
   specs.Line.{joined, delimiters},
@@ -35,7 +42,14 @@ use Rattle.split_core.specs.{
   ChunkerState.ChunkerState,
   PartsState.{PartsState, Stands},
 }
-use Rattle.split_core.proofs.{AlikeLemmas.{complete_as, verdict_as, waiting_as}, AgreedLemmas.{each_named, shared_bytes, waiting_is}, CutLaws.{dealt_same, dealt_past}, FilesLemmas.{grow_same}, SectionLemmas.all_dealt, ChunkerWays.{chunks_wait, no_suffixes, open_beside}}
+use Rattle.split_core.proofs.{
+  AlikeLemmas.{complete_as, verdict_as, waiting_as},
+  AgreedLemmas.{each_named, shared_bytes, waiting_is},
+  CutLaws.{dealt_same, dealt_past},
+  FilesLemmas.grow_same,
+  SectionLemmas.all_dealt,
+  ChunkerWays.{chunks_wait, no_suffixes, open_beside},
+}
 use Rattle.split_core.specs.Ways as ways
 use Rattle.split_core.specs.declared.splitter.Splitter.TheVariants as way
 use Rattle.split_core.proofs.PartsLemmas as part

@@ -149,7 +149,7 @@ are_cut : {delim n : ℕ} {x : List ℕ} {those : List (List ℕ)} → 0 < n →
     → parts (LineBytes n delim) x ≡ those
 are_cut some none = refl
 are_cut some (one [] has short) = absurd (omega arith)
-are_cut {delim} {n} some (one (byte ∷ x) has short) = rw (cut_none (LineBytes n delim) (byte ∷ x) (short_from (LineBytes n delim) (byte ∷ x) short))
+are_cut {delim} {n} some (one (byte ∷ x) has short) = grind (arith, common_steps, cut_none, short_from)
 are_cut {delim} {n} some (more x _ enough past) =
     rw (cut_first (LineBytes n delim) x (full_from (LineBytes n delim) x some enough), are_cut some past)
 

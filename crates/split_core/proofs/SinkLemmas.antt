@@ -6,14 +6,39 @@ use Rattle.std.proofs.{
   Common.{◌≡◌, ℕ, ◌+◌, ◌≤◌, zero, suc, Bool, true, false, List, [], ◌∷◌, ◌++◌, length, get_or, cond, eqb, Option},
   Common.{Some, None, Result, Ok, Err, IfSome, IfNone, IfErr, IsTrue, inl, refl, sym, ◌∙◌, ap, subst, arith},
 }
-use Rattle.ports_core.specs.{Draft.{Draft, Manner, draft_part, made_of, with_bytes, with_next}, FileWriter.{At, Goes, IsCurrent, IsReady, IsWrite, KeepsOrBreaks, Leaves, Writes, WriterState, is_file}, Part.{Begins, File as PartFile, FilesBegin, Output, OutputsAt, Part, gets_bytes, only_out}, Slot.{Slot, is_writable}, Write.BrokeAfter, inner.Write.Wrote, InTurn.{IsThere, StoppedInTurn, fault_in}, declared.fault.Fault.{Fault, TheVariants.{Verdict, Write}}, declared.verdict.Verdict.TheVariants.Suffixes, declared.file_writer.{Current.{Current, TheVariants.{Skipped, Due, File, Unopened}}, Opening.{Opening, TheVariants.{Late, AtOnce, Never}}, Tells.Tells}}
+use Rattle.ports_core.specs.{
+  Draft.{Draft, Manner, draft_part, made_of, with_bytes, with_next},
+  FileWriter.{At, Goes, IsCurrent, IsReady, IsWrite, KeepsOrBreaks, Leaves, Writes, WriterState, is_file},
+  Part.{Begins, File as PartFile, FilesBegin, Output, OutputsAt, Part, gets_bytes, only_out},
+  Slot.{Slot, is_writable},
+  Write.BrokeAfter,
+  inner.Write.Wrote,
+  InTurn.{IsThere, StoppedInTurn, fault_in},
+  declared.fault.Fault.{Fault, TheVariants.{Verdict, Write}},
+  declared.verdict.Verdict.TheVariants.Suffixes,
+  declared.file_writer.{
+    Current.{Current, TheVariants.{Skipped, Due, File, Unopened}},
+    Opening.{Opening, TheVariants.{Late, AtOnce, Never}},
+    Tells.Tells,
+  },
+}
 use Rattle.ports_core.proofs.{
   FileWriterLemmas.{in_any, leaves_again, reaches_again, reaches_as, stops_wider, where_well, where_short},
   PartLemmas.{out_begins, out_cut, out_more, part_begins_itself, part_trans, turn_between},
   PartSteps.there_from,
   ShareLemmas.{bytes_begin, next_begins},
 }
-use Rattle.split_core.specs.{ChunkWork.{draft_by, kept}, Chunks.pieces_in, ChunkerState.{AimState, Course, IsAimed, course_of, filing_by, in_files, in_output, to_files, part_on}, ChunkerState.{to_output, whole_on}, Parts.CutUp, Split.{Filing, TellsNoSizes, manner_of}, inner.Brings.{AtAim, Brings, Changes, EndsAll, Files, CarriesOn, IsOf, Stays, begun_by, empties_by, ends_by}, inner.Brings.{manner_on, with_full, with_rest}, laws.ChunkWorkLaws.length-kept}
+use Rattle.split_core.specs.{
+  ChunkWork.{draft_by, kept},
+  Chunks.pieces_in,
+  ChunkerState.{AimState, Course, IsAimed, course_of, filing_by, in_files, in_output, to_files, part_on, to_output},
+  ChunkerState.whole_on,
+  Parts.CutUp,
+  Split.{Filing, TellsNoSizes, manner_of},
+  inner.Brings.{AtAim, Brings, Changes, EndsAll, Files, CarriesOn, IsOf, Stays, begun_by, empties_by, ends_by},
+  inner.Brings.{manner_on, with_full, with_rest},
+  laws.ChunkWorkLaws.length-kept,
+}
 use Rattle.split_core.proofs.FilesLemmas.{named_before}
 use Rattle.ports_core.specs.inner.Write as short
 

@@ -178,11 +178,7 @@ undecided_at (cut.Parts limit) elide filing some {x} enough =
     (λ i past within. parts_differ limit filing x i some are past within)
     (λ i less y z can also. settled_stay (parts_work limit filing) (parts_lawful limit filing) x
     (last_open filing 0 (cut_up limit x).full (settled_rest limit (cut_up limit x).rest)) i less y z)
-undecided_at (cut.Round n delim) elide filing some {x} enough =
-    let are : are_named filing.names (length (dealt_files delim elide n x)) ≡ true = grind (arith, common_steps) in
-    let none : (split_work (plan_by (cut.Round n delim) elide filing)).waiting x ≡ [] = grind (arith, dealt_all, drop_all) in
-    rw none (same_spots (dealt_spots delim n filing.names) (λ i less y z. dealt_decided delim n filing.names x y i less
-    ∙ sym (dealt_decided delim n filing.names x z i less)))
+undecided_at (cut.Round n delim) elide filing some {x} enough = grind (arith, common_steps, common_steps, dealt_all, drop_all, same_spots, dealt_decided)
 
 -- Lines that are dealt: what a file has, byte by byte
 

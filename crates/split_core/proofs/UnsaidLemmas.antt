@@ -2,10 +2,46 @@
 use Rattle.std.proofs.Common.{rules}
 use Rattle.std.proofs.lemmas.Grind.{common_steps}
 use Rattle.std.specs.{Option.is_none}
-use Rattle.std.proofs.{lemmas.Bool.{cases_lt, false≢true, ltb-false, ltb-true, or_cases, or_parts}, lemmas.List.{get_or_past, drop_at, take_all, take-append-drop, length-append, length-drop, length-take}, lemmas.List.FromFn.{get_or-map-range_with_len, length-map-range_with_len, map-range_with_len_more}, Common.{◌≡◌, ℕ, ◌+◌, ◌-◌, ◌<◌, ◌≤◌, max, min, zero, suc, Bool, true, false, ◌||◌, nat_lt, List, []}, Common.{◌++◌, ◌⊎◌, IfNone, length, take, drop, get_or, Option, Some, None, Result, Ok, Err, inl}, Common.{inr, refl, sym, ◌∙◌, ap, arith, append_assoc}, Math.Seq.drop-append-add}
-use Rattle.ports_core.{specs.{Part.{Begins}, Slot.Slot, declared.{fault.Fault.Fault, file_writer.Opening.TheVariants.Never}, InTurn.fault_in}, proofs.{PartLemmas.{part_begins_itself, part_trans}, ShareLemmas.next_begins, FileWriterLemmas.{in_any, where_well}}}
+use Rattle.std.proofs.{
+  lemmas.Bool.{cases_lt, false≢true, ltb-false, ltb-true, or_cases, or_parts},
+  lemmas.List.{get_or_past, drop_at, take_all, take-append-drop, length-append, length-drop, length-take},
+  lemmas.List.FromFn.{get_or-map-range_with_len, length-map-range_with_len, map-range_with_len_more},
+  Common.{◌≡◌, ℕ, ◌+◌, ◌-◌, ◌<◌, ◌≤◌, max, min, zero, suc, Bool, true, false, ◌||◌, nat_lt, List, [], ◌++◌},
+  Common.{◌⊎◌, IfNone, length, take, drop, get_or, Option, Some, None, Result, Ok, Err, inl, inr, refl, sym, ◌∙◌, ap},
+  Common.{arith, append_assoc},
+  Math.Seq.drop-append-add,
+}
+use Rattle.ports_core.{
+  specs.{
+    Part.Begins,
+    Slot.Slot,
+    declared.{fault.Fault.Fault, file_writer.Opening.TheVariants.Never},
+    InTurn.fault_in,
+  },
+  proofs.{
+    PartLemmas.{part_begins_itself, part_trans},
+    ShareLemmas.next_begins,
+    FileWriterLemmas.{in_any, where_well},
+  },
+}
 use Rattle.seg_core.specs.declared.{cut.Chunks.Chunks}
-use Rattle.split_core.specs.{Chunks.{before_chunk, pieces_in, begun_before, chunk_start, chunks_within, open_from, passed}, Parts.{CutUp, uncut}, ChunkerState.{AimState, Carries, ChunkerState, Course, course_of, to_files, to_output, CutterState, Holds, IsAimed}, ChunkerState.{IsUnsaid, SinkState, can_cut, course, first_on, in_files, in_output, part_on, whole_on, work}, ChunkerState.work_on, Split.manner_of, ChunkWork.draft_by, inner.Chunker.{EndsAs, PassesAs}, inner.Cutter.{BeginsBefore, CutsMore, CutsAs, EndsFull, EndsHeld, IsCut, IsCutOff, IsFront, Settles, WritesTo}, inner.Cutter.{all_before, cut_to}, inner.Brings.{Brings, Changes, EndsAll, Gives, Stays, with_rest}, inner.Chunks.cut_before, laws.ChunkLaws.{chunk_none, passed_full, passed_open, start_first, begin_then_rest}, laws.ChunkLaws.{start_by_size, start_grows, start_within}, laws.BegunLaws.{begun_again, begun_begins, begun_later, begun_on, begun_some, begun_stays}, laws.BegunLaws.open_within}
+use Rattle.split_core.specs.{
+  Chunks.{before_chunk, pieces_in, begun_before, chunk_start, chunks_within, open_from, passed},
+  Parts.{CutUp, uncut},
+  ChunkerState.{AimState, Carries, ChunkerState, Course, course_of, to_files, to_output, CutterState, Holds, IsAimed},
+  ChunkerState.{IsUnsaid, SinkState, can_cut, course, first_on, in_files, in_output, part_on, whole_on, work},
+  ChunkerState.work_on,
+  Split.manner_of,
+  ChunkWork.draft_by,
+  inner.Chunker.{EndsAs, PassesAs},
+  inner.Cutter.{BeginsBefore, CutsMore, CutsAs, EndsFull, EndsHeld, IsCut, IsCutOff, IsFront, Settles, WritesTo},
+  inner.Cutter.{all_before, cut_to},
+  inner.Brings.{Brings, Changes, EndsAll, Gives, Stays, with_rest},
+  inner.Chunks.cut_before,
+  laws.ChunkLaws.{chunk_none, passed_full, passed_open, start_first, begin_then_rest, start_by_size, start_grows},
+  laws.ChunkLaws.start_within,
+  laws.BegunLaws.{begun_again, begun_begins, begun_later, begun_on, begun_some, begun_stays, open_within},
+}
 use Rattle.split_core.proofs.{
   ChunkerWays.{ends_at, passes_at},
   CutterLemmas.{within_are, cut_of, so_grows, cutting, has_cut, name_of, no_line, open_early, some_in},

@@ -102,9 +102,7 @@ begun_stays Lines delim (suc place) x y within =
 -- end
 pub begun_on : (unit : Unit) (delim place : ℕ) (x y : List ℕ) → open_from unit delim x < place
     → begun_before unit delim place (x ++ y) ≡ x ++ begun_before unit delim (max (place - length x) 1) y
-begun_on Bytes delim place x y past =
-    let more : max (place - length x) 1 ≡ place - length x = omega arith in
-    cc (take_over place x y, take_all place x (omega arith))
+begun_on Bytes delim place x y past = grind (arith, common_steps, take_over, take_all)
 begun_on Lines delim zero x y past = absurd (omega arith)
 begun_on Lines delim (suc place) x y past =
     let more : max (suc place - length x) 1 ≡ suc (place - length x) = omega arith in

@@ -1,5 +1,19 @@
 -- Laws that traits cite: laws of chunks: where they begin, and what of a text that goes on is in them.
-use Rattle.std.{proofs.{lemmas.{Grind.{common_steps, flat_map-append}, Bool.{cases_lt, le-leb, Decides.nat_tests}, List.{append-nil, drop_all, length-take, length-append}, List.FromFn.{get_or-map-range_with_len, map-range_with_len_more, length-map-range_with_len}, Nat.le-div}, Common.{get_or, ◌≡◌, ℕ, ◌+◌, ◌-◌, ◌/◌, ◌<◌, ◌≤◌, max, zero, suc, true, List, [], ◌++◌, length, take}, Common.{drop, map, inl, inr, refl, sym, ap, subst, arith}, Math.{Nat.{div-mul-le_self, mul-le-mul_left}, Seq.drop-append_seam}}, specs.List.{filter, flat_map, range_with_len}}
+use Rattle.std.{
+  proofs.{
+    lemmas.{
+      Grind.{common_steps, flat_map-append},
+      Bool.{cases_lt, le-leb, Decides.nat_tests},
+      List.{append-nil, drop_all, length-take, length-append},
+      List.FromFn.{get_or-map-range_with_len, map-range_with_len_more, length-map-range_with_len},
+      Nat.le-div,
+    },
+    Common.{get_or, ◌≡◌, ℕ, ◌+◌, ◌-◌, ◌/◌, ◌<◌, ◌≤◌, max, zero, suc, true, List, [], ◌++◌, length, take, drop, map},
+    Common.{inl, inr, refl, sym, ap, subst, arith},
+    Math.{Nat.{div-mul-le_self, mul-le-mul_left}, Seq.drop-append_seam},
+  },
+  specs.List.{filter, flat_map, range_with_len},
+}
 use Rattle.seg_core.specs.{Line.joined, declared.cut.Chunks.Chunks}
 use Rattle.ports_core.{specs.Part.IsBeginning, proofs.PartLemmas.begins_trans}
 use Rattle.split_core.specs.{
@@ -7,8 +21,7 @@ use Rattle.split_core.specs.{
   Chunks.{chunks_of, pieces_in},
   inner.Chunks.{HaveEnded, cut_before},
   laws.BegunLaws.{begun_again, begun_all, begun_grows, begun_later, begun_long, begun_monotone, begun_on},
-  laws.BegunLaws.begun_stays,
-  laws.BegunLaws.{begun_within, open_grows, open_within},
+  laws.BegunLaws.{begun_stays, begun_within, open_grows, open_within},
 }
 
 -- Where chunks begin
@@ -44,7 +57,7 @@ map_same f g a (suc n) same = grind (arith, map_same f g (a + 1) n (λ i from to
 
 pub map_parts : (f : ℕ → List ℕ) (a p k : ℕ) → map f (range_with_len a (p + k))
     ≡ map f (range_with_len a p) ++ map f (range_with_len (a + p) k)
-map_parts f a zero k = let e : 0 + k ≡ k = omega arith in let at : a + 0 ≡ a = omega arith in rw (e, at) refl
+map_parts f a zero k = grind (arith, common_steps)
 map_parts f a (suc p) k = let e : suc p + k ≡ suc (p + k) = omega arith in
     let at : a + suc p ≡ a + 1 + p = omega arith in rw (e, at, map_parts f (a + 1) p k) refl
 

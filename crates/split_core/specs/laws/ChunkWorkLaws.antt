@@ -1,5 +1,13 @@
 -- Laws that traits cite: those of the work on chunks, and on dealt lines of which those for one file are written.
-use Rattle.std.{proofs.{lemmas.{Grind.common_steps}, lemmas.List.{append-nil, append_assoc, map-append, Elements.filter-append, FromFn.length-map-range_with_len}, Common.{◌≡◌, ℕ, ◌+◌, ◌-◌, ◌<◌, ◌≤◌, max, zero, suc, eqb, Bool, true, false, List, [], ◌∷◌, ◌++◌, length}, Common.{take, map, get_or, Option, Some, None, refl, sym, arith}}, specs.List.range_with_len}
+use Rattle.std.{
+  proofs.{
+    lemmas.Grind.common_steps,
+    lemmas.List.{append_assoc, map-append, Elements.filter-append, FromFn.length-map-range_with_len},
+    Common.{◌≡◌, ℕ, ◌+◌, ◌-◌, ◌<◌, ◌≤◌, max, zero, suc, eqb, Bool, true, false, List, [], ◌∷◌, ◌++◌, length},
+    Common.{take, map, get_or, Option, Some, None, refl, arith},
+  },
+  specs.List.range_with_len,
+}
 use Rattle.seg_core.specs.declared.{cut.Chunks.Chunks, unit.Unit.TheVariants.Bytes}
 use Rattle.ports_core.{
   specs.{Draft.shares_of, Part.IsBeginning, Work.{IsComplete, IsLawful}, inner.Shares.SharesBegin},
@@ -68,7 +76,7 @@ begins_pieces f (suc n) low last some begins = begins
 -- the pieces at the end go on from those that are decided
 decided_ends : (chunks : Chunks) (said : Option ℕ) (x : List ℕ) → 0 < chunks.count
     → GoesOn (decided chunks 1 said x) (in_the_end chunks said x)
-decided_ends chunks (Some size) x some = record { more = []; full = sym (append-nil _); rest = begins_itself _ }
+decided_ends chunks (Some size) x some = grind (arith, common_steps)
 decided_ends chunks None x some = grind (arith, common_steps, start_first, cut_all, begins_pieces)
 
 -- What files get of a text that is cut up

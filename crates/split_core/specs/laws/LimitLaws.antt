@@ -134,8 +134,7 @@ pub first-append : (limit : Limit) (x y : List ℕ) → is_full limit x ≡ true
     → first_part limit (x ++ y) ≡ first_part limit x
 first-append (Lines n delim) x y full = first_lines-full _ n x y (full_some (Lines n delim) x full).1
 first-append (Bytes n) x y full = take-append-le n x y (full_some (Bytes n) x full).1
-first-append (LineBytes n delim) x y full =
-    ap (whole_lines delim) (take-append-le n x y (full_some (LineBytes n delim) x full).1)
+first-append (LineBytes n delim) x y full = grind (arith, common_steps)
 
 -- What is left after the full parts
 

@@ -10,7 +10,7 @@ use Rattle.ports_core.specs.{
   Draft.{opening_line, part_of, told_of_files},
   Part.{File, FilesBegin, IsBeginning, Begins},
   inner.Shares.SharesBegin,
-  declared.{file_writer.Opening.TheVariants.Late, slot.State.TheVariants.{Open, Closed}},
+  declared.{slot.State.TheVariants.{Open, Closed}},
 }
 use Rattle.ports_core.proofs.{
   ShareLemmas.{files_begin, files_stop, made_begin, openings_begin, shares_after},
@@ -80,8 +80,7 @@ pub settled_grow : (limit : Limit) (x y : List ℕ) → SharesBegin (settled_par
 settled_grow limit x y = grind (arith, common_steps, settled_on, shares_after, rest_begins_by, rest_short)
 
 pub settled_end : (limit : Limit) (x : List ℕ) → SharesBegin (settled_parts limit x) (whole_parts limit x)
-settled_end limit x = rw (map-append (share Closed) (cut_up limit x).full (unless_empty (cut_up limit x).rest))
-    (shares_after _ _ _ (made_begin Late Closed _ _ (settled_in_whole limit (cut_up limit x).rest)))
+settled_end limit x = search (rules, map-append, shares_after, made_begin, settled_in_whole)
 
 -- there are as many shares as the text has parts
 
