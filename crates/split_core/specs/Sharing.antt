@@ -7,12 +7,12 @@ use Rattle.ports_core.specs.{
   declared.fault.Fault.{Fault, TheVariants.{Memory, Write, Open}},
 }
 
--- outputs that had nothing have what is settled of no input
+-- If nothing had been written since `before`, what is written since then is what the work settles before any byte came.
 abbrev pub HaveOpened : Bool → Work → List Slot → List Slot → Type 0
 HaveOpened told work old new =
     (before : List Slot) → OutputsAt told before nothing old → OutputsAt told before (work.settled []) new
 
--- a fault stopped outputs that had nothing before they had that
+-- a fault stopped outputs that had nothing, which have a beginning of that
 abbrev pub StoppedOpening : Bool → Work → List Slot → List Slot → Fault → Type 0
 StoppedOpening told work old new fault = (before : List Slot) → OutputsAt told before nothing old
     → StoppedBetween work.means.output told before nothing (work.settled []) fault new

@@ -84,7 +84,8 @@ impl ChunkSink {
         }
     }
 
-    /// Begins the chunk just before the place that `first` returns. All that was written so far went to this chunk.
+    /// Counts the chunk just before the place that `first` returns as begun: all bytes that were cut off so far are taken for its bytes
+    /// and those of earlier chunks. If only a later chunk is written, they were dropped.
     pub(crate) fn begin_first(&mut self)
         ensures { seen_sink self.new
             ≡ record (seen_sink self.old) { place = first_on (course_of (seen_sink self.old).aim) - 1 } }

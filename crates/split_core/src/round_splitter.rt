@@ -67,12 +67,14 @@ impl RoundSplitter {
         requires tells { TellsNoSizes tells }
         requires output { CanTell tells (O.slots outs.old) }
         ensures holds { IfOk result (λ round. Holds round []) }
-        ensures does { IfOk result (λ round. work round ≡ work_by (cut.Cut (Round count delim)) elide naming tells None) }
+        ensures does { IfOk result (λ round. work round ≡ work_by (cut.Cut (Round count delim)) elide naming tells
+            None) }
         ensures ready { IfOk result (λ round. Ready round (O.slots outs.new)) }
         ensures owns { IfOk result (λ round. Owns round (length (O.slots outs.old)) (O.slots outs.new)) }
         ensures outputs { OnOk result (HaveOpened O.told (work_by (cut.Cut (Round count delim)) elide naming tells None)
             (O.slots outs.old) (O.slots outs.new)) }
-        ensures cut { IfErr result (StoppedOpening O.told (work_by (cut.Cut (Round count delim)) elide naming tells None)
+        ensures cut { IfErr result (StoppedOpening O.told (work_by (cut.Cut (Round count delim)) elide naming tells
+            None)
             (O.slots outs.old) (O.slots outs.new)) }
         ensures refused { IfErr result (CannotOpen (is_verbose tells) (O.slots outs.old) (O.slots outs.new)) }
     {

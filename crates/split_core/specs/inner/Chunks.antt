@@ -10,7 +10,7 @@ pub record HaveEnded (chunks : Chunks) (size : ℕ) (x : List ℕ) (place : ℕ)
   pub before : chunk_start chunks.count size place ≤ passed chunks size x
   pub next : place < chunks.count → passed chunks size x < chunk_start chunks.count size (place + 1)
 
--- a text that has no more than its size, cut up before a place
+-- A text of at most `size` bytes, cut up: what it has of each chunk before this place, and all the rest as one piece.
 abbrev pub cut_before : Chunks → ℕ → List ℕ → ℕ → CutUp
 cut_before chunks size x place = record {
   full = map (chunk_at chunks size x) (range_with_len 0 place);

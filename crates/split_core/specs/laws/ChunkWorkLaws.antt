@@ -42,7 +42,8 @@ module _ (chunks : Chunks) (size : ℕ) where
       → GoesOn (chunks_within chunks size x) (chunks_within chunks size (x ++ y))
   goes_within x y some within =
       let place = ended chunks size x in let more = ended chunks size (x ++ y) - place in
-      let f = chunk_at chunks size (x ++ y) in let all : place + more ≡ ended chunks size (x ++ y) = omega (arith, ended_grows) in
+      let f = chunk_at chunks size (x ++ y) in let all : place + more ≡ ended chunks size (x ++ y) = omega
+      (arith, ended_grows) in
       let (rest, on) = begun_grows chunks.unit chunks.delim (chunk_start chunks.count size (place + 1)) x y in record {
         more = map f (range_with_len place more);
         full = grind (arith, map_parts f 0 place more, full_stays, ended_is);
