@@ -291,6 +291,12 @@ pub ends_so : {told : Bool} {cutter now : CutterState} {size : ℕ} {old slots :
 ends_so {now = now} {size} so_far last = ends_all so_far
     (λ x so less. omega (arith, last less, so.cut.at, passed_few now.chunks size x so.fits))
 
+pub ends_short : {told : Bool} {cutter : CutterState} {size : ℕ} {slots : List Slot} → IsAimed cutter.sink.aim slots
+    → cutter.at < chunk_start cutter.chunks.count size (min (cutter.sink.place + 1) cutter.chunks.count)
+    → EndsFull told cutter size slots slots cutter None
+ends_short {cutter = cutter} {size} ready short = ends_so (ends_none ready)
+    (λ less. subst (λ place. cutter.at < chunk_start cutter.chunks.count size place) (omega arith) short)
+
 -- A text goes on, all of it with the chunk that was begun
 
 pub cut_of : (chunks : Chunks) (size : ℕ) (x : List ℕ) → length x ≤ size
@@ -489,6 +495,13 @@ steps_so {n = n} text writes ends = let is = writes.count.2 in (
   cuts_on _ _ is (cutting _ writes) (rw (← is) at writes.changes) ends,
   λ going x within has. needed_in _ n going writes.count.0 writes.count.1 is within has,
 )
+
+-- nothing is full before that chunk's end
+pub steps_short : {told : Bool} {cutter next : CutterState} {size n : ℕ} (text : List ℕ) {old new : List Slot}
+    → WritesTo told cutter (end_so cutter size) text old new next (Ok n)
+    → next.at < end_so cutter size → CutsStretch told cutter size text old new next (Ok n)
+steps_short {size = size} text writes short = steps_so _ writes
+    (ends_short writes.changes.stays.ready (rw (writes.chunks, writes.place) short))
 
 -- Stretch after stretch
 

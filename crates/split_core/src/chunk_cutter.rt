@@ -116,7 +116,9 @@ impl ChunkCutter {
     {
         let end = self.end_of(size);
         let n = self.write_to(end, text, outs)?;
-        self.end_full(size, outs)?;
+        if self.at >= end {
+            self.end_full(size, outs)?;
+        }
         Ok(n)
     }
 

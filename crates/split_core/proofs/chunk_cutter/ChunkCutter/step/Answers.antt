@@ -1,8 +1,8 @@
 use Rattle.ports_core.proofs.HandedOn.{result_is}
-use Rattle.std.proofs.Common.{Some, refl}
+use Rattle.std.proofs.Common.{Some, arith, refl}
 use Rattle.split_core.{
   specs.inner.Cutter.CutsStretch,
-  proofs.CutterLemmas.{cuts_all, cuts_not, cuts_on, cutting, steps_so},
+  proofs.CutterLemmas.{cuts_all, cuts_not, cuts_on, cutting, steps_short, steps_so},
 }
 use Rattle.split_core.proofs.chunk_cutter.ChunkCutter.step.Goals as goal
 
@@ -21,5 +21,9 @@ returns-in_err-end_full g c =
     (cuts_all c.args.text.now is (cuts_on c.args.text.now (Some c.in_err-end_full.field-0.0) is
     (cutting c.args.text.now wrote) (rw (← wrote.count.2) at wrote.changes) c.in_err-end_full.ensures))
 
-pub returns : goal.returns
-returns g c = steps_so _ (rw c.end_of-end.ensures at c.in_ok-n.ensures) c.in_ok-end_full.ensures
+pub returns-in_ok-end_full : goal.returns-in_ok-end_full
+returns-in_ok-end_full g c =
+    steps_so _ (rw c.end_of-end.ensures at c.in_ok-n.ensures) c.in_ok-end_full.ensures
+
+pub returns-else-self-end : goal.returns-else-self-end
+returns-else-self-end g c = steps_short _ (rw c.end_of-end.ensures at c.in_ok-n.ensures) (omega arith)
