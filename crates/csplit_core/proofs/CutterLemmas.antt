@@ -54,7 +54,7 @@ use Rattle.ports_core.specs.{
   Slot.Slot,
   declared.{fault.Fault.Fault, file_writer.Opening.{Opening, TheVariants.Never}, slot.State.TheVariants.{Closed}},
   FileWriter.{Goes, Reaches, Leaves, WriterState, Writes, IsReady, size_of},
-  Part.{Begins, File, Part, lines_for},
+  Part.{Begins, Part, lines_for},
 }
 use Rattle.ports_core.proofs.{
   ShareLemmas.{next_shares, bytes_begin, next_begins},
@@ -82,7 +82,7 @@ pub draft_is : (past : ℕ → Ending → ℕ) (style : Style) (operands : List 
 draft_is past style operands x taken runs taken_is written_is = search (rules, ends_as, length-all_lines, bytes_between, plan_once)
 
 -- what standard output has for sections is the sizes of the files that are closed
-pub sizes_are : (style : Style) → style.quiet ≡ false → (files : List File)
+pub sizes_are : (style : Style) → style.quiet ≡ false → (files : List Slot)
     → told_of_files (sizes_wanted style) files ≡ lines_for size_of_file files
 sizes_are style loud files = search rules
 

@@ -6,12 +6,13 @@ use Rattle.std.proofs.{
   Math.Seq.{drop-append_seam, get_or-append_right, take-append_seam},
 }
 use Rattle.ports_core.specs.{
-  Part.{IsBeginning, Begins, File, Part, FilesBegin},
+  Part.{IsBeginning, Begins, Part, FilesBegin},
+  Slot.{Slot, has_file},
   Work.{Work, IsLawful},
-  Agreed.{AgreeOn, CanCome, DifferOn, GoesApart, GoesBy, GoesTo, outputs_of, output_at, IsAgreed, Spot, spot},
+  Agreed.{AgreeOn, CanCome, DifferOn, GoesApart, GoesBy, GoesTo, files_there, outputs_of, output_at, IsAgreed, Spot, spot},
   Agreed.{spots_from, ArePlaced},
 }
-use Rattle.ports_core.proofs.PartLemmas.{part_trans, no_fewer}
+use Rattle.ports_core.proofs.PartLemmas.{kept_there, part_trans, no_fewer}
 
 -- Some continuations
 
@@ -297,10 +298,10 @@ lists_same (bytes ∷ one) (those ∷ other) count same =
     (lists_same _ _ (omega arith) (λ place less. same (suc place) (omega arith)))
 lists_same one other count same = cc
 
-files_at : (low high : List File) (place : ℕ) → FilesBegin low high
-    → place < length (map (λ (file : File). file.bytes) low)
-    → IsBeginning (get_or (map (λ (file : File). file.bytes) low) place [])
-    (get_or (map (λ (file : File). file.bytes) high) place [])
+files_at : (low high : List Slot) (place : ℕ) → FilesBegin low high
+    → place < length (map (λ (file : Slot). file.written) low)
+    → IsBeginning (get_or (map (λ (file : Slot). file.written) low) place [])
+    (get_or (map (λ (file : Slot). file.written) high) place [])
 files_at [] high place begins less = search rules
 files_at (file ∷ low) [] place begins less = absurd begins
 files_at (file ∷ low) (whole ∷ high) zero begins less = begins.4
@@ -334,6 +335,23 @@ one_is_agreed work x one other agreed also =
     beginnings_same _ _ _
     (begins_at _ (agreed.common [] none_comes) less) (begins_at _ (also.common [] none_comes) within)
     (let short = no_longer work one other place agreed also less within in omega (arith, no_longer work other one place also agreed within less)))
+
+there_begin : (low high : List Slot) → FilesBegin low high → map (λ (file : Slot). has_file file.state) low
+    ≡ take (length low) (map (λ (file : Slot). has_file file.state) high)
+there_begin [] high begins = refl
+there_begin (file ∷ low) [] begins = absurd begins
+there_begin (file ∷ low) (whole ∷ high) begins = cc (kept_there begins.3, there_begin low high begins.5)
+
+-- a file is there in one of two agreed lists just if it is there in the other
+pub same_there : (work : Work) (x : List ℕ) (one other : Part) → IsAgreed work x one → IsAgreed work x other
+    → files_there one ≡ files_there other
+same_there work x one other agreed also = cc (
+  there_begin _ _ (agreed.common [] none_comes).files,
+  there_begin _ _ (also.common [] none_comes).files,
+  ap length (one_is_agreed work x one other agreed also),
+  length-map one.files (λ (file : Slot). file.written),
+  length-map other.files (λ (file : Slot). file.written),
+)
 
 -- the waiting elements are the same if their places are said in another way
 pub alike_differ : {A P : Type 0} {comes : List A → Type 0} (Goes Other : List A → ℕ → P → Type 0) {x waiting : List A}

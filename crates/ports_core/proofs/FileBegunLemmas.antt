@@ -11,7 +11,7 @@ use Rattle.ports_core.specs.{
   FileWriter.{WriterState, Writes, IsCounted, IsCurrent, IsLast, IsOpenAt, IsReady, IsWrite, CanTell, RunsShort},
   FileWriter.{KeepsFiles, KeepsOrBreaks, Leaves, Goes, paused},
   Names.{next_name, has_next, line_next, told_next, OpensNone, no_name},
-  Part.{File as PartFile, Begins, IsBeginning, Output, gets_lines, gets_openings, lines_for, writes},
+  Part.{Begins, IsBeginning, Output, gets_lines, gets_openings, lines_for, writes},
   Slot.{SlotBreaks, Slot, with_written, told_of, changed_at, opened, closes, is_writable},
   inner.{FileWriter.{MakesNone, Made, Appends, TellsSize, CountsOn, files_with}, Write.Wrote},
   InTurn.{AllClosed, fault_in},
@@ -306,7 +306,7 @@ closed_told (gets_lines line) name bytes = nothing_begins _
 closed_told (gets_openings line) name bytes = ([], refl)
 closed_told output name bytes = begins_itself []
 
-closed_begins : (output : Output) (front : List PartFile) (name bytes : List ℕ)
+closed_begins : (output : Output) (front : List Slot) (name bytes : List ℕ)
     → Begins (with_last (begun_out output front name) front (file_of name bytes state.Closed))
     (with_last (told_of_files output front ++ told_of_files output (file_of name bytes state.Closed ∷ [])) front
     (file_of name bytes state.Closed))
@@ -347,9 +347,9 @@ close_not {told} {writer} slot size {old} {new} is ready which broken = subst (�
       owns = file_closed (made_again old (changed_at slot closes old) new (made_close slot old _ (at_file is ready).1 refl) (made_break slot _ new broken))
 
 -- standard output gets the line for a closed file, or breaks
-tells_file : (tells : Tells) (output : Output) (told : Bool) (size : ℕ) (front : List PartFile) (file : PartFile)
+tells_file : (tells : Tells) (output : Output) (told : Bool) (size : ℕ) (front : List Slot) (file : Slot)
     (old : List Slot) {new : List Slot} (fault : Option Fault) → output_of tells ≡ output → file.state ≡ state.Closed
-    → IsCounted tells file.bytes size → AllClosed front → 0 < length old → TellsSize told tells size old new fault
+    → IsCounted tells file.written size → AllClosed front → 0 < length old → TellsSize told tells size old new fault
     → Becomes output told (with_last (begun_out output front file.name) front file)
     (with_last (told_of_files output front ++ told_of_files output (file ∷ [])) front file) old new fault
 tells_file Nothing output told size front file old fault is shut size_is closed some (well, same) = rw (well, same, ← is) (record { gets = λ before at. at })

@@ -12,7 +12,7 @@ use Rattle.ports_core.specs.{
   FileWriter.{Breaks, manner_in, At, KeepsFiles, KeepsOrBreaks, Leaves, Reaches, Goes},
   Name.Naming,
   Names.{line_next, OpensNone, no_memory, no_line, no_file, no_number, no_name},
-  Part.{File as PartFile, Part, OutputsAt, Begins, IsBeginning, Output, gets_lines, lines_for, writes},
+  Part.{Part, OutputsAt, Begins, IsBeginning, Output, gets_lines, lines_for, writes},
   Slot.{Slot, with_written, told_of, Rose, has_file, slot_at, opened, is_writable, KeepsBroken},
   Swept.{AreThere, is_among},
   inner.{FileWriter.{Made, Appends, CountsOn, files_with}, Write.{Wrote, WritesShort}},
@@ -49,7 +49,7 @@ use Rattle.ports_core.specs.declared.slot.State.TheVariants as state
 -- between.
 
 -- standard output gets the line for the last file, which is closed
-module _ (line : PartFile → List ℕ) (told : Bool) (front : List PartFile) (file : PartFile)
+module _ (line : Slot → List ℕ) (told : Bool) (front : List Slot) (file : Slot)
     (shut : file.state ≡ state.Closed) where
   -- only the line of the last file is cut short
   cut_short : (n : ℕ) (high : Part)

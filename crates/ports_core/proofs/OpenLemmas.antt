@@ -8,7 +8,7 @@ use Rattle.ports_core.specs.{
   Names.{next_name, has_next, with_one_drawn, told_next, line_next, OpensNone, no_memory, no_line, no_file},
   Names.{no_number, no_name},
   Slot.{Slot, FailsToOpen, broke, numberless, unopened, told_of, with_written},
-  Part.{File, Part, Begins, IsAt, IsBeginning, IsDueLine, IsNext, Marks, Output, nothing},
+  Part.{Part, Begins, IsAt, IsBeginning, IsDueLine, IsNext, Marks, Output, nothing},
   InTurn.AllClosed,
   Draft.{output_of, part_with, told_before, told_of_files},
   Write.BrokeAfter,
@@ -123,11 +123,11 @@ nothing_in [] rest none = refl
 nothing_in (byte ∷ front) rest none = absurd (cc)
 
 -- files, and these bytes of the line for the next file
-abbrev begun_with : Output → List File → List ℕ → Part
+abbrev begun_with : Output → List Slot → List ℕ → Part
 begun_with output front bytes = record { out = told_of_files output front ++ bytes; files = front }
 
 -- a file with the next name could not be opened; standard output gets the line about it first
-pub opens_not : {output : Output} {told : Bool} (front : List File) {tells : Tells} {names : Names} {high : Part}
+pub opens_not : {output : Output} {told : Bool} (front : List Slot) {tells : Tells} {names : Names} {high : Part}
     {old new : List Slot} {fault : Fault} → line_next tells names ≡ told_before output (next_name names)
     → AllClosed front → Begins (part_with output front) high
     → (IsNextName names (next_name names)

@@ -5,9 +5,9 @@ use Rattle.std.proofs.{
   Common.{◌⊎◌, inl, inr, refl, sym, ◌∙◌, ap, arith, append_assoc, rules},
 }
 use Rattle.ports_core.specs.{
-  Slot.{Slot, slot_at, is_writable, with_written, with_broken, told_of},
+  Slot.{Slot, MayBecome, has_file, slot_at, is_writable, with_written, with_broken, told_of},
   Write.BrokeAfter,
-  Part.{File, Part, nothing, only_out, OutputsAt, IsBeginning, FilesBegin, Begins, IsNext, Marks, IsAt, InOrder},
+  Part.{Part, nothing, only_out, OutputsAt, IsBeginning, FilesBegin, Begins, IsNext, Marks, IsAt, InOrder},
   Part.{StoppedBetween, Output, gets_bytes, gets_lines, gets_openings, openings_for, IsDueLine, LinesInOrder},
   InTurn.{AllClosed, InTurn, StoppedInTurn, LinesTo},
   inner.Part.HasLines,
@@ -40,19 +40,27 @@ take_begins_after n before bytes = (
       (append_assoc before (take n bytes) (drop n bytes)),
 )
 
--- a file that is open may be in another state later, and any other file stays: this is transitive
+-- a file that is open may be closed later, and any other file stays: this is transitive
 pub kept_trans : {X : Type 0} (state_of : X → State) (low middle high : X)
-    → (state_of low ≡ state.Open) ⊎ (low ≡ middle) → (state_of middle ≡ state.Open) ⊎ (middle ≡ high)
-    → (state_of low ≡ state.Open) ⊎ (low ≡ high)
-kept_trans state_of low middle high (inl is) second = inl is
+    → MayBecome (state_of low) (state_of middle) ⊎ (low ≡ middle)
+    → MayBecome (state_of middle) (state_of high) ⊎ (middle ≡ high)
+    → MayBecome (state_of low) (state_of high) ⊎ (low ≡ high)
+kept_trans state_of low middle high (inl is) (inl also) = inl (is.0, also.1)
+kept_trans state_of low middle high (inl is) (inr same) = search rules
 kept_trans state_of low middle high (inr same) (inl is) = search rules
 kept_trans state_of low middle high (inr same) (inr also) = inr (same ∙ also)
 
-pub files_begin_themselves : (files : List File) → FilesBegin files files
+-- a file is there, open or closed, just if the file that it begins is there
+pub kept_there : {file whole : Slot} → MayBecome file.state whole.state ⊎ (file ≡ whole)
+    → has_file file.state ≡ has_file whole.state
+kept_there (inl (is, may)) = ap has_file is ∙ sym may
+kept_there (inr same) = ap (λ (slot : Slot). has_file slot.state) same
+
+pub files_begin_themselves : (files : List Slot) → FilesBegin files files
 files_begin_themselves [] = tt
 files_begin_themselves (file ∷ files) = grind (arith, begins_itself, files_begin_themselves files)
 
-pub files_trans : (low middle high : List File) → FilesBegin low middle → FilesBegin middle high → FilesBegin low high
+pub files_trans : (low middle high : List Slot) → FilesBegin low middle → FilesBegin middle high → FilesBegin low high
 files_trans [] middle high first second = tt
 files_trans (file ∷ files) [] high first second = absurd first
 files_trans (file ∷ files) (mid ∷ middle) [] first second = absurd second
@@ -86,7 +94,7 @@ pub outputs_count : (told : Bool) (before : List Slot) (part : Part) (now : List
 outputs_count told before part now at = grind (arith, common_steps, length-changed_at, length-map)
 
 -- no file was touched
-pub still_in_order : (files : List File) → InOrder files files files 0
+pub still_in_order : (files : List Slot) → InOrder files files files 0
 still_in_order files = search rules
 
 -- the fault isn't that a file could not be opened
@@ -121,7 +129,7 @@ out_cut told before part old new more n at broke = record {
   order = still_in_order _;
   lines = tt;
   reached = with_written 0 (told_of told (take n more)) old;
-  outputs = grind (arith, common_steps, out_more);
+  outputs = out_more _ _ _ _ _ _ at refl;
   marks = (there, broke.slots);
   from = inl refl;
 } where
@@ -157,9 +165,9 @@ marks_by IsName IsOther (Open slot) before after also is = grind arith
 marks_by IsName IsOther fault before after also is = is
 
 -- the files of a part are at their places in any part that it begins
-next_in : (part : Part) {name : List ℕ} (front : List File) (file : File) (rest files : List File)
+next_in : (part : Part) {name : List ℕ} (front : List Slot) (file : Slot) (rest files : List Slot)
     → FilesBegin (front ++ file ∷ rest) files → {count : ℕ} → length front ≡ count → file.name ≡ name
-    → (these : List File) × (one : File) × (more : List File) × (files ≡ these ++ one ∷ more) × (length these ≡ count)
+    → (these : List Slot) × (one : Slot) × (more : List Slot) × (files ≡ these ++ one ∷ more) × (length these ≡ count)
     × (one.name ≡ name)
 next_in part [] file rest (one ∷ more) begins place named = ([], one, more, refl, place, sym begins.0 ∙ named)
 next_in part (first ∷ front) file rest (one ∷ more) begins place named =
@@ -196,12 +204,12 @@ pub turn_between : (output : Output) (told : Bool) (before : List Slot) (less lo
     → StoppedInTurn output told before less more fault now
 turn_between output told before less low high more fault now lower stop wider = search (rules, part_trans, marks_by, next_wider, lines_wider)
 
-closed_stays : {file : File} (whole : File) → file.state ≡ state.Closed → (file.state ≡ state.Open) ⊎ (file ≡ whole)
-    → file ≡ whole
-closed_stays whole closed (inl is) = cc
+closed_stays : {file : Slot} (whole : Slot) → file.state ≡ state.Closed
+    → MayBecome file.state whole.state ⊎ (file ≡ whole) → file ≡ whole
+closed_stays whole closed (inl (is, has)) = cc
 closed_stays whole closed (inr same) = same
 
-done_by : (place : ℕ) (part high : List File) → FilesBegin part high → AllClosed (take place part) → place ≤ length part
+done_by : (place : ℕ) (part high : List Slot) → FilesBegin part high → AllClosed (take place part) → place ≤ length part
     → take place part ≡ take place high
 done_by zero part high begins closed within = refl
 done_by (suc place) [] high begins closed within = absurd (omega arith)
@@ -209,23 +217,23 @@ done_by (suc place) (file ∷ part) [] begins closed within = absurd begins
 done_by (suc place) (file ∷ part) (whole ∷ high) begins closed within =
     grind (arith, closed_stays, done_by place _ _ begins.5 closed.1 (omega arith))
 
-pub no_fewer : (low part : List File) → FilesBegin low part → length low ≤ length part
+pub no_fewer : (low part : List Slot) → FilesBegin low part → length low ≤ length part
 no_fewer [] part begins = omega arith
 no_fewer (file ∷ low) [] begins = absurd begins
 no_fewer (file ∷ low) (whole ∷ part) begins = omega (arith, no_fewer low _ begins.5)
 
 -- files that were written in turn are in order
-pub in_order : {low part high : List File} {place : ℕ} → FilesBegin low part → FilesBegin part high → InTurn part place
+pub in_order : {low part high : List Slot} {place : ℕ} → FilesBegin low part → FilesBegin part high → InTurn part place
     → InOrder low part high place
 in_order above below turn = grind (arith, done_by, drop_all, no_fewer)
 
-pub openings-append : (line : List ℕ → List ℕ) (some more : List File)
+pub openings-append : (line : List ℕ → List ℕ) (some more : List Slot)
     → openings_for line (some ++ more) ≡ openings_for line some ++ openings_for line more
 openings-append line [] more = refl
 openings-append line (file ∷ some) more = grind (arith, append_assoc, openings-append line some more)
 
 -- the lines for all files are the lines for the first files, and those for the files that were opened since
-pub openings_since : (line : List ℕ → List ℕ) (low part : List File) → FilesBegin low part
+pub openings_since : (line : List ℕ → List ℕ) (low part : List Slot) → FilesBegin low part
     → openings_for line part ≡ openings_for line low ++ openings_for line (drop (length low) part)
 openings_since line [] part begins = refl
 openings_since line (file ∷ low) [] begins = absurd begins
@@ -252,9 +260,9 @@ pub stopped_in_turn : (output : Output) (told : Bool) (before : List Slot) (low 
 stopped_in_turn output told before low high fault now has stop = search (rules, in_order, lines_in_order)
 
 -- closed files and one more file are in turn
-pub turn_last : (files : List File) (file : File) (place : ℕ) → length files ≡ place → AllClosed files
+pub turn_last : (files : List Slot) (file : Slot) (place : ℕ) → length files ≡ place → AllClosed files
     → InTurn (files ++ file ∷ []) place
 turn_last files file place count closed = grind (arith, common_steps)
 
-pub turn_next : (files : List File) → AllClosed files → InTurn files (length files)
+pub turn_next : (files : List Slot) → AllClosed files → InTurn files (length files)
 turn_next files closed = grind (arith, common_steps)

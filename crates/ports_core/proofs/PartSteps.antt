@@ -1,23 +1,23 @@
 -- Outputs get from one part to another as their last file is opened, written and closed; or a fault stops them in
 -- between.
 use Rattle.std.proofs.{
-  Common.{◌≡◌, ℕ, ◌+◌, suc, Bool, false, List, [], ◌∷◌, ◌++◌, length, take, Option, Some, None, inl, inr, refl, sym},
+  Common.{◌≡◌, ℕ, ◌+◌, suc, Bool, List, [], ◌∷◌, ◌++◌, length, take, Option, Some, None, inl, inr, refl, sym},
   Common.{◌∙◌, ap, arith, length-append},
   lemmas.{Grind.common_steps, List.{append-nil, take_all}},
   Math.Seq.take-append_seam,
 }
 use Rattle.ports_core.specs.{
-  declared.{reason.Reason.TheVariants.Other, fault.Fault.Fault, slot.{Mode.TheVariants.Fresh, State.State}},
+  declared.{fault.Fault.Fault, slot.{Mode.TheVariants.Fresh, State.State}},
   Draft.{told_before, told_of_files},
   Slot.{SlotBreaks, Slot, opened, changed_at, adds, closes, with_written, told_of},
-  Part.{File, Part, OutputsAt, Begins, FilesBegin, IsNext, Marks, IsAt, IsDueLine, Output, gets_lines, gets_openings},
+  Part.{Part, OutputsAt, Begins, FilesBegin, IsNext, Marks, IsAt, IsDueLine, Output, gets_lines, gets_openings},
   Part.{lines_for, openings_for},
   InTurn.{AllClosed, InTurn, IsThere, LinesTo},
   inner.Write.Wrote,
 }
 use Rattle.ports_core.proofs.{
   SlotLemmas.length-changed_at,
-  FileLemmas.{gets, ended, file_more, last_changes, write_makes, close_makes},
+  FileLemmas.{file_more, last_changes, write_makes, close_makes},
   PartLemmas.{begins_itself, begins_more, take_begins_after, files_begin_themselves, part_begins_itself, IsNoOpen},
   PartLemmas.{none_due, openings-append, out_more, outputs_count, turn_between, turn_last},
 }
@@ -41,7 +41,7 @@ pub becomes_again : {output : Output} {told : Bool} {low middle high : Part} {ol
     {fault : Option Fault} → Begins low middle → Becomes output told low middle old mid None
     → Becomes output told middle high mid new fault → Becomes output told low high old new fault
 becomes_again begins first second =
-    grind (arith, common_steps, gets, there_from)
+    grind (arith, common_steps, there_from)
 
 pub falls_wider : {output : Output} {told : Bool} {low middle high : Part} {old new : List Slot} {fault : Fault}
     → Becomes output told low middle old new (Some fault) → Begins middle high
@@ -50,28 +50,28 @@ falls_wider falls begins =
     record { gets = λ before at. turn_between _ _ _ _ _ _ _ _ _ (part_begins_itself _) (falls.gets before at) begins }
 
 -- a file with this name, these bytes and this state
-abbrev pub file_of : List ℕ → List ℕ → State → File
-file_of name bytes state = record { name = name; mode = Fresh; bytes = bytes; state = state; is_broken = false; reason = Other }
+abbrev pub file_of : List ℕ → List ℕ → State → Slot
+file_of name bytes state = record (opened name Fresh) { written = bytes; state = state }
 
 -- these files, and a last file
-abbrev pub with_last : List ℕ → List File → File → Part
+abbrev pub with_last : List ℕ → List Slot → Slot → Part
 with_last out front file = record { out = out; files = front ++ file ∷ [] }
 
 -- what standard output gets about files, and about the next file before it is opened
-abbrev pub begun_out : Output → List File → List ℕ → List ℕ
+abbrev pub begun_out : Output → List Slot → List ℕ → List ℕ
 begun_out output front name = told_of_files output front ++ told_before output name
 
 -- What begins what
 
-pub line_begins : {out : List ℕ} (line : List ℕ) {files : List File}
+pub line_begins : {out : List ℕ} (line : List ℕ) {files : List Slot}
     → Begins (record { out = out; files = files }) (record { out = out ++ line; files = files })
 line_begins line = grind (arith, begins_more, files_begin_themselves)
 
-pub more_files : (front more : List File) → FilesBegin front (front ++ more)
+pub more_files : (front more : List Slot) → FilesBegin front (front ++ more)
 more_files [] more = tt
 more_files (file ∷ front) more = (refl, refl, refl, inr refl, begins_itself _, more_files front _)
 
-pub front_begins : (front low high : List File) → FilesBegin low high → FilesBegin (front ++ low) (front ++ high)
+pub front_begins : (front low high : List Slot) → FilesBegin low high → FilesBegin (front ++ low) (front ++ high)
 front_begins [] low high begins = begins
 front_begins (file ∷ front) low high begins = (refl, refl, refl, inr refl, begins_itself _, front_begins front _ _ begins)
 
@@ -99,7 +99,7 @@ halts_here {low = low} {old = old} {place = place} begins turn lines marks from 
 }
 
 -- the lines for files, if the last file isn't closed, or wasn't when these lines were written
-pub lines_of_last : (output : Output) (front : List File) (file : File) (high : Part) (fault : Fault) → IsNoOpen fault
+pub lines_of_last : (output : Output) (front : List Slot) (file : Slot) (high : Part) (fault : Fault) → IsNoOpen fault
     → LinesTo output (with_last (begun_out output front file.name) front file) high (length front) fault
 lines_of_last (gets_lines line) front file high fault other = record {
   next = [];
@@ -116,7 +116,7 @@ lines_of_last (gets_openings line) front file high fault other = record {
 lines_of_last output front file high fault other = tt
 
 -- the lines for closed files, and these bytes of the line for the next file
-pub lines_due : (output : Output) (front : List File) (name bytes : List ℕ) (high : Part) (fault : Fault)
+pub lines_due : (output : Output) (front : List Slot) (name bytes : List ℕ) (high : Part) (fault : Fault)
     → (told_before output name ≡ [] → bytes ≡ [])
     → ((line : List ℕ → List ℕ) → told_before output name ≡ line name
     → IsDueLine
@@ -127,7 +127,7 @@ lines_due (gets_openings line) front name bytes high fault none due = grind arit
 lines_due output front name bytes high fault none due = tt
 
 -- the lines for closed files alone
-pub lines_all : (output : Output) (front : List File) (high : Part) (fault : Fault) → IsNoOpen fault
+pub lines_all : (output : Output) (front : List Slot) (high : Part) (fault : Fault) → IsNoOpen fault
     → LinesTo output (record { out = told_of_files output front; files = front }) high (length front) fault
 lines_all (gets_lines line) front high fault other = grind (arith, common_steps)
 lines_all (gets_openings line) front high fault other = grind (arith, common_steps)
@@ -139,9 +139,9 @@ pub out_added : (told : Bool) {part : Part} (more : List ℕ) (old : List Slot) 
     → Becomes output told part (record part { out = part.out ++ more }) old new None
 out_added told more old wrote = record { gets = λ before at. out_more _ _ _ _ _ _ at wrote }
 
-module _ (output : Output) (told : Bool) (out : List ℕ) (front : List File) where
+module _ (output : Output) (told : Bool) (out : List ℕ) (front : List Slot) where
   -- the last slot is that of the last file
-  last_place : (file : File) {before old : List Slot} {slot : ℕ} → suc slot ≡ length old
+  last_place : (file : Slot) {before old : List Slot} {slot : ℕ} → suc slot ≡ length old
       → OutputsAt told before (with_last out front file) old → slot ≡ length before + length front
   last_place file {before} {old} last at =
       let all : length old ≡ length before + length (front ++ file ∷ []) = outputs_count _ _ _ _ at in
@@ -160,7 +160,7 @@ module _ (output : Output) (told : Bool) (out : List ℕ) (front : List File) wh
       (with_last out front (file_of name (bytes ++ more) state.Open)) old new None
   bytes_added name bytes more {slot} old {new} last wrote = record {
     gets = λ before at.
-        last_changes told (adds (told_of told more)) (gets more) (write_makes _ _) before
+        last_changes told (adds (told_of told more)) (adds more) (write_makes _ _) before
         (with_last out front (file_of name bytes state.Open)) front (file_of name bytes state.Open) old new slot refl last at wrote;
   }
 
@@ -171,12 +171,12 @@ module _ (output : Output) (told : Bool) (out : List ℕ) (front : List File) wh
       (with_last out front (file_of name bytes state.Closed)) old new None
   closes_last name bytes {slot} old {new} last closed = record {
     gets = λ before at.
-        last_changes told closes ended (close_makes _) before
+        last_changes told closes closes (close_makes _) before
         (with_last out front (file_of name bytes state.Open)) front (file_of name bytes state.Open) old new slot refl last at closed;
   }
 
 -- the last file gets bytes, or is closed, or breaks; standard output has what it gets about these files
-module _ (output : Output) (told : Bool) (front : List File) (name bytes : List ℕ) where
+module _ (output : Output) (told : Bool) (front : List Slot) (name bytes : List ℕ) where
   pub writes_to : (more : List ℕ) {slot : ℕ} (old : List Slot) {new : List Slot} (fault : Option Fault)
       → AllClosed front → suc slot ≡ length old → Wrote told slot more old new fault
       → Becomes output told (with_last (begun_out output front name) front (file_of name bytes state.Open))

@@ -1,12 +1,5 @@
 -- Lemmas on the text by which the system says where standard input stands.
-use Rattle.std.{
-  proofs.{
-    Common.{◌≡◌, ◌≢◌, ℕ, ◌+◌, ◌<◌, ◌^◌, ◌==◌, Bool, List, [], ◌∷◌, ◌++◌, length, get_or, drop, true, false, suc, zero, cond},
-    Common.{refl, sym, IsTrue, IfSome, Option, Some, None, Result, Ok, Err, codes, lit<, arith, ap, ◌∙◌},
-    lemmas.{Grind.common_steps, Str.{Parse.digit_at, Pattern.{IsSplitOnceResult, split_after, split_parts}}},
-  },
-  specs.{Str.Parse.{AllDigits, IsNumeral, ParsesUnsigned, digits_value, without_leading_plus}, Result.result_ok},
-}
+use Rattle.std.{proofs.{Common.{◌≡◌, ◌≢◌, ℕ, ◌<◌, ◌^◌, ◌==◌, Bool, List, [], ◌∷◌, ◌++◌, length, get_or, drop, true, false, suc, zero, cond}, Common.{refl, sym, IsTrue, IfSome, Some, None, Result, Ok, Err, codes, lit<, arith, ap, ◌∙◌}, lemmas.{Grind.common_steps, Str.{Parse.digit_at, Pattern.{IsSplitOnceResult, split_after, split_parts}}}}, specs.{Str.Parse.{AllDigits, IsNumeral, ParsesUnsigned, digits_value, without_leading_plus}, Result.result_ok}}
 use denote.Ref.{Bor}
 use Rattle.ports_core.specs.inner.Place.{SaysPlace}
 

@@ -7,7 +7,8 @@ use Rattle.std.proofs.{
 use Rattle.ports_core.specs.{
   Draft.{Manner, AreNamed, Share, share, file_at, files_from, told_of_files, told_before, part_with, part_of},
   Draft.{made_of, Draft, shares_of, draft_part, with_bytes, with_next},
-  Part.{File, nothing, Begins, FilesBegin, IsBeginning, Output, gets_lines, gets_openings, lines_for, openings_for},
+  Slot.{Slot, MayBecome},
+  Part.{nothing, Begins, FilesBegin, IsBeginning, Output, gets_lines, gets_openings, lines_for, openings_for},
   InTurn.AllClosed,
   inner.{Part.HasLines, Shares.SharesBegin},
   declared.{
@@ -31,19 +32,19 @@ shares_wider [] high more begins = tt
 shares_wider (share ∷ low) [] more begins = absurd begins
 shares_wider (share ∷ low) (whole ∷ high) more begins = (begins.0, begins.1, shares_wider low _ _ begins.2)
 
--- an open share begins a share with more bytes, in any state
-pub made_begin : (opening : Opening) (state : State) (low high : List ℕ) → IsBeginning low high
+-- an open share begins an open or closed share with more bytes
+pub made_begin : (opening : Opening) (state : State) (low high : List ℕ) → MayBecome Open state → IsBeginning low high
     → SharesBegin (map (share Open) (made_of opening low)) (map (share state) (made_of opening high))
-made_begin Never state low high begins = tt
-made_begin Late state [] high begins = tt
-made_begin Late state (byte ∷ low) [] (rest, is) = absurd (cc)
-made_begin Late state (byte ∷ low) (first ∷ high) begins = search rules
-made_begin AtOnce state low high begins = search rules
+made_begin Never state low high may begins = tt
+made_begin Late state [] high may begins = tt
+made_begin Late state (byte ∷ low) [] may (rest, is) = absurd (cc)
+made_begin Late state (byte ∷ low) (first ∷ high) may begins = search rules
+made_begin AtOnce state low high may begins = search rules
 
 -- The files of shares that begin others begin the files of those shares
 
-files_by : (manner : Manner) (has : Bool) (place : ℕ) (one other : Share) (low high : List File)
-    → (one.state ≡ Open) ⊎ (one ≡ other) → IsBeginning one.bytes other.bytes → FilesBegin low high
+files_by : (manner : Manner) (has : Bool) (place : ℕ) (one other : Share) (low high : List Slot)
+    → MayBecome one.state other.state ⊎ (one ≡ other) → IsBeginning one.bytes other.bytes → FilesBegin low high
     → FilesBegin (cond has (file_at manner place one ∷ low) []) (cond has (file_at manner place other ∷ high) [])
 files_by manner true place one other low high kept first rest = search rules
 files_by manner false place one other low high kept first rest = tt
@@ -57,7 +58,7 @@ files_begin manner place (share ∷ low) (whole ∷ high) begins =
 
 -- What standard output gets about files
 
-pub told-append : (output : Output) (a b : List File)
+pub told-append : (output : Output) (a b : List Slot)
     → told_of_files output (a ++ b) ≡ told_of_files output a ++ told_of_files output b
 told-append (gets_lines line) [] b = refl
 told-append (gets_lines line) (file ∷ a) b =
@@ -65,7 +66,7 @@ told-append (gets_lines line) (file ∷ a) b =
 told-append (gets_openings line) a b = openings-append _ a b
 told-append output a b = refl
 
-pub has_told : (output : Output) (files : List File) → HasLines output (told_of_files output files) files
+pub has_told : (output : Output) (files : List Slot) → HasLines output (told_of_files output files) files
 has_told (gets_lines line) files = refl
 has_told (gets_openings line) files = refl
 has_told output files = tt
@@ -82,20 +83,20 @@ nothing_told (gets_openings line) = refl
 nothing_told output = tt
 
 -- open files have no lines, if lines are for closed files
-open_untold : (line : File → List ℕ) (manner : Manner) (place : ℕ) (bytes : List (List ℕ))
+open_untold : (line : Slot → List ℕ) (manner : Manner) (place : ℕ) (bytes : List (List ℕ))
     → lines_for line (files_from manner place (map (share Open) bytes)) ≡ []
 open_untold line manner place [] = refl
 open_untold line manner place (one ∷ bytes) =
     grind (arith, cond_both, open_untold line manner (place + 1) bytes)
 
-told_by : (line : File → List ℕ) (has : Bool) (file : File) (low high : List File)
+told_by : (line : Slot → List ℕ) (has : Bool) (file : Slot) (low high : List Slot)
     → IsBeginning (lines_for line low) (lines_for line high)
     → IsBeginning (lines_for line (cond has (file ∷ low) [])) (lines_for line (cond has (file ∷ high) []))
 told_by line true file low high begins = grind (arith, common_steps)
 told_by line false file low high begins = begins_itself []
 
 -- the lines of files by their names begin the lines of the files that these files begin
-pub openings_begin : (line : List ℕ → List ℕ) (low high : List File) → FilesBegin low high
+pub openings_begin : (line : List ℕ → List ℕ) (low high : List Slot) → FilesBegin low high
     → IsBeginning (openings_for line low) (openings_for line high)
 openings_begin line low high begins = (_, openings_since _ _ _ begins)
 
@@ -170,7 +171,7 @@ closed_files manner place (one ∷ ended) =
 
 -- The files that ended, and one more file
 
-abbrev pub ended_files : Manner → Draft → List File
+abbrev pub ended_files : Manner → Draft → List Slot
 ended_files manner draft = files_from manner 0 (map (share Closed) draft.ended)
 
 abbrev pub ended_out : Manner → Draft → List ℕ

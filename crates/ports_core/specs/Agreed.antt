@@ -1,10 +1,10 @@
 -- What all continuations of an input agree on, and on which parts of it they don't. An input is bytes, or lines, and a
 -- continuation is what may still come, perhaps nothing.
 use Rattle.std.specs.{
-  Prelude.{◌≡◌, ◌⊎◌, ℕ, ◌+◌, ◌-◌, ◌<◌, ◌≤◌, nat_lt, List, [], ◌∷◌, ◌++◌, All, get_or, length},
+  Prelude.{◌≡◌, ◌⊎◌, ℕ, ◌+◌, ◌-◌, ◌<◌, ◌≤◌, nat_lt, Bool, List, [], ◌∷◌, ◌++◌, All, get_or, length},
   Prelude.{map, if◌then◌else◌},
 }
-use Rattle.ports_core.specs.{Part.{File, Part, IsBeginning, Begins}, Work.Work}
+use Rattle.ports_core.specs.{Part.{Part, IsBeginning, Begins}, Slot.{Slot, has_file}, Work.Work}
 
 -- The most that the outputs of all continuations of x have in common. `whole` is what is made of an input in the end,
 -- `begins` says that one whole is a beginning of another, and `outputs` gives the outputs of a whole, in order.
@@ -44,7 +44,11 @@ CanCome y = All (λ byte. byte < 256) y
 
 -- the bytes of each file
 abbrev pub file_bytes : Part → List (List ℕ)
-file_bytes part = map (λ (file : File). file.bytes) part.files
+file_bytes part = map (λ (file : Slot). file.written) part.files
+
+-- whether each file is there: open or closed
+abbrev pub files_there : Part → List Bool
+files_there part = map (λ (file : Slot). has_file file.state) part.files
 
 -- the outputs by their place: standard output at place 0, and then the files in their order
 abbrev pub outputs_of : Part → List (List ℕ)

@@ -1,16 +1,16 @@
 -- What a tool that writes one file after another has written: the files that ended, and the open file.
 use Rattle.std.specs.{
-  Prelude.{◌≡◌, ℕ, ◌+◌, ◌<◌, Bool, true, false, List, [], ◌∷◌, ◌++◌, length, map, codes, decimal, if◌then◌else◌},
+  Prelude.{◌≡◌, ℕ, ◌+◌, ◌<◌, Bool, true, List, [], ◌∷◌, ◌++◌, length, map, codes, decimal, if◌then◌else◌},
 }
 use Rattle.ports_core.specs.{
-  declared.reason.Reason.TheVariants.Other,
   declared.file_writer.{
     Opening.{Opening, TheVariants.{Never, Late, AtOnce}},
     Tells.{Tells, TheVariants.{Nothing, Sizes, Openings}},
   },
   declared.slot.{Mode.TheVariants.Fresh, State.{State, TheVariants.{Open, Closed}}},
   Name.{Naming, has_name, name_at},
-  Part.{File, Part, Output, gets_none, gets_bytes, gets_lines, gets_openings, lines_for, openings_for},
+  Part.{Part, Output, gets_none, gets_bytes, gets_lines, gets_openings, lines_for, openings_for},
+  Slot.{Slot, opened},
   Text.in_quotes,
 }
 
@@ -38,24 +38,17 @@ pub record Share : Type 0 where
 abbrev pub share : State → List ℕ → Share
 share state bytes = record { state = state; bytes = bytes }
 
-abbrev pub file_at : Manner → ℕ → Share → File
-file_at manner place one = record {
-  name = manner.name place;
-  mode = Fresh;
-  bytes = one.bytes;
-  state = one.state;
-  is_broken = false;
-  reason = Other;
-}
+abbrev pub file_at : Manner → ℕ → Share → Slot
+file_at manner place one = record (opened (manner.name place) Fresh) { written = one.bytes; state = one.state }
 
 -- the files of these shares, named from a place on; the list ends at the first place without a name
-abbrev pub files_from : Manner → ℕ → List Share → List File
+abbrev pub files_from : Manner → ℕ → List Share → List Slot
 files_from manner place [] = []
 files_from manner place (one ∷ shares) = if manner.has_name place
     then file_at manner place one ∷ files_from manner (place + 1) shares else []
 
 -- the lines that standard output gets about these files
-abbrev pub told_of_files : Output → List File → List ℕ
+abbrev pub told_of_files : Output → List Slot → List ℕ
 told_of_files (gets_lines line) files = lines_for line files
 told_of_files (gets_openings line) files = openings_for line files
 told_of_files output files = []
@@ -67,7 +60,7 @@ told_before gets_bytes name = []
 told_before (gets_lines line) name = []
 told_before (gets_openings line) name = line name
 
-abbrev pub part_with : Output → List File → Part
+abbrev pub part_with : Output → List Slot → Part
 part_with output files = record { out = told_of_files output files; files = files }
 
 -- what is written of these shares
@@ -75,8 +68,8 @@ abbrev pub part_of : Manner → List Share → Part
 part_of manner shares = part_with manner.output (files_from manner 0 shares)
 
 -- the size of a file, in bytes, as a line
-abbrev pub size_of_file : File → List ℕ
-size_of_file file = decimal (length file.bytes) ++ 10 ∷ []
+abbrev pub size_of_file : Slot → List ℕ
+size_of_file file = decimal (length file.written) ++ 10 ∷ []
 
 -- the line for a file that is to be opened
 abbrev pub opening_line : List ℕ → List ℕ

@@ -3,17 +3,17 @@ use Rattle.std.specs.Prelude.{◌≡◌, ℕ, ◌≤◌, suc, Bool, List, [], �
 use Rattle.ports_core.specs.{
   Slot.Slot,
   declared.fault.Fault.Fault,
-  Part.{File, Part, OutputsAt, Begins, IsNext, Marks, IsAt, Output, gets_none, gets_bytes, gets_lines, gets_openings},
+  Part.{Part, OutputsAt, Begins, IsNext, Marks, IsAt, Output, gets_none, gets_bytes, gets_lines, gets_openings},
   Part.{AreLines, AreOpenings, nothing},
 }
 use Rattle.ports_core.specs.declared.slot.State.TheVariants as state
 
-abbrev pub AllClosed : List File → Type 0
+abbrev pub AllClosed : List Slot → Type 0
 AllClosed [] = Unit {0}
 AllClosed (file ∷ files) = (file.state ≡ state.Closed) × AllClosed files
 
 -- the files came one after another: each file before this place is closed, and no file stands after this place
-pub record InTurn (part : List File) (place : ℕ) : Type 0 where
+pub record InTurn (part : List Slot) (place : ℕ) : Type 0 where
   pub closed : AllClosed (take place part)
   pub within : place ≤ length part
   pub last : length part ≤ suc place

@@ -3,28 +3,14 @@ use Rattle.std.specs.{
   Prelude.{◌≡◌, ℕ, ◌+◌, ◌<◌, suc, Bool, true, false, List, [], ◌∷◌, ◌++◌, ◌⊎◌, length, map, take, drop, if◌then◌else◌},
 }
 use Rattle.ports_core.specs.{
-  Slot.{SlotBreaks, Slot, is_open, with_written, unopened, told_of},
-  declared.{
-    slot.{Mode.Mode, State.State},
-    reason.Reason.Reason,
-    fault.Fault.{Fault, TheVariants.{Memory, Write, Open}},
-  },
+  Slot.{SlotBreaks, Slot, MayBecome, is_open, with_written, unopened, told_of, told_slot},
+  declared.{reason.Reason.Reason, fault.Fault.{Fault, TheVariants.{Memory, Write, Open}}},
 }
-use Rattle.ports_core.specs.declared.slot.State.TheVariants as state
-
-pub record File : Type 0 where
-  pub name : List ℕ
-  pub mode : Mode
-  pub bytes : List ℕ
-  -- open, closed or removed; or the file could never be opened
-  pub state : State
-  pub is_broken : Bool
-  -- why the file broke; `Other` if it is sound
-  pub reason : Reason
 
 pub record Part : Type 0 where
   pub out : List ℕ
-  pub files : List File
+  -- the files, as slots
+  pub files : List Slot
 
 abbrev pub nothing : Part
 nothing = record { out = []; files = [] }
@@ -32,40 +18,25 @@ nothing = record { out = []; files = [] }
 abbrev pub only_out : List ℕ → Part
 only_out bytes = record { out = bytes; files = [] }
 
-abbrev pub file_of : Slot → File
-file_of slot = record {
-  name = slot.name;
-  mode = slot.mode;
-  bytes = slot.written;
-  state = slot.state;
-  is_broken = slot.is_broken;
-  reason = slot.reason;
-}
-
-abbrev pub told_file : Bool → File → File
-told_file told file = record file { bytes = told_of told file.bytes }
-
 -- Since the state `before` the outputs got exactly this part: standard output got the part's bytes, and the slots that
 -- were opened since are the part's files, in order.
 pub record OutputsAt (told : Bool) (before : List Slot) (part : Part) (now : List Slot) : Type 0 where
   pub standard : 0 < length before
-  pub since : List Slot
-  pub slots : now ≡ with_written 0 (told_of told part.out) before ++ since
-  pub files : map file_of since ≡ map (told_file told) part.files
+  pub slots : now ≡ with_written 0 (told_of told part.out) before ++ map (told_slot told) part.files
 
 -- `front` is a beginning of `whole`, perhaps empty, perhaps all of it
 abbrev pub IsBeginning : {A : Type 0} → List A → List A → Type 0
 IsBeginning {A} front whole = (rest : List A) × (whole ≡ front ++ rest)
 
 -- The bytes of each file are a beginning of those of the file at its place in the other list, which may have more
--- files. Name and mode are the same, and both files are broken, or neither is. A file that is open may be in another
--- state in the other list. Any other file is the same in both.
-abbrev pub FilesBegin : List File → List File → Type 0
+-- files. Name and mode are the same, and both files are broken, or neither is. A file that is open is open or closed in
+-- the other list. Any other file is the same in both.
+abbrev pub FilesBegin : List Slot → List Slot → Type 0
 FilesBegin [] wholes = Unit {0}
 FilesBegin (file ∷ files) [] = ⊥
 FilesBegin (file ∷ files) (whole ∷ wholes) = (file.name ≡ whole.name) × (file.mode ≡ whole.mode)
-    × (file.is_broken ≡ whole.is_broken) × ((file.state ≡ state.Open) ⊎ (file ≡ whole))
-    × IsBeginning file.bytes whole.bytes × FilesBegin files wholes
+    × (file.is_broken ≡ whole.is_broken) × (MayBecome file.state whole.state ⊎ (file ≡ whole))
+    × IsBeginning file.written whole.written × FilesBegin files wholes
 
 pub record Begins (low high : Part) : Type 0 where
   pub out : IsBeginning low.out high.out
@@ -73,9 +44,9 @@ pub record Begins (low high : Part) : Type 0 where
 
 -- the whole has more files than the part, and the first of these further files has this name
 pub record IsNext (part whole : Part) (name : List ℕ) : Type 0 where
-  pub front : List File
-  pub file : File
-  pub rest : List File
+  pub front : List Slot
+  pub file : Slot
+  pub rest : List Slot
   pub files : whole.files ≡ front ++ file ∷ rest
   pub place : length front ≡ length part.files
   pub name_is : file.name ≡ name
@@ -97,7 +68,7 @@ IsAt (Open slot) first place count = place ≡ count
 IsAt fault first place count = Unit {0}
 
 -- The files were reached in their order: those before this place are as in `high`, and those after it as in `low`.
-pub record InOrder (low part high : List File) (place : ℕ) : Type 0 where
+pub record InOrder (low part high : List Slot) (place : ℕ) : Type 0 where
   pub done : take place part ≡ take place high
   pub untouched : drop (suc place) part ≡ drop (suc place) low
 
@@ -106,7 +77,7 @@ pub record InOrder (low part high : List File) (place : ℕ) : Type 0 where
 pub data Output : Type 0 where
   gets_none : Output
   gets_bytes : Output
-  gets_lines : (File → List ℕ) → Output
+  gets_lines : (Slot → List ℕ) → Output
   gets_openings : (List ℕ → List ℕ) → Output
 
 -- whether the tool writes to standard output
@@ -117,13 +88,13 @@ writes (gets_lines line) = true
 writes (gets_openings line) = true
 
 -- the lines for those of these files that aren't open
-abbrev pub lines_for : (File → List ℕ) → List File → List ℕ
+abbrev pub lines_for : (Slot → List ℕ) → List Slot → List ℕ
 lines_for line [] = []
 lines_for line (file ∷ files) = (if is_open file.state then [] else line file) ++ lines_for line files
 
 -- These bytes are the lines for the files before a place. A beginning of the next line may follow, but only if standard
 -- output broke in it.
-pub record AreLines (line : File → List ℕ) (bytes : List ℕ) (files : List File) (place : ℕ)
+pub record AreLines (line : Slot → List ℕ) (bytes : List ℕ) (files : List Slot) (place : ℕ)
     (fault : Fault) : Type 0 where
   pub next : List ℕ
   pub all : bytes ≡ lines_for line (take place files) ++ next
@@ -131,7 +102,7 @@ pub record AreLines (line : File → List ℕ) (bytes : List ℕ) (files : List 
       ⊎ ((fault ≡ Write 0) × IsBeginning next (lines_for line (take 1 (drop place files))))
 
 -- the lines for these files, by their names
-abbrev pub openings_for : (List ℕ → List ℕ) → List File → List ℕ
+abbrev pub openings_for : (List ℕ → List ℕ) → List Slot → List ℕ
 openings_for line [] = []
 openings_for line (file ∷ files) = line file.name ++ openings_for line files
 

@@ -447,9 +447,9 @@ module _ (told_in told : Bool) (task : Task) (most : ℕ) (is_first failed was_r
       let all = part_after error part (at_after at there) in
       let said = said_swept told (SaysFor told task.speaker (reason_of source sources) message) work.clears old new (length start)
       (part_two before) (rw all.slots at (rw counted at swept)) says in
-      rw made (took (taken true) said.after (top ∷ said.after ∷ all.since)
+      rw made (took (taken true) said.after (top ∷ said.after ∷ _)
       (simp (and-false, or-true)) done (said.after, said.says, refl)
-      (record { standard = lit< tt; since = all.since; slots = refl; files = all.files }) said.swept)
+      (record { standard = lit< tt; slots = refl }) said.swept)
 
   pub took_well : {content : Content} {new : List Slot} {fed : Fed}
       → WasDone content → (fed ≡ Whole) ⊎ (fed ≡ Enough)

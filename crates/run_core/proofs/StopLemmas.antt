@@ -1,14 +1,14 @@
 -- Lemmas on what is written after what was written before, on outputs that a fault stopped, and on the fault's message.
 use Rattle.std.proofs.{
   lemmas.{Grind.common_steps, List.{map-append, append-nil}},
-  Common.{◌≡◌, ℕ, ◌+◌, ◌<◌, ◌≤◌, suc, Bool, true, false, List, [], ◌∷◌, ◌++◌, length, take, drop, ◌⊎◌, inl},
+  Common.{◌≡◌, ℕ, ◌+◌, ◌<◌, ◌≤◌, suc, Bool, true, false, List, [], ◌∷◌, ◌++◌, length, map, take, drop, ◌⊎◌, inl},
   Common.{inr, refl, sym, ◌∙◌, ap, arith, append_assoc, length-append, zero, lit<, subst},
   Math.Seq.{take-append-add, drop-append-add},
 }
 use Rattle.ports_core.specs.{
-  Slot.{Slot, with_written, told_of, is_open, slot_at, adds, breaks, unopened, with_broken},
-  Part.{nothing, Part, File, only_out, OutputsAt, IsBeginning, Begins, IsNext, IsAt, StoppedBetween, file_of},
-  Part.{told_file, Marks, Output, gets_lines, gets_openings, lines_for, openings_for, LinesInOrder},
+  Slot.{Slot, with_written, told_of, told_slot, is_open, slot_at, adds, breaks, unopened, with_broken},
+  Part.{nothing, Part, only_out, OutputsAt, IsBeginning, Begins, IsNext, IsAt, StoppedBetween, Marks, Output},
+  Part.{gets_lines, gets_openings, lines_for, openings_for, LinesInOrder},
   Swept.{Swept, SweptFrom, Cleared},
   declared.fault.Fault.{Fault, TheVariants.{Write, Open}},
   Message.{OnError, output_named, output_reason},
@@ -48,15 +48,18 @@ pub at_after : {told : Bool} {base : List Slot} {first part : Part} {mid now : L
     → OutputsAt told base first mid → OutputsAt told mid part now → OutputsAt told base (after_part first part) now
 at_after {told} {base} {first} {part} {mid} one two = record {
   standard = one.standard;
-  since = one.since ++ two.since;
-  slots = rw (two.slots, more, append_assoc (with_written 0 (told_of told (first.out ++ part.out)) base) one.since two.since);
-  files = rw (map-append file_of one.since two.since, one.files, two.files, map-append (told_file told) first.files part.files);
+  slots = rw (
+    two.slots,
+    more,
+    append_assoc (with_written 0 (told_of told (first.out ++ part.out)) base) (map (told_slot told) first.files),
+    map-append (told_slot told) first.files part.files,
+  );
 } where
   more : with_written 0 (told_of told part.out) mid
-      ≡ with_written 0 (told_of told (first.out ++ part.out)) base ++ one.since
+      ≡ with_written 0 (told_of told (first.out ++ part.out)) base ++ map (told_slot told) first.files
   more = ap (with_written 0 (told_of told part.out)) one.slots
-      ∙ changed_at-append 0 _ (with_written 0 (told_of told first.out) base) one.since (rw (length-changed_at 0 _ base) one.standard)
-      ∙ ap (λ front. front ++ one.since) (with_written-append 0 (told_of told first.out) (told_of told part.out) base ∙ ap (λ bytes. with_written 0 bytes base) (sym (told_of-append told first.out part.out)))
+      ∙ changed_at-append 0 _ (with_written 0 (told_of told first.out) base) _ (rw (length-changed_at 0 _ base) one.standard)
+      ∙ ap (λ front. front ++ map (told_slot told) first.files) (with_written-append 0 (told_of told first.out) (told_of told part.out) base ∙ ap (λ bytes. with_written 0 bytes base) (sym (told_of-append told first.out part.out)))
 
 from_after : (fault : Fault) (base : ℕ) {mid : ℕ} (place count : ℕ) (first : ℕ) → mid ≡ base + first
     → IsAt fault mid place count → IsAt fault base (first + place) (first + count)
@@ -66,7 +69,7 @@ from_after (Open _) base place count first is at = ap (λ n. first + n) at
 from_after fault base place count first is at = tt
 
 -- what stopped after a part, stopped after it
-lines_for-append : (line : File → List ℕ) (some more : List File)
+lines_for-append : (line : Slot → List ℕ) (some more : List Slot)
     → lines_for line (some ++ more) ≡ lines_for line some ++ lines_for line more
 lines_for-append line [] more = refl
 lines_for-append line (file ∷ some) more = grind (arith, common_steps, (lines_for-append line some more))
@@ -181,8 +184,8 @@ pub said_at : {told : Bool} {Change : Slot → Slot → Type 0} {output error : 
     → OutputsAt told (output ∷ error ∷ []) part old → OnError Change old new
     → (after : Slot) × Change error after × OutputsAt told (output ∷ after ∷ []) part new
 said_at {told} {output} {error} {part} at says =
-    let said = says (adds (told_of told part.out) output) error at.since at.slots in
-    (said.0, said.1, record { standard = lit< tt; since = at.since; slots = said.2; files = at.files })
+    let said = says (adds (told_of told part.out) output) error _ at.slots in
+    (said.0, said.1, record { standard = lit< tt; slots = said.2 })
 
 module _ (told : Bool) (Change : Slot → Slot → Type 0) where
   -- what a fault left, with its message after it; standard error is none of the outputs that it can mark
@@ -207,7 +210,8 @@ module _ (told : Bool) (Change : Slot → Slot → Type 0) where
       → (after : Slot) × Change error after × StoppedBetween how told (output ∷ after ∷ []) low high fault new
   stop_said {output = output} {high} {fault} {new} stop says =
       let first = adds (told_of told stop.part.out) output in
-      let marked = told_marked (IsNext stop.part high) fault stop.place _ first stop.outputs.since new stop.from (rw stop.outputs.slots at stop.marks) says in (
+      let files = map (told_slot told) stop.part.files in
+      let marked = told_marked (IsNext stop.part high) fault stop.place _ first files new stop.from (rw stop.outputs.slots at stop.marks) says in (
         marked.0,
         marked.1,
         record {
@@ -218,8 +222,8 @@ module _ (told : Bool) (Change : Slot → Slot → Type 0) where
           order = stop.order;
           lines = stop.lines;
           from = stop.from;
-          reached = first ∷ marked.0 ∷ stop.outputs.since;
-          outputs = record { standard = lit< tt; since = stop.outputs.since; slots = refl; files = stop.outputs.files };
+          reached = first ∷ marked.0 ∷ files;
+          outputs = record { standard = lit< tt; slots = refl };
           marks = marked.2;
         },
       )

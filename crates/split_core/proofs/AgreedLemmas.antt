@@ -9,7 +9,8 @@ use Rattle.seg_core.specs.{Line.{joined}, declared.cut.{Cut.Cut, Limit.{Limit}},
 use Rattle.ports_core.specs.{
   Draft.{opening_line, told_of_files},
   Name.{Naming, has_name},
-  Part.{File, IsBeginning, openings_for},
+  Part.{IsBeginning, openings_for},
+  Slot.Slot,
   Work.{IsLawful, Work},
   Agreed.{CanCome, IsAgreed, file_bytes, output_at, outputs_of},
   declared.slot.State.{State, TheVariants.{Open, Closed}},
@@ -38,7 +39,7 @@ named_bytes names place [] = []
 named_bytes names place (one ∷ those) = cond (has_name names place) (one ∷ named_bytes names (place + 1) those) []
 
 pub bytes_named : (filing : Filing) (place : ℕ) (shares : List Share)
-    → map (λ (file : File). file.bytes) (named filing place shares)
+    → map (λ (file : Slot). file.written) (named filing place shares)
     ≡ named_bytes filing.names place (map (λ (file : Share). file.bytes) shares)
 bytes_named filing place [] = refl
 bytes_named filing place (one ∷ shares) = grind (arith, bytes_named filing (place + 1) shares)
@@ -69,7 +70,7 @@ each_named names [] are = refl
 each_named names (one ∷ those) are = named_each names 0 one those (rw (← zero-add (length those)) at are)
 
 pub shared_bytes : (filing : Filing) (state : State) (those : List (List ℕ))
-    → map (λ (file : File). file.bytes) (named filing 0 (map (share state) those)) ≡ named_bytes filing.names 0 those
+    → map (λ (file : Slot). file.written) (named filing 0 (map (share state) those)) ≡ named_bytes filing.names 0 those
 shared_bytes filing state those = rw (bytes_named, bytes_of_shares)
 
 -- Parts that follow one another

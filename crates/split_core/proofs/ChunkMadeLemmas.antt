@@ -17,7 +17,8 @@ use Rattle.ports_core.{
   specs.{
     Agreed.file_bytes,
     Draft.{files_from},
-    Part.{File, Part},
+    Part.Part,
+    Slot.Slot,
     declared.{slot.State.TheVariants.{Open, Closed}, verdict.Verdict.TheVariants.Changed},
   },
   proofs.{ShareLemmas.{closed_files}},
@@ -88,14 +89,14 @@ files_then filing count place (one ∷ front) rest named few =
 -- the file that is open has a byte
 begun_by : (filing : Filing) (place : ℕ) (rest : List ℕ)
     → let next = files_from (manner_of filing) place (map (share Open) (unless_empty rest)) in
-    (next ≡ []) ⊎ ((file : File) × (next ≡ file ∷ []) × (file.state ≡ Open) × (0 < length file.bytes))
+    (next ≡ []) ⊎ ((file : Slot) × (next ≡ file ∷ []) × (file.state ≡ Open) × (0 < length file.written))
 begun_by filing place [] = inl refl
 begun_by filing place (byte ∷ rest) = grind arith
 
 module _ (plan : ChunksPlan) (said : Option ℕ) (x : List ℕ) (some : 0 < plan.chunks.count)
     (named : are_named plan.filing.names plan.chunks.count ≡ true) where
-  abbrev bytes_of : File → List ℕ
-  bytes_of file = file.bytes
+  abbrev bytes_of : Slot → List ℕ
+  bytes_of file = file.written
 
   abbrev cut : CutUp
   cut = decided plan.chunks 1 said x
@@ -106,7 +107,7 @@ module _ (plan : ChunksPlan) (said : Option ℕ) (x : List ℕ) (some : 0 < plan
   abbrev place : ℕ
   place = 0 + length front
 
-  abbrev closed : List File
+  abbrev closed : List Slot
   closed = files_from (manner_of plan.filing) 0 (map (share Closed) front)
 
   few : 0 + length front ≤ plan.chunks.count

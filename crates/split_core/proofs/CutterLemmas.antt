@@ -311,7 +311,7 @@ rest_more chunks size x y place within reached = grind (arith, common_steps, ful
 -- A stretch is cut off
 
 pub begin_so : (on : Course) (low high : CutUp) → Goes low high → Begins (part_on on low) (part_on on high)
-begin_so (in_files filing elide) low high goes = part_begins filing _ _ (shares_on elide Open goes)
+begin_so (in_files filing elide) low high goes = part_begins filing _ _ (shares_on elide Open (refl, refl) goes)
 begin_so (in_output chunk) low high goes = out_begins _ _ (piece_on _ goes)
 
 -- what is there of a text begins what is there once it goes on

@@ -17,14 +17,14 @@ use Rattle.ports_core.specs.{
   Names.no_file,
   declared.{names.Names.Names, slot.Mode.TheVariants.Fresh, fault.Fault.Fault},
   Slot.{Slot, changed_at, opened, adds, closes, is_closable, with_written, SlotBreaks, told_of, KeepsBroken},
-  Part.{File, Part, OutputsAt, FilesBegin, Begins, IsBeginning, IsDueLine, IsNext, IsAt, LinesInOrder, Marks},
+  Part.{Part, OutputsAt, FilesBegin, Begins, IsBeginning, IsDueLine, IsNext, IsAt, LinesInOrder, Marks},
   Draft.{manner_by, opening_line, output_of, part_with, told_before, told_of_files},
   FileWriter.Breaks,
   InTurn.fault_in,
   inner.Write.Wrote,
 }
 use Rattle.ports_core.proofs.{
-  PartLemmas.{IsNoOpen, begins_itself, begins_trans, due_by, marks_by, none_due, openings-append, openings_since},
+  PartLemmas.{IsNoOpen, begins_itself, begins_trans, due_by, kept_trans, marks_by, none_due, openings-append, openings_since},
   PartLemmas.{out_more, sound_at, part_trans},
   PartSteps.line_begins,
   SlotSteps.{keeps_again, keeps_close, keeps_open, keeps_write, rose_later, write_rose, writable_before},
@@ -34,7 +34,7 @@ use Rattle.ports_core.proofs.{
   FileWriterLemmas.{breaks_later, can_tell, make_breaks},
   SlotLemmas.length-changed_at,
   WriteLemmas.writable-written,
-  FileLemmas.{file_more, file_changes, write_makes, close_makes, gets, ended},
+  FileLemmas.{file_more, file_changes, write_makes, close_makes},
 }
 use Rattle.split_core.specs.{
   Split.{Filing, Share, is_verbose, output_by},
@@ -72,7 +72,7 @@ drop_by f k start n is = search rules
 -- From some files to others
 
 -- what standard output gets about one more file, it gets before the file is opened
-told_more : (verbose : Bool) (file : ℕ → File) (n : ℕ)
+told_more : (verbose : Bool) (file : ℕ → Slot) (n : ℕ)
     → told_of_files (output_by verbose) (map file (range_with_len 0 (n + 1)))
     ≡ told_of_files (output_by verbose) (map file (range_with_len 0 n)) ++ told_before (output_by verbose) (file n).name
 told_more false file n = refl
@@ -83,7 +83,7 @@ told_more true file n = cc (
 )
 
 -- what standard output gets about files doesn't depend on what they have
-told_same : (verbose : Bool) (low high : ℕ → File) → ((i : ℕ) → (low i).name ≡ (high i).name) → (start n : ℕ)
+told_same : (verbose : Bool) (low high : ℕ → Slot) → ((i : ℕ) → (low i).name ≡ (high i).name) → (start n : ℕ)
     → told_of_files (output_by verbose) (map low (range_with_len start n))
     ≡ told_of_files (output_by verbose) (map high (range_with_len start n))
 told_same false low high same start n = refl
@@ -108,7 +108,7 @@ grow_trans : (from to : ℕ) {a b c d few some many : ℕ} {low mid high : ℕ �
 grow_trans from to first second here there before after = record {
   more = omega arith;
   new = omega arith;
-  begin = λ i. grind (arith, first.begin i, second.begin i);
+  begin = λ i. kept_trans (λ (one : Share). one.state) _ _ _ (first.begin i) (second.begin i);
   bytes = λ i. begins_trans _ _ _ (first.bytes i) (second.bytes i);
   same = λ i out. first.same i (grind (arith, out)) ∙ second.same i (grind (arith, out));
 }
@@ -122,7 +122,7 @@ grow_by : {from to few many : ℕ} {had has : ℕ → List ℕ} (more : ℕ → 
 grow_by {had = had} more less most outside are = record {
   more = less;
   new = most;
-  begin = λ i. inl refl;
+  begin = λ i. inl (refl, refl);
   bytes = λ i. (more i, are i);
   same = λ i out. cc (are i, outside i out, append-nil (had i));
 }
@@ -133,7 +133,7 @@ grow_by {had = had} more less most outside are = record {
 next_due : (filing : Filing) {out : List ℕ} (part high : ℕ → Share) {some many most : ℕ} {name : List ℕ} → many ≤ most
     → (name ≡ name_at filing.names some) × (some < many)
     → IsNext (record { out = out; files = files_by filing part some }) (part_by filing high most) name
-next_due filing part high {some} {many} {most} more (is, less) = let file : ℕ → File = λ i. file_at filing i (high i) in record {
+next_due filing part high {some} {many} {most} more (is, less) = let file : ℕ → Slot = λ i. file_at filing i (high i) in record {
   front = map file (range_with_len 0 some);
   file = file some;
   rest = map file (range_with_len (some + 1) (most - suc some));
@@ -145,7 +145,7 @@ next_due filing part high {some} {many} {most} more (is, less) = let file : ℕ 
 }
 
 -- the lines that standard output got after those for some files
-lines_in : (verbose : Bool) (low : List File) (part high : Part) (place : ℕ) (bytes : List ℕ) (why : Fault)
+lines_in : (verbose : Bool) (low : List Slot) (part high : Part) (place : ℕ) (bytes : List ℕ) (why : Fault)
     → FilesBegin low part.files → part.out ≡ told_of_files (output_by verbose) part.files ++ bytes
     → IsDueLine (IsNext part high) (told_before (output_by verbose)) bytes why
     → LinesInOrder (output_by verbose) (part_with (output_by verbose) low) part high place why
@@ -349,7 +349,7 @@ reached told files {old} place ready here is =
         outside = λ i out. refl;
         leaves = λ before had has at are. let same : ◌≡◌ {A = ℕ → List ℕ} has had = fun_ext (λ i. are i ∙ append-nil (had i)) in
             let count : max (length files.outputs) (place + 1) ≡ length files.outputs + 1 = omega arith in
-            let file : ℕ → File = λ i. file_at (filing_in files) i (all_open had i) in
+            let file : ℕ → Slot = λ i. file_at (filing_in files) i (all_open had i) in
             rw (
               count,
               same,
@@ -393,7 +393,7 @@ reached_not told files {old = old} place ready here named same fails =
 -- Writing
 
 -- only the file at a place changed
-changed_files : (filing : Filing) (makes : File → File) (low high : ℕ → Share) {n place : ℕ} → place < n
+changed_files : (filing : Filing) (makes : Slot → Slot) (low high : ℕ → Share) {n place : ℕ} → place < n
     → ((i : ℕ) → (i ≡ place → ⊥) → low i ≡ high i)
     → makes (file_at filing place (low place)) ≡ file_at filing place (high place)
     → record { out = (part_by filing low n).out; files = changed_at place makes (files_by filing low n) }
@@ -406,9 +406,9 @@ writes : {told : Bool} {files : FilesState} {before : List Slot} {had has : ℕ 
     → ((i : ℕ) → has i ≡ had i ++ only_at place bytes i)
     → OutputsAt told before (part_by (filing_in files) (all_open has) (length files.outputs)) new
 writes {told} {files} {had = had} {has} {place = place} bytes within is at are =
-    rw (changed_files (filing_in files) (gets bytes) (all_open had) (all_open has) within
+    rw (changed_files (filing_in files) (adds bytes) (all_open had) (all_open has) within
     (λ i differs. grind (arith, nat_tests, are i, append-nil (had i), differs)) (grind (arith, nat_tests, are place))) at
-    (file_changes told _ (gets bytes) (write_makes told bytes) _ _ _ _ place at.outputs (rw (at.owns.stand place within) at is))
+    (file_changes told _ (adds bytes) (write_makes told bytes) _ _ _ _ place at.outputs (rw (at.owns.stand place within) at is))
 
 -- bytes were written to a file that is open, or it broke among them
 written : (told : Bool) {files : FilesState} {old new : List Slot} (place : ℕ) (bytes : List ℕ)
@@ -476,13 +476,19 @@ module _ (told : Bool) {files : FilesState} {place : ℕ} {old now : List Slot} 
       → {before : List Slot} {had : ℕ → List ℕ} → StandAt told files before had old
       → OutputsAt told before (part_by (filing_in files) (closed_first (place + 1) had) (length files.outputs)) new
   closes_next is {before} {had} at =
-      rw (changed_files (filing_in files) ended (closed_first place had) (closed_first (place + 1) had) within
+      rw (changed_files (filing_in files) closes (closed_first place had) (closed_first (place + 1) had) within
       (λ i differs. grind (arith, nat_tests, differs)) (grind (arith, nat_tests))) at
-      (file_changes told _ ended (close_makes told) _ _ _ _ place (so_far.closed before had at) (rw (at.owns.stand place within) at is))
+      (file_changes told _ closes (close_makes told) _ _ _ _ place (so_far.closed before had at) (rw (at.owns.stand place within) at is))
 
   pub one_closed : {new : List Slot} → new ≡ changed_at (output_at files place) closes now
       → Closing told files (place + 1) old new
-  one_closed {new} is = grind (arith, common_steps, can_tell, writable_elsewhere, length-changed_at, closes_next, keeps_again, keeps_close)
+  one_closed {new} is = record {
+    size = grind (arith, length-changed_at);
+    left = grind (arith, common_steps, writable_elsewhere);
+    closed = λ before had at. closes_next is at;
+    output = grind (arith, common_steps, can_tell, writable_elsewhere);
+    sound = keeps_again _ _ _ so_far.sound (keeps_close _ _ _ is);
+  }
 
   pub not_closed : {new : List Slot} {slot : ℕ} {why : Fault} → slot ≡ output_at files place
       → (why ≡ fault.Write slot) × SlotBreaks slot (changed_at slot closes now) new
@@ -515,6 +521,16 @@ module _ (told : Bool) {files : FilesState} {place : ℕ} {old now : List Slot} 
         );
         owned = owned_same (broken_size (output_at files place) now new breaks ∙ so_far.size);
       })
+
+pub all_closed : {told : Bool} {files : FilesState} {place : ℕ} {old now : List Slot} → place ≡ length files.outputs
+    → Closing told files place old now → ClosesAll told files old now (Ok tt)
+all_closed {told} {files} {old = old} {now} is so_far = record {
+  closed = subst (λ n. HaveClosed told files n old now) is so_far.closed;
+  output = so_far.output;
+  cut = tt;
+  caused = tt;
+  owned = owned_same so_far.size;
+}
 
 -- A file was reached, and then written to.
 

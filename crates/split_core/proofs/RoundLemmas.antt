@@ -1,7 +1,7 @@
 -- Lemmas on dealing lines in turn, as a stage, and on what waits in the engine in each of its two ways to cut.
 use Rattle.std.proofs.{
   Common.{◌⊎◌, inl, inr, ◌≡◌, ℕ, ◌+◌, ◌%◌, ◌<◌, ◌≤◌, zero, suc, max, Bool, true, false, cond, List, [], ◌∷◌},
-  Common.{◌++◌, length, map, get_or, refl, sym, ◌∙◌, ap, arith, Ok, Err, OnOk, Result, rules},
+  Common.{◌++◌, length, map, get_or, refl, sym, ◌∙◌, ap, arith, Ok, Err, OnOk, Result, rules, subst},
   Math.{Nat.{mod-add-mod, mod-eq_of_lt, mod-mod, mod-le}, Path.fun_ext, Seq.drop-length},
   lemmas.Bool.{cases_lt, Decides.nat_tests},
   lemmas.List.{append-nil, length-map, get_or_past, FromFn.{length-map-range_with_len, get_or-map-range_with_len}},
@@ -21,7 +21,7 @@ use Rattle.ports_core.specs.{
   declared.fault.Fault.Fault,
   declared.slot.State.{State, TheVariants.{Open, Closed}},
   declared.file_writer.Tells.Tells,
-  Engine.{MayGet, EndsWith, EndsThere, StandsAt, is_verdict, cut},
+  Engine.{MayGet, EndsWith, EndsThere, PutsOut, StandsAt, is_verdict, cut},
   Draft.{part_of, part_with},
 }
 use Rattle.ports_core.proofs.{SpareLemmas.none_spare, PartLemmas.outputs_count, ShareLemmas.nothing_part}
@@ -32,7 +32,7 @@ use Rattle.split_core.specs.{
   inner.CutLaws.named,
   inner.Dealt.{dealt_first, reached_by, share_of},
   inner.Ways.{EndsAs, PassesAs, held},
-  inner.Sharing.{file_at, always_named, part_by, all_open, closed_first, StandAt, Adds, Opens, ClosesAll},
+  inner.Sharing.{file_at, always_named, part_by, all_open, closed_first, StandAt, Adds, Opens, ClosesAll, HaveClosed},
   Split.{Filing, share, manner_of, are_named, is_verbose, output_by, dealt_files, settled_by, is_short, has_bytes},
   Split.{split_work, bytes_in},
   FilesState.{FilesState, filing_in},
@@ -192,10 +192,17 @@ closed_part {round} {x} holds =
     (λ i low high. grind (arith, nat_tests)))
     ∙ filed_are round.delim filing round.elide round.count x holds.named Closed holds.opened
 
+-- once all files are closed, the outputs have the whole
+whole_closed : {told : Bool} {round : RoundState} {old new : List Slot}
+    → HaveClosed told round.files (length round.files.outputs) old new
+    → PutsOut ways.terms (way.Round round) (work round).whole told old new
+whole_closed {told} {new = new} closed before x at =
+    subst (λ part. OutputsAt told before part new) (closed_part at.holds) (closed before _ (stand_at at))
+
 pub finishes_by : (told : Bool) (round : RoundState) (old new : List Slot) (result : Result (Unit {0}) Fault)
     → ClosesAll told round.files old new result
     → EndsAs told (way.Round round) old new (way.Round round) result
-finishes_by told round old new (Ok u) closes = search (rules, closes, closed_part, stand_at, part.told_writable)
+finishes_by told round old new (Ok u) closes = search (rules, closes, whole_closed, part.told_writable)
 finishes_by told round old new (Err why) closes = record {
   same = refl;
   size = omega arith;

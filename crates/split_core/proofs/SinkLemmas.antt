@@ -9,7 +9,7 @@ use Rattle.std.proofs.{
 use Rattle.ports_core.specs.{
   Draft.{Draft, Manner, draft_part, made_of, with_bytes, with_next},
   FileWriter.{At, Goes, IsCurrent, IsReady, IsWrite, KeepsOrBreaks, Leaves, Writes, WriterState, is_file},
-  Part.{Begins, File as PartFile, FilesBegin, Output, OutputsAt, Part, gets_bytes, only_out},
+  Part.{Begins, FilesBegin, Output, OutputsAt, Part, gets_bytes, only_out},
   Slot.{Slot, is_writable},
   Write.BrokeAfter,
   inner.Write.Wrote,
@@ -255,7 +255,7 @@ piece_more : (chunk place : ℕ) (bytes : List ℕ) (cut : CutUp) → length cut
     ≡ get_or (pieces_in (with_rest bytes cut)) chunk []
 piece_more chunk place bytes cut is = grind (arith, common_steps)
 
-none_files : (files : List PartFile) → FilesBegin files [] → files ≡ []
+none_files : (files : List Slot) → FilesBegin files [] → files ≡ []
 none_files [] begins = refl
 none_files (file ∷ files) begins = absurd begins
 

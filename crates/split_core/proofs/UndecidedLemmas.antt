@@ -25,7 +25,8 @@ use Rattle.ports_core.specs.{
   Name.{Naming, has_name},
   Work.{IsLawful, Work},
   Agreed.{spot, spots_from, GoesTo, file_bytes, ArePlaced, CanCome, IsUndecided},
-  Part.{File, FilesBegin},
+  Part.FilesBegin,
+  Slot.Slot,
   declared.slot.State.TheVariants.{Open, Closed},
 }
 use Rattle.ports_core.proofs.{
@@ -89,7 +90,7 @@ spots_apart place i (bytes ∷ front) one two more others past less =
     grind (arith, length-append, spots_apart (place + 1) (i - length bytes) front one two more others)
 
 -- only the last file may be open
-abbrev OnlyLastOpen : List File → Type 0
+abbrev OnlyLastOpen : List Slot → Type 0
 OnlyLastOpen [] = Unit {0}
 OnlyLastOpen (file ∷ files) = (file.state ≡ Open → files ≡ []) × OnlyLastOpen files
 
@@ -98,16 +99,16 @@ pub last_open : (filing : Filing) (place : ℕ) (full : List (List ℕ)) (rest :
 last_open filing place [] rest = grind arith
 last_open filing place (part ∷ full) rest = grind (arith, last_open filing (place + 1) full rest)
 
-abbrev bytes_of : List File → List (List ℕ)
-bytes_of files = map (λ (file : File). file.bytes) files
+abbrev bytes_of : List Slot → List (List ℕ)
+bytes_of files = map (λ (file : Slot). file.written) files
 
 -- bytes that files have stay where they are
-spots_stay : (place i : ℕ) (low high : List File) → FilesBegin low high → OnlyLastOpen low
+spots_stay : (place i : ℕ) (low high : List Slot) → FilesBegin low high → OnlyLastOpen low
     → i < length (joined (bytes_of low)) → spots_from place (bytes_of high) i ≡ spots_from place (bytes_of low) i
 spots_stay place i [] high begins last less = search rules
 spots_stay place i (file ∷ low) [] begins last less = absurd begins
 spots_stay place i (file ∷ low) (whole ∷ high) begins last less =
-    grind (arith, length-append, spots_stay (place + 1) (i - length file.bytes) low high begins.5 last.1)
+    grind (arith, length-append, spots_stay (place + 1) (i - length file.written) low high begins.5 last.1)
 
 pub settled_stay : (work : Work) → IsLawful work → (x : List ℕ) → OnlyLastOpen (work.settled x).files → (i : ℕ)
     → i < length (joined (file_bytes (work.settled x))) → (y z : List ℕ)

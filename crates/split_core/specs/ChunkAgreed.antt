@@ -7,7 +7,8 @@ use Rattle.std.specs.{
 use Rattle.seg_core.specs.{Line.joined, declared.cut.Chunks.Chunks}
 use Rattle.ports_core.specs.{
   Agreed.{CanCome, Spot, file_bytes, output_at, spots_from},
-  Part.{File, Part, IsBeginning, Begins},
+  Part.{Part, IsBeginning, Begins},
+  Slot.Slot,
   InTurn.AllClosed,
   Work.Work,
   declared.slot.State.TheVariants.Open,
@@ -37,9 +38,9 @@ TwoDiffer comes given = (y : List ℕ) × (z : List ℕ) × comes y × comes z �
 
 -- Which files there are: first the files that are the same at the end of all continuations, closed; then at most one
 -- file, open and with a byte.
-pub record AreMade (comes : List ℕ → Type 0) (work : Work) (x : List ℕ) (files : List File) : Type 0 where
-  pub closed : List File
-  pub next : List File
+pub record AreMade (comes : List ℕ → Type 0) (work : Work) (x : List ℕ) (files : List Slot) : Type 0 where
+  pub closed : List Slot
+  pub next : List Slot
   pub are : files ≡ closed ++ next
   pub are_closed : AllClosed closed
   -- at the end every continuation begins with these files
@@ -47,7 +48,7 @@ pub record AreMade (comes : List ℕ → Type 0) (work : Work) (x : List ℕ) (f
   -- no continuation has another file, or two of them differ in the next file
   pub most : ((y : List ℕ) → comes y → (work.whole (x ++ y)).files ≡ closed)
       ⊎ TwoDiffer comes (λ y. take (suc (length closed)) (work.whole (x ++ y)).files)
-  pub begun : (next ≡ []) ⊎ ((file : File) × (next ≡ file ∷ []) × (file.state ≡ Open) × (0 < length file.bytes))
+  pub begun : (next ≡ []) ⊎ ((file : Slot) × (next ≡ file ∷ []) × (file.state ≡ Open) × (0 < length file.written))
 
 -- where byte i of an input goes, counted from 0: the files have its bytes one after another
 abbrev pub chunk_spots : ChunksPlan → Option ℕ → List ℕ → ℕ → List Spot

@@ -6,8 +6,8 @@ use Rattle.std.proofs.{
 }
 use Rattle.ports_core.{
   specs.Agreed.{IsAgreed, IsUndecided, Spot, spot, output_at, GoesTo, ArePlaced},
-  specs.Part.{File, FilesBegin, OutputsAt, file_of, told_file},
-  specs.Slot.{streams, opened, adds, closes, told_of},
+  specs.Part.{FilesBegin, OutputsAt},
+  specs.Slot.{Slot, streams, opened, adds, closes, told_of, told_slot},
   specs.declared.slot.{Mode.Mode, State.{State, TheVariants.{Open, Closed}}},
   proofs.AgreedLemmas.{agreed_now, same_spots},
 }
@@ -19,8 +19,8 @@ copies_begin mode [] x y = tt
 copies_begin mode (name ∷ names) x y = grind (arith, common_steps, copies_begin mode names x y)
 
 same_bytes : (mode : Mode) (one other : State) (names : List (List ℕ)) (x : List ℕ)
-    → map (λ (file : File). file.bytes) (map (copy_in mode one x) names)
-    ≡ map (λ (file : File). file.bytes) (map (copy_in mode other x) names)
+    → map (λ (file : Slot). file.written) (map (copy_in mode one x) names)
+    ≡ map (λ (file : Slot). file.written) (map (copy_in mode other x) names)
 same_bytes mode one other [] x = refl
 same_bytes mode one other (name ∷ names) x = cc (same_bytes mode one other names x)
 
@@ -51,7 +51,7 @@ tee_goes : (names : List (List ℕ)) (x : List ℕ) {i : ℕ} (at : Spot) → Go
 tee_goes names x at goes = grind (arith, common_steps, cond_both, each_goes)
 
 file_has : (mode : Mode) (names : List (List ℕ)) {x : List ℕ} (place : ℕ) → place < length names
-    → get_or (map (λ (file : File). file.bytes) (map (copy_in mode Closed x) names)) place [] ≡ x
+    → get_or (map (λ (file : Slot). file.written) (map (copy_in mode Closed x) names)) place [] ≡ x
 file_has mode [] place less = absurd (omega arith)
 file_has mode (name ∷ names) zero less = refl
 file_has mode (name ∷ names) (suc place) less = file_has mode names place (omega arith)
@@ -62,7 +62,7 @@ output_has mode names zero less = refl
 output_has mode names (suc place) less = file_has mode names place (omega arith)
 
 no_output : (mode : Mode) (names : List (List ℕ)) (x : List ℕ) (place offset : ℕ)
-    → offset < length (get_or (map (λ (file : File). file.bytes) (map (copy_in mode Closed x) names)) place [])
+    → offset < length (get_or (map (λ (file : Slot). file.written) (map (copy_in mode Closed x) names)) place [])
     → place < length names
 no_output mode [] x place offset less = absurd (omega arith)
 no_output mode (name ∷ names) x zero offset less = omega arith
@@ -98,8 +98,8 @@ tee_placed mode names = record {
 -- the outputs of a run in which nothing breaks
 
 copied_files : (told : Bool) (mode : Mode) (names : List (List ℕ)) (x : List ℕ)
-    → map file_of (map (λ name. closes (adds (told_of told x) (opened name mode))) names)
-    ≡ map (told_file told) (map (copy_in mode Closed x) names)
+    → map (λ name. closes (adds (told_of told x) (opened name mode))) names
+    ≡ map (told_slot told) (map (copy_in mode Closed x) names)
 copied_files told mode [] x = refl
 copied_files told mode (name ∷ names) x = cc (copied_files told mode names x)
 

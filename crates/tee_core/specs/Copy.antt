@@ -1,15 +1,15 @@
 -- What `tee` makes of an input if no output breaks, and where its bytes go: POSIX.1-2017, XCU tee.
 use Rattle.std.specs.Prelude.{ℕ, ◌+◌, nat_lt, true, false, List, [], ◌∷◌, length, map, if◌then◌else◌}
 use Rattle.ports_core.specs.{
-  declared.{reason.Reason.TheVariants.Other, slot.{Mode.Mode, State.{State, TheVariants.{Open, Closed}}}},
+  declared.slot.{Mode.Mode, State.{State, TheVariants.{Open, Closed}}},
   Agreed.{Spot, spot},
-  Part.{File, Part, gets_bytes},
+  Part.{Part, gets_bytes},
+  Slot.{Slot, opened},
   Work.{Work, always_well, no_needs},
 }
 
-abbrev pub copy_in : Mode → State → List ℕ → List ℕ → File
-copy_in mode state x name =
-    record { name = name; mode = mode; bytes = x; state = state; is_broken = false; reason = Other }
+abbrev pub copy_in : Mode → State → List ℕ → List ℕ → Slot
+copy_in mode state x name = record (opened name mode) { written = x; state = state }
 
 -- standard output and each file have all of x
 abbrev pub copies : Mode → List (List ℕ) → State → List ℕ → Part

@@ -1,15 +1,16 @@
 -- Laws that traits cite: what sections are when more lines come.
 use Rattle.std.proofs.{
   lemmas.{Grind.{common_steps, flat_map-append}, List.{append-nil, map-append}},
-  Common.{rules, ◌≡◌, ◌⊎◌, inl, inr, ℕ, zero, suc, ◌+◌, ◌-◌, ◌≤◌, Bool, false, List, [], ◌∷◌, ◌++◌, length},
+  Common.{rules, ◌≡◌, ◌⊎◌, inl, inr, ℕ, zero, suc, ◌+◌, ◌-◌, ◌≤◌, Bool, true, false, cond, List, [], ◌∷◌, ◌++◌, length},
   Common.{map, take, drop, refl, sym, subst, arith, append_assoc, length-append},
 }
 use Rattle.ports_core.{
   specs.{
     Draft.{share, made_of, part_of as part_by},
     Part.Begins,
+    Slot.has_file,
     inner.Shares.SharesBegin,
-    declared.slot.State.TheVariants.{Open},
+    declared.slot.State.TheVariants.{Open, Closed},
   },
   proofs.ShareLemmas.{made_begin, part_grows, shares_wider},
 }
@@ -152,6 +153,10 @@ pub shares-append : (style : Style) (a b : List Section)
     → shares_in style (a ++ b) ≡ shares_in style a ++ shares_in style b
 shares-append style a b = search (rules, flat_map-append)
 
+may_end : (is_closed : Bool) → has_file (cond is_closed Closed Open) ≡ true
+may_end true = refl
+may_end false = refl
+
 -- what is written of sections grows if the last section goes on, and perhaps ends
 pub section_grows : (style : Style) (front : List Section) (begun other : Section) (more : List Section)
     → begun.is_closed ≡ false → begun.is_kept ≡ other.is_kept → (rest : List ℕ)
@@ -165,7 +170,7 @@ section_grows style front begun other more is_open kept rest bytes =
     (shares_wider _ _ (shares_in style more)
     (subst (λ k. SharesBegin (map (share Open) (made_of (opening_of style k) (bytes_of begun.lines)))
     (map (share (state_in other)) (file_in style other))) (sym kept)
-    (search (rules, made_begin)))))) where
+    (search (rules, made_begin, may_end)))))) where
       last : shares_in style (begun ∷ []) ≡ map (share Open) (file_in style begun)
       last = search (rules, append-nil)
 

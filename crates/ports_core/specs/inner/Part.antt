@@ -1,11 +1,12 @@
 -- What private calls say: what standard output has of files.
 use Rattle.std.specs.Prelude.{◌≡◌, List, ℕ}
 use Rattle.ports_core.specs.{
-  Part.{File, Output, gets_none, gets_bytes, gets_lines, gets_openings, lines_for, openings_for},
+  Slot.Slot,
+  Part.{Output, gets_none, gets_bytes, gets_lines, gets_openings, lines_for, openings_for},
 }
 
 -- standard output has exactly the lines for these files, if files have lines
-abbrev pub HasLines : Output → List ℕ → List File → Type 0
+abbrev pub HasLines : Output → List ℕ → List Slot → Type 0
 HasLines gets_none bytes files = Unit {0}
 HasLines gets_bytes bytes files = Unit {0}
 HasLines (gets_lines line) bytes files = bytes ≡ lines_for line files

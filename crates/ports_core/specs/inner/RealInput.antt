@@ -1,9 +1,6 @@
 -- What private calls say of one real input.
 use Rattle.std.specs.Prelude.{ℕ, ◌+◌, ◌-◌, ◌^◌, Bool, false, List, map, min, if◌then◌else◌}
-use Rattle.ports_core.specs.{
-  Source.{Source, fails, gives, gets_back, skips},
-  declared.reason.Reason.{Reason, TheVariants.NotOpen},
-}
+use Rattle.ports_core.specs.{Source.{Source, fails, gives, skips}, declared.reason.Reason.{Reason, TheVariants.NotOpen}}
 
 pub record RealInput : Type 0 where
   pub source : Source

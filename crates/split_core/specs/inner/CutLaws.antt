@@ -5,7 +5,7 @@ use Rattle.split_core.specs.{
   Parts.{is_full, first_part, after_first, CutUp, parts},
   Split.{Filing, Share, manner_of, share},
 }
-use Rattle.ports_core.specs.{declared.slot.State.TheVariants.Closed, Draft.files_from, Part.File}
+use Rattle.ports_core.specs.{declared.slot.State.TheVariants.Closed, Draft.files_from, Slot.Slot}
 
 -- the parts of a text, one after another
 
@@ -22,5 +22,5 @@ abbrev pub whole_parts : Limit → List ℕ → List Share
 whole_parts limit x = map (share Closed) (parts limit x)
 
 -- the files of these shares, named from a place on, as far as there are names
-abbrev pub named : Filing → ℕ → List Share → List File
+abbrev pub named : Filing → ℕ → List Share → List Slot
 named filing place shares = files_from (manner_of filing) place shares

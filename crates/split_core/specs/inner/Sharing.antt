@@ -6,8 +6,8 @@ use Rattle.std.specs.{
 }
 use Rattle.ports_core.specs.{
   Names.with_one_drawn,
-  Slot.{Slot, KeepsBroken, Rose},
-  Part.{File, Part, OutputsAt, IsBeginning, StoppedBetween},
+  Slot.{Slot, KeepsBroken, MayBecome, Rose},
+  Part.{Part, OutputsAt, IsBeginning, StoppedBetween},
   declared.fault.Fault.{Fault, TheVariants.Write},
   Draft.Manner,
   FileWriter.{Breaks, CanTell},
@@ -22,11 +22,11 @@ use Rattle.ports_core.specs.declared.slot.State.TheVariants as state
 use Rattle.ports_core.specs.Draft as draft
 
 -- the file of the share at a place
-abbrev pub file_at : Filing → ℕ → Share → File
+abbrev pub file_at : Filing → ℕ → Share → Slot
 file_at filing place one = draft.file_at (manner_of filing) place one
 
 -- the files of the first `count` shares
-abbrev pub files_by : Filing → (ℕ → Share) → ℕ → List File
+abbrev pub files_by : Filing → (ℕ → Share) → ℕ → List Slot
 files_by filing shares count = map (λ place. file_at filing place (shares place)) (range_with_len 0 count)
 
 abbrev pub part_by : Filing → (ℕ → Share) → ℕ → Part
@@ -59,7 +59,7 @@ KeepsFiles files old next new = (first : ℕ) → OwnsFiles files first old → 
 pub record Grow (from to : ℕ) (low : ℕ → Share) (few : ℕ) (high : ℕ → Share) (many : ℕ) : Type 0 where
   pub more : few ≤ many
   pub new : many ≤ max few to
-  pub begin : (place : ℕ) → ((low place).state ≡ state.Open) ⊎ (low place ≡ high place)
+  pub begin : (place : ℕ) → MayBecome (low place).state (high place).state ⊎ (low place ≡ high place)
   pub bytes : (place : ℕ) → IsBeginning (low place).bytes (high place).bytes
   pub same : (place : ℕ) → (place < from) ⊎ (to ≤ place) → low place ≡ high place
 

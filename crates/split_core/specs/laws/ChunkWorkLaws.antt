@@ -10,7 +10,7 @@ use Rattle.std.{
 }
 use Rattle.seg_core.specs.declared.{cut.Chunks.Chunks, unit.Unit.TheVariants.Bytes}
 use Rattle.ports_core.{
-  specs.{Draft.shares_of, Part.IsBeginning, Work.{IsComplete, IsLawful}, inner.Shares.SharesBegin},
+  specs.{Draft.shares_of, Part.IsBeginning, Slot.MayBecome, Work.{IsComplete, IsLawful}, inner.Shares.SharesBegin},
   specs.declared.slot.State.{State, TheVariants.{Open, Closed}},
   proofs.{PartLemmas.{begins_itself, nothing_begins, out_begins}, ShareLemmas.shares_after},
 }
@@ -91,10 +91,10 @@ length-kept false pieces = omega arith
 length-kept true [] = omega arith
 length-kept true (piece ∷ pieces) = grind (arith, length-kept true pieces)
 
-pub shares_on : (elide : Bool) (state : State) {low high : CutUp} → GoesOn low high
+pub shares_on : (elide : Bool) (state : State) {low high : CutUp} → MayBecome Open state → GoesOn low high
     → SharesBegin (shares_of (draft_by elide low))
     (map (share Closed) (kept elide high.full) ++ map (share state) (unless_empty high.rest))
-shares_on elide state on = grind (arith, common_steps, shares_after)
+shares_on elide state may on = grind (arith, common_steps, shares_after)
 
 -- a text that is longer than its size differs from it
 pub longer_differs : (size : ℕ) (x : List ℕ) → size < length x → eqb (length x) size ≡ false
@@ -107,10 +107,10 @@ chunks_stay plan (Some size) x y some is = grind (arith, common_steps, rest_none
 
 pub chunks_lawful : (plan : ChunksPlan) (said : Option ℕ) → 0 < plan.chunks.count → IsLawful (chunks_work plan said)
 chunks_lawful plan said some = record {
-  grows = λ x y. part_begins plan.filing _ _ (shares_on plan.elide Open
+  grows = λ x y. part_begins plan.filing _ _ (shares_on plan.elide Open (refl, refl)
       (decided_goes_on plan.chunks 1 said x y some (omega arith)));
   ends = λ x. part_begins plan.filing _ _
-      (rw map-append (shares_on plan.elide Closed (decided_ends plan.chunks said x some)));
+      (rw map-append (shares_on plan.elide Closed (refl, refl) (decided_ends plan.chunks said x some)));
   stays = λ x y. chunks_stay plan said x y some;
 }
 

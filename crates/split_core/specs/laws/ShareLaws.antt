@@ -8,7 +8,8 @@ use Rattle.seg_core.{specs.declared.cut.Limit.{Limit}}
 use Rattle.ports_core.specs.{
   Name.{Naming, has_name},
   Draft.{opening_line, part_of, told_of_files},
-  Part.{File, FilesBegin, IsBeginning, Begins},
+  Slot.Slot,
+  Part.{FilesBegin, IsBeginning, Begins},
   inner.Shares.SharesBegin,
   declared.{slot.State.TheVariants.{Open, Closed}},
 }
@@ -26,7 +27,7 @@ use Rattle.split_core.specs.laws.{LimitLaws.{full_some, settled_some, settled_th
 use Rattle.split_core.specs.laws.LimitLaws.{settled_in_full, settled_in_rest}
 
 -- if files begin others, what standard output gets about the first begins what it gets about the others
-pub told_begins : (verbose : Bool) (low high : List File) → FilesBegin low high
+pub told_begins : (verbose : Bool) (low high : List Slot) → FilesBegin low high
     → IsBeginning (told_of_files (output_by verbose) low) (told_of_files (output_by verbose) high)
 told_begins false low high begins = begins_itself _
 told_begins true low high begins = openings_begin opening_line low high begins
@@ -72,7 +73,7 @@ rest_begins_by limit rest y true full short =
       in_first : (low : List ℕ) (more : List Share) → IsBeginning low (first_part limit (rest ++ y))
           → SharesBegin (map (share Open) (unless_empty low)) (share Closed (first_part limit (rest ++ y)) ∷ more)
       in_first [] more begins = tt
-      in_first (byte ∷ low) more begins = (inl refl, begins, tt)
+      in_first (byte ∷ low) more begins = (inl (refl, refl), begins, tt)
 rest_begins_by limit rest y false full short = search (rules, cut_none, made_begin, settled_in_rest)
 
 -- what is written stays

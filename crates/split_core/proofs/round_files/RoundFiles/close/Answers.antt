@@ -1,8 +1,8 @@
-use Rattle.std.proofs.Common.{ap, arith}
+use Rattle.std.proofs.Common.{length, ap, arith}
 use Rattle.ports_core.proofs.HandedOn.{result_is}
 use Rattle.split_core.{
   specs.{FilesState.FilesState, inner.Sharing.ClosesAll},
-  proofs.FilesLemmas.{not_closed, one_closed, output_is},
+  proofs.FilesLemmas.{all_closed, not_closed, one_closed, output_is},
 }
 use Rattle.split_core.proofs.round_files.RoundFiles.close.Goals as goal
 
@@ -19,3 +19,7 @@ loop-place-preserved g c =
     (omega arith) c.index.ensures in
     one_closed _ c.requires.ready at.0 c.loop-place.invariant
     (rw at.1 at c.in_ok-close.ensures.ok)
+
+pub returns : goal.returns
+returns g c = all_closed (omega (arith, ap (λ (files : FilesState). length files.outputs) c.self.view_is))
+    c.loop-place.invariant

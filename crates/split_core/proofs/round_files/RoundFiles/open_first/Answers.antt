@@ -1,4 +1,4 @@
-use Rattle.std.proofs.Common.{◌+◌, [], refl, arith, ap}
+use Rattle.std.proofs.Common.{◌≡◌, ◌+◌, [], refl, arith, ap}
 use Rattle.split_core.{
   specs.{Split.Filing, inner.Sharing.Opens},
   proofs.FilesLemmas.{adds_then, adds_wider, cannot_later},
@@ -17,3 +17,7 @@ returns-in_err-reach g c = result_is (Opens _ _ _ _ _ _ _) _ _ c.from_residual.e
 
 pub loop-place-preserved : goal.loop-place-preserved
 loop-place-preserved g c = adds_then _ c.loop-place.invariant c.in_ok-reach.ensures.adds (omega arith) (omega arith) (λ i. refl)
+
+pub returns : goal.returns
+returns g c = let all : c.loop-place.place ≡ c.args.count = omega arith in
+    record { adds = rw all at c.loop-place.invariant; caused = tt }
