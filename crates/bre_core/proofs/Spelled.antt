@@ -22,7 +22,8 @@ use Rattle.bre_core.specs.{
   Bracket.{is_dash_inside, matched_bytes, member_at, member_from, name_at, range_to},
   Spelled.{IsNumber, AreBounds, exactly, at_least, between, IsInterval, Spelling, plain, symbol, Part, single, range},
   Spelled.{equivalents, class, byte_of, member_of, name_of, byte_before, part_before, parts_before, list_before},
-  Spelled.{is_opening, IsItself, MayBegin, Stand, IsBracketList, IsSpelled, in_symbols, is_ordered},
+  Spelled.{is_opening, BeginsInterval, IsItself, MayBegin, ReadsAs, Stand, IsBracketList, IsSpelled, in_symbols},
+  Spelled.is_ordered,
   Token.{BeginsWithToken, has_item},
   Steps.Steps,
 }
@@ -220,7 +221,7 @@ interval_found context e = absurd (none-some _ e)
 
 -- after `\{`
 pub interval_read : (context : Context) (text rest : List ℕ) (token : Token)
-    → BeginsWithToken context (92 ∷ 123 ∷ text) token rest ↔ ((context ≡ Inner) × IsInterval text token rest)
+    → BeginsInterval context text token rest ↔ ((context ≡ Inner) × IsInterval text token rest)
 interval_read context text rest token = search (rules, interval_found, cond-true, has_item, interval_at, bounds_read)
 
 -- WHAT IS SPELLED IS READ
@@ -268,8 +269,7 @@ after_caret false list = cond-false _ _ _ list.caret
 
 -- a list that is spelled by the rules is read as its members
 pub list_read : (complemented : Bool) (parts : List Part) (rest : List ℕ) → IsBracketList complemented parts rest
-    → (found : IsBracket (list_before complemented parts rest) (matched_bytes complemented (map member_of parts)) rest)
-    × (found.members ≡ map member_of parts)
+    → ReadsAs (list_before complemented parts rest) complemented (map member_of parts) rest
 list_read complemented parts rest list = (
   record {
     members = map member_of parts;
@@ -314,12 +314,11 @@ same_members (InClass name ∷ members) = ap (λ ms. InClass name ∷ ms) (same_
 
 pub any_list : (complemented : Bool) (members : List Member) (rest : List ℕ) → members ≢ []
     → list_all is_ordered members ≡ true
-    → (found : IsBracket (list_before complemented (map in_symbols members) rest)
-    (matched_bytes complemented members) rest) × (found.members ≡ members)
+    → ReadsAs (list_before complemented (map in_symbols members) rest) complemented members rest
 any_list complemented members rest some ordered =
     let list : IsBracketList complemented (map in_symbols members) rest = record { some = some_parts members some; stand = symbols_stand true members rest ordered; caret = no_caret complemented members rest some } in
     let same = same_members members in
-    subst (λ ms. (found : IsBracket (list_before complemented (map in_symbols members) rest) (matched_bytes complemented ms) rest) × (found.members ≡ ms)) same
+    subst (λ ms. ReadsAs (list_before complemented (map in_symbols members) rest) complemented ms rest) same
     (list_read complemented (map in_symbols members) rest list)
 
 -- WHAT IS READ IS SPELLED

@@ -23,7 +23,7 @@ abbrev pub after_later : ℕ → Place
 after_later byte = if byte == 93 then Outside else after_member byte
 
 -- the place after a byte of what `[.`, `[=` or `[:` began
-abbrev pub after_named : (mark : ℕ) → ℕ → Place
+abbrev pub after_named : (mark byte : ℕ) → Place
 after_named mark byte = if byte == mark then Marked mark else Named mark
 
 -- the place after a byte

@@ -11,7 +11,7 @@ any_below zero test = false
 any_below (suc bound) test = any_below bound test || test bound
 
 -- whether this many parts of a kind in a row lead from one place to another
-abbrev pub has_parts : (ℕ → ℕ → Bool) → ℕ → ℕ → ℕ → Bool
+abbrev pub has_parts : (part : ℕ → ℕ → Bool) → (count from to : ℕ) → Bool
 has_parts part zero from to = from == to
 has_parts part (suc count) from to = any_below (suc to) (λ middle. has_parts part count from middle && part middle to)
 
@@ -22,13 +22,13 @@ is_at_most (Some high) count = nat_le count high
 
 abbrev mutual
   -- whether a pattern matches the stretch from one place to another
-  pub matches : Pattern → List ℕ → ℕ → ℕ → Bool
+  pub matches : Pattern → (line : List ℕ) → (from to : ℕ) → Bool
   matches nothing line from to = from == to
   matches (append pattern item) line from to =
       any_below (suc to) (λ middle. matches pattern line from middle && matches_item item line middle to)
 
   -- whether an item matches the stretch; of more than low + to repetitions some would be empty
-  pub matches_item : Item → List ℕ → ℕ → ℕ → Bool
+  pub matches_item : Item → (line : List ℕ) → (from to : ℕ) → Bool
   matches_item (set bytes) line from to =
       (to == from + 1) && (nat_lt from (length line) && has bytes (slice_index line from))
   matches_item front line from to = (from == 0) && (to == 0)

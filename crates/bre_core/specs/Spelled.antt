@@ -11,9 +11,10 @@ use Rattle.bre_core.specs.{
     TheVariants.{Upper, Lower, Alpha, Digit, Alnum, Xdigit, Blank, Space, Cntrl, Graph, Print, Punct},
   },
   declared.member.Member.{Member, TheVariants.{Range, Class as InClass}},
-  declared.token.Token.{Token, TheVariants.Repeat},
-  Bracket.{begins_with, is_dash_inside, matched_bytes},
+  declared.token.{Context.Context, Token.{Token, TheVariants.Repeat}},
+  Bracket.{IsBracket, begins_with, is_dash_inside, matched_bytes},
   Class.is_between,
+  Token.BeginsWithToken,
 }
 
 -- one or more digits that write a number in base 10, 255 at most; zeros may lead
@@ -40,6 +41,10 @@ pub record IsInterval (text : List ℕ) (token : Token) (rest : List ℕ) : Type
   pub whole : text ≡ inner ++ (codes "\\}" ++ rest)
   pub repeats : token ≡ Repeat low high
 
+-- after `\{` the token is read, and the rest follows it
+abbrev pub BeginsInterval : Context → (text : List ℕ) → Token → (rest : List ℕ) → Type 0
+BeginsInterval context text token rest = BeginsWithToken context (codes "\\{" ++ text) token rest
+
 -- how a byte is spelled in a bracket list: plainly, or between `[.` and `.]`
 pub data Spelling : Type 0 where
   plain : ℕ → Spelling
@@ -48,7 +53,7 @@ pub data Spelling : Type 0 where
 -- one part of a bracket list: a byte, a range from one byte to another, a byte between `[=` and `=]`, or a class
 pub data Part : Type 0 where
   single : Spelling → Part
-  range : Spelling → Spelling → Part
+  range : (low high : Spelling) → Part
   equivalents : ℕ → Part
   class : Class → Part
 
@@ -129,6 +134,11 @@ pub record IsBracketList (complemented : Bool) (parts : List Part) (rest : List 
   pub some : parts ≢ []
   pub stand : Stand true parts (codes "]" ++ rest)
   pub caret : begins_with 94 (list_before complemented parts rest) ≡ complemented
+
+-- a text after a `[` is read as a list of these members, or as its complement, and the rest follows it
+abbrev pub ReadsAs : (text : List ℕ) → (complemented : Bool) → List Member → (rest : List ℕ) → Type 0
+ReadsAs text complemented members rest =
+    (found : IsBracket text (matched_bytes complemented members) rest) × (found.members ≡ members)
 
 -- a text after a `[` is spelled by the rules, as a list of these members that matches this set of bytes
 pub record IsSpelled (text : List ℕ) (members : List Member) (set : List Bool) (rest : List ℕ) : Type 0 where

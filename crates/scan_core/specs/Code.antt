@@ -18,7 +18,7 @@ At (head ∷ rest) zero node = node ≡ head
 At (head ∷ rest) (suc number) node = At rest number node
 
 -- a node that is entered at a place of the line leads to another node and place
-abbrev pub Leads : Node → List ℕ → ℕ → ℕ → ℕ → ℕ → Type 0
+abbrev pub Leads : Node → List ℕ → (at place at' place' : ℕ) → Type 0
 Leads (Take bytes) line at place at' place' = (at' ≡ at + 1) × (place' ≡ place + 1) × (place < length line)
     × IsTrue (has bytes (slice_index line place))
 Leads First line at place at' place' = (at' ≡ at + 1) × (place' ≡ place) × (place ≡ 0)
@@ -26,16 +26,16 @@ Leads Last line at place at' place' = (at' ≡ at + 1) × (place' ≡ place) × 
 Leads (Choose skip) line at place at' place' = ((at' ≡ at + 1) ⊎ (at' ≡ at + skip)) × (place' ≡ place)
 Leads (Back by) line at place at' place' = (at ≡ at' + by) × (place' ≡ place)
 
-abbrev pub Goes : List Node → List ℕ → ℕ → ℕ → ℕ → ℕ → Type 0
+abbrev pub Goes : List Node → List ℕ → (at place at' place' : ℕ) → Type 0
 Goes code line at place at' place' = (node : Node) × At code at node × Leads node line at place at' place'
 
 -- a walk of `count` steps
-abbrev pub Walks : List Node → List ℕ → ℕ → ℕ → ℕ → ℕ → ℕ → Type 0
+abbrev pub Walks : List Node → List ℕ → (count at place to stop : ℕ) → Type 0
 Walks code line zero at place to stop = (at ≡ to) × (place ≡ stop)
 Walks code line (suc count) at place to stop = (at' : ℕ) × (place' : ℕ) × Goes code line at place at' place'
     × Walks code line count at' place' to stop
 
-abbrev pub Path : List Node → List ℕ → ℕ → ℕ → ℕ → ℕ → Type 0
+abbrev pub Path : List Node → List ℕ → (at place to stop : ℕ) → Type 0
 Path code line at place to stop = (count : ℕ) × Walks code line count at place to stop
 
 -- the nodes of an item that may be left out
@@ -73,7 +73,7 @@ abbrev mutual
   code_of_item (repeat item low high) = copies low (code_of_item item) ++ tail_of (code_of_item item) low high
 
 -- a walk from number 0, begun at some place of the line, enters this number at this place
-abbrev pub Entered : List Node → List ℕ → ℕ → ℕ → Type 0
+abbrev pub Entered : List Node → List ℕ → (number place : ℕ) → Type 0
 Entered code line number place = (from : ℕ) × (from ≤ length line) × Path code line 0 from number place
 
 -- no repetition's least count is above its greatest

@@ -3,7 +3,7 @@ use Rattle.std.{
   proofs.lemmas.{Grind.common_steps, Bool.or_parts, List.Sums.fold-append},
   proofs.Common.{◌≡◌, ◌≤◌, ◌↔◌, ℕ, Bool, true, false, ◌||◌, arith, List, [], ◌∷◌, ◌++◌, length, Option, Some, None},
   proofs.Common.{Result, Ok, Err, refl, sym, ◌∙◌, ap, is_some, if◌then◌else◌, filter, IsOk, rules},
-  specs.Option.unwrap_or,
+  specs.Option.{option_or, unwrap_or},
 }
 use Rattle.ports_core.specs.declared.{
   calling.Calling.Calling,
@@ -20,7 +20,7 @@ use Rattle.words_core.specs.{
   SplitWords.way_of,
   TailWords.{retry_by, tail_by, unfollowed},
   TeeWords.{fresh, tee_by},
-  Words.{about_or, or_later, settings_for, topic_in, topic_of, work_for},
+  Words.{about_or, settings_for, topic_in, topic_of, work_for},
   Laws.{LastDecides, has},
 }
 use Rattle.ports_core.specs.declared.tool.Tool.TheVariants as tool
@@ -98,7 +98,7 @@ module _ (before after : List Chosen) (word : ℕ) where
   no_topic = from before where
     from : (front : List Chosen) → topic_in (front ++ it ∷ after) ≡ topic_in (front ++ after)
     from [] = refl
-    from (option ∷ front) = ap (or_later (topic_of option.choice)) (from front)
+    from (option ∷ front) = ap (option_or (topic_of option.choice)) (from front)
 
   pub no_effect : (calling : Calling) (which : Tool) (operands : List GivenOperand)
       → settings_for calling which (record { options = with_it; operands = operands })

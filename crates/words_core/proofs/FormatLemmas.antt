@@ -12,7 +12,7 @@ use Rattle.std.proofs.{
   Math.{Bool.and-false, Seq.{drop-append-add, get_or-append_seam}},
 }
 use Rattle.std.specs.{
-  Prelude.{IfSome, option_map, slice_range},
+  Prelude.{IfSome, option_and_then, option_map, slice_range},
   Str.{IsCharBoundary, IsUtf8},
   Char.is_ascii_digit,
   List.{after_first, before_first, position_or_len, prefix_len},
@@ -20,8 +20,8 @@ use Rattle.std.specs.{
 use Rattle.ports_core.specs.declared.form.{Base.Base, Form.Form}
 use Rattle.seg_core.specs.Count.{after_digits}
 use Rattle.words_core.specs.{
-  Format.{before_it, conversion_in, format_in, after_precision, after_text, form_of, with_letter, base_of, with_rest},
-  Format.{go_with, plain_text},
+  Format.{before_it, conversion_in, format_in, after_precision, after_text, form_of, with_letter, base_of},
+  Format.{go_with, plain_text, text as at_place},
   inner.Format.{AfterLetter, without_percent},
 }
 
@@ -35,18 +35,17 @@ clipped n = elim (cases_lt 255 n) [
 ]
 
 width_clipped : (flags : List ℕ) (width : ℕ) (precision : Option ℕ) (base : Base)
-    → form_of flags (min width (2 ^ 64 - 1)) precision (Some base) ≡ form_of flags width precision (Some base)
+    → form_of flags (min width (2 ^ 64 - 1)) precision base ≡ form_of flags width precision base
 width_clipped flags width precision base = elim (clipped width) [
   | inl same ↦ rw same refl
   | inr (one, other) ↦ rw (one, other, and-false (go_with base flags)) refl
 ]
 
-form_clipped : (flags : List ℕ) (width : ℕ) (precision : Option ℕ) (base : Option Base)
+form_clipped : (flags : List ℕ) (width : ℕ) (precision : Option ℕ) (base : Base)
     → form_of flags (min width (2 ^ 64 - 1)) (option_map (λ digits. min digits (2 ^ 64 - 1)) precision) base
     ≡ form_of flags width precision base
-form_clipped flags width precision None = refl
-form_clipped flags width None (Some base) = width_clipped flags width None base
-form_clipped flags width (Some digits) (Some base) = width_clipped flags width (Some (min digits (2 ^ 64 - 1))) base ∙ elim (clipped digits) [
+form_clipped flags width None base = width_clipped flags width None base
+form_clipped flags width (Some digits) base = width_clipped flags width (Some (min digits (2 ^ 64 - 1))) base ∙ elim (clipped digits) [
   | inl same ↦ rw same refl
   | inr (one, other) ↦ rw (one, other, and-false (nat_le width 255), and-false (go_with base flags)) refl
 ]
@@ -55,7 +54,13 @@ pub letter_clipped : (flags : List ℕ) (width : ℕ) (precision : Option ℕ) (
     → with_letter flags (min width (2 ^ 64 - 1)) (option_map (λ digits. min digits (2 ^ 64 - 1)) precision) text
     ≡ with_letter flags width precision text
 letter_clipped flags width precision [] = refl
-letter_clipped flags width precision (letter ∷ rest) = ap (λ form. with_rest form rest) (form_clipped flags width precision (base_of letter))
+letter_clipped flags width precision (letter ∷ rest) = by (base_of letter) where
+  by : (base : Option Base)
+      → option_map {U = Form × List ℕ} (λ form. (form, rest)) (option_and_then (form_of flags (min width (2 ^ 64 - 1))
+      (option_map (λ digits. min digits (2 ^ 64 - 1)) precision)) base)
+      ≡ option_map (λ form. (form, rest)) (option_and_then (form_of flags width precision) base)
+  by None = refl
+  by (Some base) = ap (option_map {U = Form × List ℕ} (λ form. (form, rest))) (form_clipped flags width precision base)
 
 -- What follows a letter.
 
@@ -175,7 +180,8 @@ pub is_format : (text : List ℕ) {bytes conversion rest front back : List ℕ} 
     → conversion ≡ after_text bytes → EndsAt text rest
     → Some (form, rest) ≡ conversion_in conversion → (length (after_text rest) == 0) ≡ true
     → front ≡ slice_range text 0 (length bytes - length conversion) → back ≡ drop (length bytes - length rest) text
-    → Some (record { before = plain_text front; form = form; after = plain_text back }) ≡ format_in text
+    → Some (record { before = at_place (plain_text front); form = form; after = at_place (plain_text back) })
+    ≡ format_in text
 is_format text {bytes} {conversion} {rest} {front} {back} {form} same is ends read none first last =
     let conv : conversion ≡ after_text text = is ∙ ap after_text same in
     let size : length bytes ≡ length text = ap length same in

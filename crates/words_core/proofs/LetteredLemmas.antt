@@ -1,10 +1,5 @@
 -- Lemmas on a first word that is a number with letters: a hyphen or a `+`, digits and letters.
-use Rattle.std.proofs.{
-  lemmas.{Grind.common_steps, Bool.{and_parts}, List.Elements.All-head},
-  Math.Seq.{drop-append_seam, take-append_seam},
-  Common.{◌≡◌, refl, ℕ, ◌≤◌, ◌==◌, ◌||◌, Bool, true, false, arith, List, [], ◌∷◌, ◌++◌},
-  Common.{length, append_assoc, Option, Some, None, Result, Ok, Err, sym, ◌∙◌, rules, All},
-}
+use Rattle.std.proofs.{lemmas.{Grind.common_steps, Bool.{and_parts, lt-ltb, ne_eqb}, List.Elements.All-head}, Math.Seq.{drop-append_seam, take-append_seam}, Common.{◌≡◌, refl, ℕ, ◌≤◌, ◌<◌, ◌==◌, ◌||◌, Bool, true, false, arith, List, [], ◌∷◌, ◌++◌}, Common.{length, append_assoc, None, Result, Ok, Err, sym, ◌∙◌, rules, All}}
 use Rattle.std.specs.{Char.is_ascii_digit, List.{list_all, prefix_len}}
 use Rattle.seg_core.specs.{
   declared.{count.{Count.Count, Sign.Sign}, unit.Unit.Unit as Measured},
@@ -14,19 +9,7 @@ use Rattle.ports_core.specs.declared.{
   calling.Calling.{Calling, TheVariants.OwnName},
   fault.{Fault.{Fault, TheVariants.Usage}, UsageKind.{UsageKind, TheVariants.UnknownOption}},
 }
-use Rattle.words_core.specs.{
-  declared.{
-    table.{Letters.{Letters, TheVariants.{OfHead, OfTail}}, Takes.Takes},
-    spelling.State.State,
-    choice.Choice.{Choice, TheVariants.Amount},
-  },
-  Given.{Given, bare, joined, one_option},
-  Laws.IsParted,
-  Lettered.{are_known, are_of_tail, has_digits, is_lettered, is_start, others, switched, times, unit_in, without_digits},
-  Spelling.{Meaning, before, cluster, lettered, mixed, with_letters},
-  Table.{OptionRow, head_table, is_among, option_lettered, tail_table},
-  inner.Spelling.Adds,
-}
+use Rattle.words_core.specs.{declared.{table.{Letters.{Letters, TheVariants.{OfHead, OfTail}}}, spelling.State.State, choice.Choice.{TheVariants.Amount}}, Given.{Given, joined, one_option}, Laws.IsParted, Lettered.{are_known, are_of_tail, has_digits, is_lettered, is_start, others, times, unit_in, without_digits}, Spelling.{Meaning, before, cluster, mixed, with_letters}, Table.{OptionRow, head_table, is_among, option_lettered, tail_table}, inner.Spelling.Adds}
 
 -- What calls add one after another.
 
@@ -99,7 +82,18 @@ head_has_no_digit byte least most = search rules
 
 tail_has_no_digit : (calling : Calling) (byte : ℕ) → 48 ≤ byte → byte ≤ 57
     → option_lettered (tail_table calling) byte ≡ None
-tail_has_no_digit calling byte least most = search rules
+tail_has_no_digit calling byte least most =
+    let no : (letter : ℕ) → 57 < letter → (letter == byte) ≡ false = λ letter above. ne_eqb letter byte (omega arith) in
+    let n = no 110 (omega arith) in
+    let c = no 99 (omega arith) in
+    let q = no 113 (omega arith) in
+    let v = no 118 (omega arith) in
+    let z = no 122 (omega arith) in
+    let f = no 102 (omega arith) in
+    let by_name = no 70 (omega arith) in
+    let s = no 115 (omega arith) in
+    let hyphen = ne_eqb 45 byte (omega arith) in
+    rw (lt-ltb byte 128 (omega arith), n, c, q, v, z, f, by_name, s, hyphen) refl
 
 pub head_letters : (text : List ℕ) (place : ℕ) → is_lettered head_table OfHead text ≡ true
     → mixed head_table place (45 ∷ text) ≡ Err (Usage UnknownOption place)

@@ -6,7 +6,7 @@ use Rattle.std.{
     Common.{◌≡◌, refl, ℕ, ◌-◌, ◌^◌, ◌==◌, ◌&&◌, ◌≤◌, ◌<◌, arith, List, [], ◌∷◌, ◌++◌, Option, Some, None},
     Common.{Result, Ok, Err, IfOk, inl, inr, ◌⊎◌, rules},
   },
-  specs.Prelude.{⊤, IfSome, nat_lt},
+  specs.{Prelude.{⊤, IfSome, nat_lt, option_map}, Option.option_map_or},
 }
 use Rattle.seg_core.specs.{
   Count.{after_digits, is_number, leading_digits},
@@ -22,7 +22,7 @@ use Rattle.words_core.specs.{
     division.Dealing.Dealing,
   },
   Choice.{asking, choice_in, seen},
-  Table.{OptionRow, begins_one, beginning, full_or, is_among, only_one, option_called, option_lettered, option_named},
+  Table.{OptionRow, begins_one, beginning, is_among, only_one, option_called, option_lettered, option_named},
   Division.{all_in, division_in, numbers_in},
   SplitWords.AreFew,
   Given.bare,
@@ -69,27 +69,29 @@ AreSafe (row ∷ rows) = IsSafe row.takes × AreSafe rows
 
 found-safe : (rows : List OptionRow) (name : List ℕ) → AreSafe rows → IfSome (option_named rows name) IsSafe
 found-safe [] name safe = tt
-found-safe (row ∷ rows) name safe = either (λ found. IfSome found IsSafe) (is_among row.names name) _ _ safe.0 (found-safe rows name safe.1)
+found-safe (row ∷ rows) name safe =
+    either (λ found. IfSome (option_map (λ row. row.takes) found) IsSafe) (is_among row.names name) _ _ safe.0
+    (found-safe rows name safe.1)
 
 lettered-safe : (rows : List OptionRow) (letter : ℕ) → AreSafe rows → IfSome (option_lettered rows letter) IsSafe
 lettered-safe rows letter safe = either (λ found. IfSome found IsSafe) (nat_lt letter 128) _ _ (found-safe rows (45 ∷ letter ∷ []) safe) tt
 
-begun-safe : (start : List ℕ) (rows : List OptionRow) → AreSafe rows → AreSafe (beginning start rows)
-begun-safe start [] safe = tt
-begun-safe start (row ∷ rows) safe =
-    either AreSafe (begins_one start row.names) _ _ (safe.0, begun-safe start rows safe.1)
-    (begun-safe start rows safe.1)
+begun-safe : (rows : List OptionRow) (start : List ℕ) → AreSafe rows → AreSafe (beginning rows start)
+begun-safe [] start safe = tt
+begun-safe (row ∷ rows) start safe =
+    either AreSafe (begins_one row.names start) _ _ (safe.0, begun-safe rows start safe.1)
+    (begun-safe rows start safe.1)
 
 only-safe : (rows : List OptionRow) → AreSafe rows → IfOk (only_one rows) IsSafe
 only-safe rows safe = search rules
 
 full-safe : (found : Option Takes) (short : Result Takes UsageKind) → IfSome found IsSafe → IfOk short IsSafe
-    → IfOk (full_or found short) IsSafe
+    → IfOk (option_map_or (λ takes. Ok takes) found short) IsSafe
 full-safe found short safe other = search rules
 
 called-safe : (rows : List OptionRow) (name : List ℕ) → AreSafe rows → IfOk (option_called rows name) IsSafe
 called-safe rows name safe =
-    full-safe (option_named rows name) _ (found-safe rows name safe) (only-safe _ (begun-safe name rows safe))
+    full-safe (option_named rows name) _ (found-safe rows name safe) (only-safe _ (begun-safe rows name safe))
 
 pub sound-append : (front options : List Chosen) → AreSound front → AreSound options → AreSound (front ++ options)
 sound-append [] options first rest = rest

@@ -1,8 +1,8 @@
 -- Lemmas on values that may be cut short by a tool's own name: what `cutters` takes means the same there.
-use Rattle.std.proofs.Common.{◌≡◌, refl, ap, ◌∙◌, arith, suc, ℕ, ◌+◌, ◌==◌, ◌&&◌, Bool, true, false, List, [], ◌∷◌}
+use Rattle.std.proofs.Common.{◌≡◌, refl, ap, ◌∙◌, arith, suc, ℕ, ◌+◌, ◌==◌, ◌&&◌, Bool, List, [], ◌∷◌}
 use Rattle.std.proofs.Common.{map, rules}
 use Rattle.std.proofs.Common.{if◌then◌else◌, Option, Some, None, option_map, Result, Ok, Err, ok_or, ◌⊎◌, inl, inr, ◌↔◌}
-use Rattle.std.specs.{List.{before_first, list_all}, Option.{option_or, unwrap_or}, Prelude.nat_lt}
+use Rattle.std.specs.{List.{before_first, list_all}, Option.{option_map_or, option_or, unwrap_or}, Prelude.nat_lt}
 use Rattle.seg_core.specs.{Count.{after_digits, is_number}}
 use Rattle.ports_core.specs.declared.{
   calling.Calling.{Calling, TheVariants.{Cutters, OwnName}},
@@ -19,10 +19,10 @@ use Rattle.words_core.specs.{
   Lettered.{is_known, is_lettered, is_start, others, switched},
   Spelling.{Meaning, after_equals, cluster, dashed, foremost, given_before, is_equals, lettered, meaning_of},
   Spelling.{mixed, named, onward, said, spelled},
-  Table.{OptionRow, beginning, begins_one, full_or, is_among, only_one, option_called, option_lettered, option_named},
+  Table.{OptionRow, beginning, begins_one, is_among, only_one, option_called, option_lettered, option_named},
   Laws.{AreCutShort, HasShortValue, IsCutShort},
   Refusal.word_at,
-  Value.{beginning_in, follow_values, on_broken_values, only_value, value_in, values_from},
+  Value.{follow_values, on_broken_values, only_value, value_by, value_in, values_from},
 }
 use Rattle.words_core.specs.declared.choice.Choice.TheVariants as choice
 use Rattle.words_core.specs.declared.choice.Kind.TheVariants as kind
@@ -38,14 +38,16 @@ only_is (one ∷ []) value = (
 )
 only_is found value = search rules
 
-full_alone : {A : Type 0} (found : Option A) → option_or found None ≡ found
-full_alone found = search rules
+in_full : {A : Type 0} (calling : Calling) (values : List (List ℕ × A)) (text : List ℕ) {value : A}
+    → value_in values text ≡ Some value → value_by calling values text ≡ Some value
+in_full Cutters values text is = is
+in_full OwnName values text is = rw is refl
 
 pub are_cut_short : {A : Type 0} (values : List (List ℕ × A)) → AreCutShort values
 are_cut_short values = record {
-  full = λ calling text value is. rw is refl;
-  short = λ text value none. rw none (only_is (values_from text values) value);
-  cutters = λ text. full_alone (value_in values text);
+  full = λ calling text value. in_full calling values text;
+  short = λ text value none. rw none (only_is (values_from values text) value);
+  cutters = λ text. refl;
 }
 
 -- The kind of a value by a tool's own name, where that of `cutters` is this. What the value says is the same, or
@@ -64,8 +66,8 @@ Alike values bad own kind text = (choice_in (own kind) text ≡ choice_in kind t
     ⊎ ((choice_in kind text ≡ Err bad) × IsCutShort values text)
 
 alike : {A : Type 0} (make : A → Choice) (bad : UsageKind) (found short : Option A)
-    → (asking make (ok_or (option_or found short) bad) ≡ asking make (ok_or (option_or found None) bad))
-    ⊎ ((asking make (ok_or (option_or found None) bad) ≡ Err bad)
+    → (asking make (ok_or (option_or found short) bad) ≡ asking make (ok_or found bad))
+    ⊎ ((asking make (ok_or found bad) ≡ Err bad)
     × ((found ≡ None) × (value : A) × (option_or found short ≡ Some value)))
 alike make bad found short = search rules
 
@@ -109,16 +111,18 @@ module _ {A : Type 0} (values : List (List ℕ × A)) (own : Kind → Kind) (bad
       → option_named (own_rows rows) name ≡ option_map own_takes (option_named rows name)
   found_so [] name = refl
   found_so (row ∷ rows) name =
-      both_ways (λ own one. own ≡ option_map own_takes one) (is_among row.names name) refl (found_so rows name)
+      both_ways (λ own one. option_map (λ row. row.takes) own ≡ option_map own_takes (option_map (λ row. row.takes) one))
+      (is_among row.names name) refl (found_so rows name)
 
-  begun_so : (start : List ℕ) (rows : List OptionRow)
-      → beginning start (own_rows rows) ≡ own_rows (beginning start rows)
-  begun_so start [] = refl
-  begun_so start (row ∷ rows) = both_ways (λ own one. own ≡ own_rows one) (begins_one start row.names)
-      (ap (λ rows. own_row row ∷ rows) (begun_so start rows)) (begun_so start rows)
+  begun_so : (rows : List OptionRow) (start : List ℕ)
+      → beginning (own_rows rows) start ≡ own_rows (beginning rows start)
+  begun_so [] start = refl
+  begun_so (row ∷ rows) start = both_ways (λ own one. own ≡ own_rows one) (begins_one row.names start)
+      (ap (λ rows. own_row row ∷ rows) (begun_so rows start)) (begun_so rows start)
 
   full_so : (found : Option Takes) (begun : List OptionRow)
-      → full_or (option_map own_takes found) (only_one (own_rows begun)) ≡ own_found (full_or found (only_one begun))
+      → option_map_or (λ takes. Ok takes) (option_map own_takes found) (only_one (own_rows begun))
+      ≡ own_found (option_map_or (λ takes. Ok takes) found (only_one begun))
   full_so found begun = search rules
 
   module _ (alike : (kind : Kind) (text : List ℕ) → Alike values bad own kind text) (rows : List OptionRow) where
@@ -166,7 +170,7 @@ module _ {A : Type 0} (values : List (List ℕ × A)) (own : Kind → Kind) (bad
     dashed_so place word [] words = inl refl
     dashed_so place word (byte ∷ rest) words =
         let name : List ℕ = before_first is_equals word in
-        rw (found_so rows name, begun_so name rows, full_so (option_named rows name) (beginning name rows))
+        rw (found_so rows name, begun_so rows name, full_so (option_named rows name) (beginning rows name))
         (long_so place word words (option_called rows name) (after_equals word) refl)
 
     mixed_so : (place : ℕ) (word : List ℕ) (words : List (List ℕ))

@@ -6,38 +6,28 @@ use Rattle.std.proofs.{
   Math.Seq.{take-append_seam, drop-append-add, take-length},
 }
 use Rattle.std.specs.List.{list_any, position_or_len, before_first}
-use Rattle.words_core.specs.{
-  declared.{choice.{Choice.Choice, Kind.Kind}, table.Takes.Takes, spelling.State.TheVariants.Reading},
-  Table.{OptionRow, alone, option_called},
-  Choice.choice_in,
-  Given.bare,
-  Spelling.{after_equals, awaiting, given_before, is_equals, long, mixed, named, reading, spelled, valued},
-  Laws.{Gives, IsLetter, IsLong, kind_of},
-}
+use Rattle.words_core.specs.{declared.{choice.{Choice.Choice, Kind.Kind}, table.Takes.Takes, spelling.State.TheVariants.Reading}, Table.{OptionRow, alone, option_called}, Choice.{choice_in, seen}, Given.bare, Spelling.{after_equals, awaiting, is_equals, long, mixed, named, reading, valued}, Laws.{Gives, IsLetter, IsLong, MayHave, kind_of}}
 use Rattle.ports_core.specs.declared.fault.UsageKind.{UsageKind}
 use Rattle.words_core.specs.declared.table.Takes.TheVariants as takes
 
 -- A value right after the letter of its option.
 
 pub value_attached : (rows : List OptionRow) (letter : ℕ) (kind : Kind) (value : List ℕ) (choice : Choice)
-    (words : List (List ℕ)) (place : ℕ)
     → IsLetter rows letter kind → value ≢ [] → choice_in kind value ≡ Ok choice
-    → Gives rows ((45 ∷ letter ∷ value) ∷ words) place choice (spelled rows words (place + 1) Reading)
-value_attached rows letter kind value choice words place is some reads = search rules
+    → Gives rows Reading ((45 ∷ letter ∷ value) ∷ []) choice
+value_attached rows letter kind value choice is some reads words place = search rules
 
 -- A value in the word after its option.
 
-awaited : (rows : List OptionRow) (kind : Kind) (word value : List ℕ) {choice : Choice} (words : List (List ℕ))
-    {place : ℕ}
-    → mixed rows place word ≡ awaiting kind place → choice_in kind value ≡ Ok choice
-    → Gives rows (word ∷ value ∷ words) place choice (spelled rows words (place + 1 + 1) Reading)
-awaited rows kind word value words awaits reads = search rules
+awaited : (rows : List OptionRow) (kind : Kind) (word value : List ℕ) {choice : Choice}
+    → ((place : ℕ) → mixed rows place word ≡ awaiting kind place) → choice_in kind value ≡ Ok choice
+    → Gives rows Reading (word ∷ value ∷ []) choice
+awaited rows kind word value awaits reads words place = let here = awaits place in search rules
 
 pub value_after_letter : (rows : List OptionRow) (letter : ℕ) (kind : Kind) (value : List ℕ) (choice : Choice)
-    (words : List (List ℕ)) (place : ℕ)
     → IsLetter rows letter kind → choice_in kind value ≡ Ok choice
-    → Gives rows ((45 ∷ letter ∷ []) ∷ value ∷ words) place choice (spelled rows words (place + 1 + 1) Reading)
-value_after_letter rows letter kind value choice words place is reads = search rules
+    → Gives rows Reading ((45 ∷ letter ∷ []) ∷ value ∷ []) choice
+value_after_letter rows letter kind value choice is reads words place = search rules
 
 -- A value after a long name.
 
@@ -92,25 +82,23 @@ with_value : (takes : Takes) {kind : Kind} (place : ℕ) (value : List ℕ) → 
     → named place (Ok takes) (Some value) ≡ valued kind place place value
 with_value takes place value is = search rules
 
-pub value_after_equals : (rows : List OptionRow) (name : List ℕ) (takes : Takes) (kind : Kind) (value : List ℕ)
-    (choice : Choice) (words : List (List ℕ)) (place : ℕ)
-    → IsLong rows name (Ok takes) → kind_of takes ≡ Some kind → choice_in kind value ≡ Ok choice
-    → Gives rows ((45 ∷ 45 ∷ name ++ 61 ∷ value) ∷ words) place choice (spelled rows words (place + 1) Reading)
-value_after_equals rows name takes kind value choice words place is takes_one reads =
-    rw (long_equals name value place is, with_value takes place value takes_one, reads)
+pub value_after_equals : (rows : List OptionRow) (name : List ℕ) (takes : Takes) (value : List ℕ) (choice : Choice)
+    → IsLong rows name (Ok takes) → MayHave takes value choice
+    → Gives rows Reading ((45 ∷ 45 ∷ name ++ 61 ∷ value) ∷ []) choice
+value_after_equals rows name takes value choice is has words place =
+    rw (long_equals name value place is, with_value takes place value has.taken, has.asked)
 
 pub value_after_name : (rows : List OptionRow) (name : List ℕ) (kind : Kind) (value : List ℕ) (choice : Choice)
-    (words : List (List ℕ)) (place : ℕ)
     → IsLong rows name (Ok (takes.Value kind)) → choice_in kind value ≡ Ok choice
-    → Gives rows ((45 ∷ 45 ∷ name) ∷ value ∷ words) place choice (spelled rows words (place + 1 + 1) Reading)
-value_after_name rows name kind value choice words place is reads = awaited rows kind (45 ∷ 45 ∷ name) value words (long_name name place is) reads
+    → Gives rows Reading ((45 ∷ 45 ∷ name) ∷ value ∷ []) choice
+value_after_name rows name kind value choice is =
+    awaited rows kind (45 ∷ 45 ∷ name) value (λ place. long_name name place is)
 
 without_value : (takes : Takes) {choice : Choice} (place : ℕ) → alone takes ≡ Some choice
     → named place (Ok takes) None ≡ reading (bare choice place)
 without_value takes place is = search rules
 
-pub long_alone : (rows : List OptionRow) (name : List ℕ) (takes : Takes) (choice : Choice) (words : List (List ℕ))
-    (place : ℕ) → IsLong rows name (Ok takes) → alone takes ≡ Some choice
-    → spelled rows ((45 ∷ 45 ∷ name) ∷ words) place Reading
-    ≡ given_before (bare choice place) (spelled rows words (place + 1) Reading)
-long_alone rows name takes choice words place is takes_none = rw (long_name name place is, without_value takes place takes_none)
+pub long_alone : (rows : List OptionRow) (name : List ℕ) (takes : Takes) (choice : Choice)
+    → IsLong rows name (Ok takes) → alone takes ≡ Some choice → Gives rows Reading ((45 ∷ 45 ∷ name) ∷ []) (seen choice)
+long_alone rows name takes choice is takes_none words place =
+    rw (long_name name place is, without_value takes place takes_none)

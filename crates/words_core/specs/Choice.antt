@@ -1,6 +1,5 @@
 -- What an option asks for, by its kind and what its value says, or what is wrong with that.
-use Rattle.std.specs.Prelude.{ℕ, ◌-◌, ◌^◌, List, Option, Some, None, Result, Ok, Err}
-use denote.Ref.{Bor}
+use Rattle.std.specs.Prelude.{ℕ, ◌-◌, ◌^◌, List, Some, Result, Ok, Err, ok_or}
 use Rattle.seg_core.specs.Count.{count_of, digits_of}
 use Rattle.ports_core.specs.declared.{
   alphabet.Alphabet.TheVariants.{Digits, Hex},
@@ -8,42 +7,26 @@ use Rattle.ports_core.specs.declared.{
 }
 use Rattle.words_core.specs.{
   Division.division_in,
-  Format.{Format, format_in, format_seen},
+  Format.{format_in, format_seen, text},
   Value.{byte_in, counted, ending_in, followed_in, hex_in, not_zero, on_broken_in, pause_in, process_in, size_in},
   Value.{then_check, up_to},
-  declared.{choice.{Choice.Choice, Kind.Kind}, format.Format.Format as Written},
+  declared.choice.{Choice.Choice, Kind.Kind},
 }
 use Rattle.words_core.specs.declared.choice.Choice.TheVariants as choice
 use Rattle.words_core.specs.declared.choice.Kind.TheVariants as kind
 
--- The texts of a choice lie somewhere among the words. Only their bytes count, so here all lie at one place. Of a format
--- the code has the texts as they are spelled, with two `%` for each that a name has; here they are in the same type
--- (`Written`) as names have them, with one.
-
-abbrev pub text : List ℕ → Bor (List ℕ)
-text bytes = record { ref_ptr = (0, 0); now = bytes }
-
-abbrev pub written : Format → Written
-written format = record { before = text format.before; form = format.form; after = text format.after }
-
-abbrev pub format_of : Written → Format
-format_of format = record { before = format.before.now; form = format.form; after = format.after.now }
-
+-- A choice with the bytes of its texts alone. Of a format the code has the texts as they are spelled, with two `%` for
+-- each that a name has; here they are as names have them, with one.
 abbrev pub seen : Choice → Choice
 seen (choice.Ending ending) = choice.Ending (text ending.now)
 seen (choice.Prefix prefix) = choice.Prefix (text prefix.now)
-seen (choice.Format format) = choice.Format (written (format_seen format))
+seen (choice.Format format) = choice.Format (format_seen format)
 seen other = other
 
 -- what a value asks for, or what is wrong with it
 abbrev pub asking : {A : Type 0} → (A → Choice) → Result A UsageKind → Result Choice UsageKind
 asking make (Ok value) = Ok (make value)
 asking make (Err fault) = Err fault
-
--- a text with one conversion
-abbrev pub or_bad_format : Option Format → Result Choice UsageKind
-or_bad_format None = Err BadFormat
-or_bad_format (Some format) = Ok (choice.Format (written format))
 
 -- what an option of this kind asks for with this value
 abbrev pub choice_in : Kind → List ℕ → Result Choice UsageKind
@@ -64,6 +47,6 @@ choice_in kind.HexSuffixes value = asking (λ from. choice.Suffixes Hex (Some fr
 choice_in kind.Separator value = asking (λ byte. choice.Separator byte) (byte_in value)
 choice_in kind.Ending value = asking (λ ending. choice.Ending (text ending)) (ending_in value)
 choice_in kind.Prefix value = Ok (choice.Prefix (text value))
-choice_in kind.Format value = or_bad_format (format_in value)
+choice_in kind.Format value = asking (λ format. choice.Format format) (ok_or (format_in value) BadFormat)
 choice_in (kind.OnBroken calling) value = asking (λ on_broken. choice.OnBroken on_broken) (on_broken_in calling value)
 choice_in kind.NoEffect value = asking (λ _. choice.NoEffect) (up_to (2 ^ 63 - 1) (digits_of value))

@@ -1,6 +1,7 @@
 -- What options and operands ask of `csplit`, or what is wrong with them.
 use Rattle.std.specs.{
   Prelude.{◌≡◌, ℕ, false, true, List, [], ◌∷◌, ◌++◌, codes, slice_index_or, Option, Some, None, Result, Ok, Err},
+  Prelude.unwrap_or,
 }
 use Rattle.bre_core.specs.Fault.{number_of, offset_of}
 use Rattle.operand_core.specs.{
@@ -19,10 +20,9 @@ use Rattle.ports_core.specs.declared.{
 }
 use Rattle.words_core.specs.{
   declared.{choice.Choice.Choice, spelled.Chosen.Chosen, csplit_words.CsplitOptions.CsplitOptions},
-  declared.format.Format.Format as Written,
-  Choice.{format_of, text},
+  declared.format.Format.Format,
   Given.{asked_by, Given, GivenOperand, places_of, texts_of},
-  Format.Format,
+  Format.text,
 }
 use Rattle.operand_core.specs.declared.operand_fault.OperandFaultKind.TheVariants as kind
 use Rattle.words_core.specs.declared.choice.Choice.TheVariants as choice
@@ -68,16 +68,15 @@ abbrev pub chosen_by : List Chosen → CsplitOptions
 chosen_by options = asked_by csplit_by plain options
 
 -- the format of names; without a format, a decimal number with this many digits at least
-abbrev pub format_or : ℕ → Option Written → Format
-format_or digits None = record { before = []; form = decimal_form digits; after = [] }
-format_or digits (Some format) = format_of format
+abbrev pub format_or : (digits : ℕ) → Option Format → Format
+format_or digits format = unwrap_or format (record { before = text []; form = decimal_form digits; after = text [] })
 
 -- how files are made, by options and the format of names
 abbrev pub style_with : CsplitOptions → Format → Style
 style_with asked format = record {
-  prefix = asked.prefix.now ++ format.before;
+  prefix = asked.prefix.now ++ format.before.now;
   form = format.form;
-  ending = format.after;
+  ending = format.after.now;
   keep = asked.keep;
   quiet = asked.quiet;
   elide = asked.elide;
@@ -85,11 +84,8 @@ style_with asked format = record {
   one_past = false;
 }
 
-abbrev pub style_by : CsplitOptions → Style
-style_by asked = style_with asked (format_or asked.digits asked.format)
-
 abbrev pub style_of : List Chosen → Style
-style_of options = style_by (chosen_by options)
+style_of options = let asked = chosen_by options in style_with asked (format_or asked.digits asked.format)
 
 -- the style, by how the program is called: by the own name the cut of a pattern may stand one line past the last
 abbrev pub style_in : Calling → Style → Style

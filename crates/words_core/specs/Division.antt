@@ -20,13 +20,13 @@ all_in dealing files = then_check (then_check (up_to 65535 (digits_of files)) no
     Ok (record { dealing = dealing; files = n; only = None }))
 
 -- one file of a division, counted from 1; a number that is greater than that of all files is reported before 0
-abbrev pub one_in : Dealing → List ℕ → List ℕ → Result Division UsageKind
+abbrev pub one_in : Dealing → (number files : List ℕ) → Result Division UsageKind
 one_in dealing number files = then_check (up_to 65535 (digits_of files)) (λ n.
     then_check (then_check (up_to n (digits_of number)) not_zero) (λ k.
     Ok (record { dealing = dealing; files = n; only = Some (k - 1) })))
 
 -- what `N` or `K/N` says: `front` has the leading digits, and the other list what follows them; 47 is `/`
-abbrev pub numbers_in : Dealing → List ℕ → List ℕ → Result Division UsageKind
+abbrev pub numbers_in : Dealing → (front rest : List ℕ) → Result Division UsageKind
 numbers_in dealing front [] = all_in dealing front
 numbers_in dealing front (byte ∷ rest) =
     if byte == 47 && nat_lt 0 (length front) then one_in dealing front rest else Err BadNumber
@@ -42,7 +42,7 @@ division_in (byte ∷ next ∷ text) =
 division_in text = divided_in Bytes text
 
 -- the way to split by a division, if lines end with this byte
-abbrev pub dealt_by : ℕ → Dealing → ℕ → Option ℕ → Way
+abbrev pub dealt_by : (delim : ℕ) → Dealing → (files : ℕ) → (only : Option ℕ) → Way
 dealt_by delim Bytes n None = way.Chunks (record { count = n; unit = unit.Bytes; delim = delim })
 dealt_by delim Bytes n (Some place) = way.Chunk place (record { count = n; unit = unit.Bytes; delim = delim })
 dealt_by delim Lines n None = way.Chunks (record { count = n; unit = unit.Lines; delim = delim })

@@ -3,7 +3,7 @@
 -- and in these two `%` stand for one.
 use Rattle.std.specs.{
   Prelude.{ℕ, ◌-◌, ◌==◌, ◌&&◌, ◌||◌, Bool, not, nat_le, List, [], ◌∷◌, length, take, drop, Option, Some, None},
-  Prelude.if◌then◌else◌,
+  Prelude.{if◌then◌else◌, is_none, option_and_then, option_map},
   List.{list_any, prefix_len},
   Option.unwrap_or,
 }
@@ -13,13 +13,12 @@ use Rattle.ports_core.specs.declared.form.{
   Filling.{Filling, TheVariants.{Zeros, BlanksBefore, BlanksAfter}},
   Form.Form,
 }
-use Rattle.words_core.specs.declared.format.Format.{Format as Written}
+use Rattle.words_core.specs.declared.format.Format.{Format}
+use denote.Ref.{Bor}
 
--- a format: a text, the form of a number, and a text
-pub record Format : Type 0 where
-  pub before : List ℕ
-  pub form : Form
-  pub after : List ℕ
+-- a text that lies somewhere among the words: only its bytes count, so here each lies at the same place
+abbrev pub text : (bytes : List ℕ) → Bor (List ℕ)
+text bytes = record { ref_ptr = (0, 0); now = bytes }
 
 -- The texts of a format. 37 is `%`.
 
@@ -42,11 +41,10 @@ plain_text (byte ∷ next ∷ rest) =
     if byte == 37 && next == 37 then 37 ∷ plain_text rest else byte ∷ plain_text (next ∷ rest)
 
 -- the format that a spelled format stands for, with one `%` in the place of each two
-abbrev pub format_seen : Written → Format
-format_seen format = record {
-  before = plain_text format.before.now;
-  form = format.form;
-  after = plain_text format.after.now;
+abbrev pub format_seen : Format → Format
+format_seen format = record format {
+  before = text (plain_text format.before.now);
+  after = text (plain_text format.after.now);
 }
 
 -- The conversion: a `%`, flags, digits of the width, a `.` and digits of the precision, and a letter.
@@ -62,29 +60,27 @@ base_of letter = if letter == 100 || letter == 105 || letter == 117 then Some De
     else (if letter == 88 then Some Capitals else None)))
 
 -- whether this flag is among the flags
-abbrev pub has_flag : ℕ → List ℕ → Bool
+abbrev pub has_flag : (flag : ℕ) → (flags : List ℕ) → Bool
 has_flag flag flags = list_any (λ byte. byte == flag) flags
 
 -- whether flags go with a base: `#` with octal and hexadecimal numbers, `'` with decimal numbers, which it doesn't
 -- change
-abbrev pub go_with : Base → List ℕ → Bool
+abbrev pub go_with : Base → (flags : List ℕ) → Bool
 go_with Decimal flags = not (has_flag 35 flags)
 go_with base flags = not (has_flag 39 flags)
 
 -- what fills a number to its width: with `-` blanks after it; otherwise, before it, zeros (`0`, no precision) or blanks
-abbrev pub filling_by : List ℕ → Option ℕ → Filling
-filling_by flags (Some digits) = if has_flag 45 flags then BlanksAfter else BlanksBefore
-filling_by flags None = if has_flag 45 flags then BlanksAfter
-    else (if has_flag 48 flags then Zeros else BlanksBefore)
+abbrev pub filling_by : (flags : List ℕ) → (precision : Option ℕ) → Filling
+filling_by flags precision = if has_flag 45 flags then BlanksAfter
+    else (if is_none precision && has_flag 48 flags then Zeros else BlanksBefore)
 
 -- the least number of digits: the precision, or 1 without a precision
 abbrev pub digits_by : Option ℕ → ℕ
 digits_by precision = unwrap_or precision 1
 
 -- the form that flags, width, precision and base give together; the width and the precision are at most 255
-abbrev pub form_of : List ℕ → ℕ → Option ℕ → Option Base → Option Form
-form_of flags width precision None = None
-form_of flags width precision (Some base) =
+abbrev pub form_of : (flags : List ℕ) → (width : ℕ) → (precision : Option ℕ) → Base → Option Form
+form_of flags width precision base =
     if go_with base flags && (nat_le width 255 && nat_le (digits_by precision) 255)
     then Some (record {
       base = base;
@@ -103,22 +99,18 @@ abbrev pub after_precision : List ℕ → List ℕ
 after_precision [] = []
 after_precision (byte ∷ text) = if byte == 46 then after_digits text else byte ∷ text
 
--- a form that was read, and what follows its letter
-abbrev pub with_rest : Option Form → List ℕ → Option (Form × List ℕ)
-with_rest None rest = None
-with_rest (Some form) rest = Some (form, rest)
-
-abbrev pub with_letter : List ℕ → ℕ → Option ℕ → List ℕ → Option (Form × List ℕ)
+-- the form that the letter at a text's front gives with these, and what follows the letter
+abbrev pub with_letter : (flags : List ℕ) → (width : ℕ) → (precision : Option ℕ) → (text : List ℕ)
+    → Option (Form × List ℕ)
 with_letter flags width precision [] = None
-with_letter flags width precision (letter ∷ rest) = with_rest (form_of flags width precision (base_of letter)) rest
+with_letter flags width precision (letter ∷ rest) =
+    option_map (λ form. (form, rest)) (option_and_then (form_of flags width precision) (base_of letter))
 
--- the conversion from its precision on, and from its width on
-
-abbrev pub with_precision : List ℕ → ℕ → List ℕ → Option (Form × List ℕ)
-with_precision flags width text = with_letter flags width (precision_in text) (after_precision text)
-
-abbrev pub with_width : List ℕ → List ℕ → Option (Form × List ℕ)
-with_width flags text = with_precision flags (value_of (leading_digits text)) (after_digits text)
+-- the conversion from its width on
+abbrev pub with_width : (flags text : List ℕ) → Option (Form × List ℕ)
+with_width flags text =
+    let after_width = after_digits text in
+    with_letter flags (value_of (leading_digits text)) (precision_in after_width) (after_precision after_width)
 
 -- the conversion that a text begins with, and what follows it
 abbrev pub conversion_in : List ℕ → Option (Form × List ℕ)
@@ -126,10 +118,9 @@ conversion_in [] = None
 conversion_in (percent ∷ text) = with_width (take (prefix_len is_flag text) text) (drop (prefix_len is_flag text) text)
 
 -- a whole format: a text, a conversion, and a text without a further conversion
-abbrev pub around : List ℕ → Option (Form × List ℕ) → Option Format
-around before None = None
-around before (Some (form, rest)) = if length (after_text rest) == 0
-    then Some (record { before = plain_text before; form = form; after = plain_text rest }) else None
+abbrev pub around : (before : List ℕ) → Form × List ℕ → Option Format
+around before read = if length (after_text read.1) == 0
+    then Some (record { before = text (plain_text before); form = read.0; after = text (plain_text read.1) }) else None
 
 abbrev pub format_in : List ℕ → Option Format
-format_in text = around (before_it text) (conversion_in (after_text text))
+format_in text = option_and_then (around (before_it text)) (conversion_in (after_text text))

@@ -43,5 +43,5 @@ abbrev pub one_operand : List ℕ → ℕ → Given
 one_operand text word = record { options = []; operands = record { text = text; word = word } ∷ [] }
 
 -- what is given first, with what is given after it
-abbrev pub joined : Given → Given → Given
+abbrev pub joined : (first more : Given) → Given
 joined first more = record { options = first.options ++ more.options; operands = first.operands ++ more.operands }

@@ -1,6 +1,6 @@
 -- The texts of help and of the version. A line of help has at most 80 characters. For an option or a tool it has two
 -- blanks, what is typed, and from column 33 on what that does.
-use Rattle.std.specs.Prelude.{ℕ, List, [], ◌∷◌, ◌++◌, codes, drop, length, Option, Some, None}
+use Rattle.std.specs.{Prelude.{ℕ, List, [], ◌∷◌, ◌++◌, codes, drop, flat_map, length}, Option.option_map_or}
 use Rattle.ports_core.specs.{Text.tool_name, declared.tool.Tool.{Tool, TheVariants.Cutters}}
 use Rattle.words_core.specs.{
   declared.{settings.Topic.{Topic, TheVariants.{Help, Version}}, table.Takes.Takes},
@@ -13,11 +13,11 @@ use Rattle.words_core.specs.declared.table.Takes.TheVariants as takes
 abbrev pub filled : List ℕ → List ℕ
 filled typed = typed ++ drop (length typed) (codes "                              ")
 
-abbrev pub line : List ℕ → List ℕ → List ℕ
+abbrev pub line : (typed does : List ℕ) → List ℕ
 line typed does = codes "  " ++ filled typed ++ does ++ codes "\n"
 
 -- the names of an option, with a comma and a blank between them
-abbrev pub listed : (before : List ℕ) → List (List ℕ) → List ℕ
+abbrev pub listed : (before : List ℕ) → (names : List (List ℕ)) → List ℕ
 listed before [] = []
 listed before (name ∷ names) = before ++ name ++ listed (codes ", ") names
 
@@ -29,33 +29,25 @@ value_listed other value = []
 abbrev pub option_line : OptionRow → List ℕ
 option_line row = line (listed [] row.names ++ value_listed row.takes row.value) row.does
 
-abbrev pub option_lines : List OptionRow → List ℕ
-option_lines [] = []
-option_lines (row ∷ rows) = option_line row ++ option_lines rows
-
-abbrev pub tool_lines : List ToolRow → List ℕ
-tool_lines [] = []
-tool_lines (row ∷ rows) = line row.name row.does ++ tool_lines rows
+abbrev pub tool_line : ToolRow → List ℕ
+tool_line row = line row.name row.does
 
 -- the help of a tool, by its row, and of the program
 
 abbrev pub tool_help : ToolRow → List ℕ
 tool_help row =
     codes "Usage: cutters " ++ row.name ++ codes " [OPTION]... " ++ row.operands ++ codes "\n" ++ row.name ++ codes " "
-    ++ row.does ++ codes ".\n\n" ++ option_lines row.options ++ codes "\nThe manual: man cutters-" ++ row.name
+    ++ row.does ++ codes ".\n\n" ++ flat_map option_line row.options ++ codes "\nThe manual: man cutters-" ++ row.name
     ++ codes "\n"
 
 abbrev pub program_help : List ℕ
 program_help =
     codes "Usage: cutters TOOL [OPTION]... [OPERAND]...\ncutters is these tools in one program.\n\n"
-    ++ tool_lines (tools calling.Cutters) ++ option_lines program_table ++ codes "\nThe manual: man cutters\n"
-
-abbrev pub help_by : Option ToolRow → List ℕ
-help_by None = program_help
-help_by (Some row) = tool_help row
+    ++ flat_map tool_line (tools calling.Cutters) ++ flat_map option_line program_table
+    ++ codes "\nThe manual: man cutters\n"
 
 abbrev pub help_of : Tool → List ℕ
-help_of tool = help_by (row_named (tools calling.Cutters) (tool_name tool))
+help_of tool = option_map_or tool_help (row_named (tools calling.Cutters) (tool_name tool)) program_help
 
 -- the text of the version
 

@@ -1,12 +1,12 @@
 -- Definitions for the laws: which options ask for what, and the operands among words.
 use Rattle.std.specs.{
   Prelude.{◌≡◌, ◌≢◌, ◌↔◌, ℕ, ◌+◌, ◌≤◌, ◌==◌, not, ◌&&◌, Bool, true, false, List, [], ◌∷◌, ◌++◌, All, length},
-  Prelude.{codes, filter, if◌then◌else◌, Option, Some, None, Result, Ok, Err, ◌⊎◌},
+  Prelude.{codes, filter, Option, Some, None, Result, Ok, Err, ◌⊎◌},
   Char.is_ascii_digit,
   List.{Contains, list_all, list_any},
 }
 use Rattle.seg_core.specs.{
-  Count.value_of,
+  Count.is_number,
   declared.{
     count.{Count.Count, Sign.{Sign, TheVariants.{Plain, Plus}}},
     unit.Unit.Unit as Measured,
@@ -16,29 +16,31 @@ use Rattle.ports_core.specs.declared.{
   calling.Calling.{Calling, TheVariants.{Cutters, OwnName}},
   fault.{Fault.{Fault, TheVariants.Usage}, UsageKind.{UsageKind, TheVariants.BadFollow}},
   tool.Tool.Tool,
+  form.Form.Form,
   on_broken.OnBroken.OnBroken,
 }
 use Rattle.operand_core.specs.Style.{Style}
 use Rattle.words_core.specs.{
   declared.choice.{Choice.Choice, Kind.Kind},
   declared.settings.{Settings.{Settings, TheVariants.{Head, Tail, Split, Csplit, Tee, About}}, Topic.TheVariants.{Help, Version}},
-  declared.table.{Letters.TheVariants.OfTail, Takes.Takes},
+  declared.table.{Letters.{Letters, TheVariants.OfTail}, Takes.Takes},
   declared.spelled.Chosen.Chosen,
-  declared.spelling.State.{State, TheVariants.Reading},
+  declared.spelling.State.{State, TheVariants.{First, Reading}},
   declared.value.Followed.{Followed, TheVariants.Descriptor},
   declared.tail_words.TailSettings.TailSettings,
+  Choice.choice_in,
   CsplitWords.{style_in, style_of},
   EndsWords.{EndsAsked, ten_lines},
   SplitWords.{SplitAsked, no_options},
   Given.{Given, GivenOperand, one_option},
-  Lettered.{is_start, is_unit},
+  Lettered.{is_lettered, is_start, is_unit},
   Refusal.word_at,
-  Spelling.{after_equals, given_before, is_equals, spelled},
+  Spelling.{after_equals, given_before, is_equals, onward, spelled, with_letters},
   Table.{OptionRow, alone, option_called, option_lettered, tail_table, tee_table},
   TailWords.unfollowed,
   TeeWords.{TeeAsked, fresh},
-  Value.{value_by, value_in, values_from},
-  Words.settings_of,
+  Value.{follow_values, value_by, value_in, values_from},
+  Words.{settings_for, settings_of},
 }
 use Rattle.words_core.specs.declared.choice.Choice.TheVariants as choice
 use Rattle.words_core.specs.declared.table.Takes.TheVariants as takes
@@ -172,10 +174,15 @@ pub data AreAmong : List GivenOperand → ℕ → List (List ℕ) → Type 0 whe
       → AreAmong operands (place + 1) words
       → AreAmong (record { text = word; word = place } ∷ operands) place (word ∷ words)
 
--- the words give this option, and then what the rest gives
-abbrev pub Gives : List OptionRow → List (List ℕ) → ℕ → Choice → Result Given Fault → Type 0
-Gives rows words place choice rest =
-    spelled rows words place Reading ≡ given_before (one_option choice place) rest
+-- words that are read from this state on and begin with these give this option, and then what the others give
+abbrev pub Gives : List OptionRow → State → (front : List (List ℕ)) → Choice → Type 0
+Gives rows state front choice = (words : List (List ℕ)) (place : ℕ) → spelled rows (front ++ words) place state
+    ≡ given_before (one_option choice place) (spelled rows words (place + length front) Reading)
+
+-- a word gives this option, and then what it gives without the option's letter: this other word
+abbrev pub GivesBefore : List OptionRow → (word other : List ℕ) → Choice → Type 0
+GivesBefore rows word other choice = (words : List (List ℕ)) (place : ℕ) → spelled rows (word ∷ words) place Reading
+    ≡ given_before (one_option choice place) (spelled rows (other ∷ words) place Reading)
 
 -- the letter names an option that takes a value of this kind
 pub record IsLetter (rows : List OptionRow) (letter : ℕ) (kind : Kind) : Type 0 where
@@ -194,18 +201,57 @@ kind_of (takes.Value kind) = Some kind
 kind_of (takes.Optional choice kind) = Some kind
 kind_of takes = None
 
+-- an option that takes this may have this value after `=`, and asks for this then
+pub record MayHave (takes : Takes) (value : List ℕ) (choice : Choice) : Type 0 where
+  pub kind : Kind
+  pub taken : kind_of takes ≡ Some kind
+  pub asked : choice_in kind value ≡ Ok choice
+
 -- each two of these names mean the same, whatever words follow
 abbrev pub AreAlike : List OptionRow → List (List ℕ) → Type 0
 AreAlike rows names = (one other : List ℕ) (words : List (List ℕ)) (place : ℕ) → Contains names one
     → Contains names other
     → spelled rows (one ∷ words) place Reading ≡ spelled rows (other ∷ words) place Reading
 
+-- where words are read from: by which options, at the place of the first word, and in which state
+pub record Start : Type 0 where
+  pub rows : List OptionRow
+  pub place : ℕ
+  pub state : State
+
+abbrev pub spelled_from : Start → (words : List (List ℕ)) → Result Given Fault
+spelled_from start words = spelled start.rows words start.place start.state
+
 -- the first words have a fault, whatever follows; or they give something and leave a state, whatever follows
-abbrev pub LeaveTheRest : List OptionRow → List (List ℕ) → ℕ → State → Type 0
-LeaveTheRest rows first place state =
-    ((fault : Fault) × ((more : List (List ℕ)) → spelled rows (first ++ more) place state ≡ Err fault))
-    ⊎ ((given : Given) × (next : State) × ((more : List (List ℕ))
-    → spelled rows (first ++ more) place state ≡ given_before given (spelled rows more (place + length first) next)))
+abbrev pub LeaveTheRest : Start → (first : List (List ℕ)) → Type 0
+LeaveTheRest start first =
+    ((fault : Fault) × ((more : List (List ℕ)) → spelled_from start (first ++ more) ≡ Err fault))
+    ⊎ ((given : Given) × (next : State) × ((more : List (List ℕ)) → spelled_from start (first ++ more)
+    ≡ given_before given (spelled start.rows more (start.place + length first) next)))
+
+-- a tool whose first word may be a number: how the program is called, the tool's options, which kind of option has the
+-- number as its value, and which letters may follow
+pub record Numbered : Type 0 where
+  pub calling : Calling
+  pub rows : List OptionRow
+  pub kind : Kind
+  pub letters : Letters
+
+-- the state before the first word of such a tool
+abbrev pub first_state : Numbered → State
+first_state tool = First tool.calling tool.kind tool.letters
+
+-- no number, no number with letters, and nothing that says where `tail` begins: a byte and the rest of a first word
+pub record IsOrdinary (tool : Numbered) (byte : ℕ) (rest : List ℕ) : Type 0 where
+  pub no_number : is_number rest ≡ false
+  pub no_letters : is_lettered tool.rows tool.letters rest ≡ false
+  pub no_start : byte ≡ 43 → is_start tool.calling tool.rows tool.letters rest ≡ false
+
+-- this first word means a number with letters, with this sign; then come the words after it
+abbrev pub MeansLetters : Numbered → (word : List ℕ) → Sign → (text : List ℕ) → Type 0
+MeansLetters tool word sign text = (words : List (List ℕ)) (place : ℕ)
+    → spelled tool.rows (word ∷ words) place (first_state tool)
+    ≡ onward (spelled tool.rows words (place + 1)) (with_letters tool.rows sign place text)
 
 -- the letter names an option that asks for this and takes no value within a cluster of letters
 pub record IsSwitch (rows : List OptionRow) (letter : ℕ) (choice : Choice) : Type 0 where
@@ -230,15 +276,23 @@ pub record HasLetters (rows : List OptionRow) (text digits letters : List ℕ) :
 abbrev pub IsNumberWithLetters : List OptionRow → List ℕ → Type 0
 IsNumberWithLetters rows text = (digits letters : List ℕ) × HasLetters rows text digits letters
 
--- how many are counted: the number that the digits write, or ten without digits
-abbrev pub how_many : List ℕ → ℕ
-how_many digits = if length digits == 0 then 10 else value_of digits
-
 -- whether a word is an operand if options may stand in its place: it doesn't begin with a hyphen, or is only one byte
 abbrev pub is_plain : List ℕ → Bool
 is_plain [] = true
 is_plain (byte ∷ []) = true
 is_plain (byte ∷ next ∷ rest) = not (byte == 45)
+
+-- whatever the operands and however the program is called, these options ask each tool for the same
+abbrev pub AskTheSame : (one other : List Chosen) → Type 0
+AskTheSame one other = (calling : Calling) (tool : Tool) (operands : List GivenOperand)
+    → settings_for calling tool (record { options = one; operands = operands })
+    ≡ settings_for calling tool (record { options = other; operands = operands })
+
+-- names of files begin so, have their numbers in this form, and end so
+pub record NamesFiles (style : Style) (front : List ℕ) (form : Form) (end : List ℕ) : Type 0 where
+  pub begins : style.prefix ≡ front
+  pub number : style.form ≡ form
+  pub ends : style.ending ≡ end
 
 -- What changes with how the program is called.
 
@@ -277,6 +331,11 @@ abbrev pub RefusedAsShort : {A : Type 0} → List (List ℕ × A) → UsageKind 
 RefusedAsShort values kind words = (place : ℕ) × (settings_of Cutters words ≡ Err (Usage kind place))
     × HasShortValue values (word_at words place)
 
+-- `cutters` refuses these words: they ask to follow what can't be followed, or what is followed is cut short
+abbrev pub RefusedToFollow : List (List ℕ) → Type 0
+RefusedToFollow words = (settings_of Cutters words ≡ Err (Usage BadFollow 0))
+    ⊎ RefusedAsShort follow_values BadFollow words
+
 -- Of these values one in full is taken exactly, however the program is called; by a tool's own name the only one that begins with
 -- a text is taken by this text, and `cutters` takes no other texts than the values in full.
 pub record AreCutShort {A : Type 0} (values : List (List ℕ × A)) : Type 0 where
@@ -284,7 +343,7 @@ pub record AreCutShort {A : Type 0} (values : List (List ℕ × A)) : Type 0 whe
       → value_by calling values text ≡ Some value
   pub short : (text : List ℕ) (value : A) → value_in values text ≡ None
       → (value_by OwnName values text ≡ Some value)
-      ↔ ((name : List ℕ) × (values_from text values ≡ (name, value) ∷ []))
+      ↔ ((name : List ℕ) × (values_from values text ≡ (name, value) ∷ []))
   pub cutters : (text : List ℕ) → value_by Cutters values text ≡ value_in values text
 
 -- What options ask for if they are given alone. `head`, `tail`, `split` and `csplit` read standard input, and `csplit`
@@ -341,7 +400,7 @@ NumberAsks text unit amount = ((calling : Calling) → WordAsks calling (codes "
     × StartAsks text unit amount
 
 -- words of `tail`, called by its own name, ask for the last ten lines of these files
-abbrev pub AreNames : List (List ℕ) → List (List ℕ) → Type 0
+abbrev pub AreNames : (words names : List (List ℕ)) → Type 0
 AreNames words names = settings_of OwnName (codes "tail" ∷ words) ≡ Ok (Tail (unfollowed (ten_lines names)))
 
 -- files of 1,000 lines, with names that widen from two letters on

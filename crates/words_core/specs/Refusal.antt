@@ -2,8 +2,9 @@
 -- was, or what a value may be. It follows from the words alone.
 use Rattle.std.specs.{
   Char.is_ascii_digit,
-  Prelude.{ℕ, ◌-◌, ◌==◌, ◌||◌, nat_lt, Bool, true, false, List, [], ◌∷◌, ◌++◌, codes, is_some, take},
-  Prelude.{Option, Some, None, Result, Err, if◌then◌else◌, slice_index_or},
+  Option.option_map_or,
+  Prelude.{ℕ, ◌-◌, ◌==◌, ◌||◌, nat_lt, Bool, true, false, List, [], ◌∷◌, ◌++◌, codes, find, is_none, take},
+  Prelude.{Option, None, Result, Err, if◌then◌else◌, slice_index_or},
 }
 use Rattle.ports_core.specs.{
   Text.in_quotes,
@@ -40,14 +41,12 @@ letters_of word = []
 abbrev pub quoted_letter : ℕ → List ℕ
 quoted_letter letter = if nat_lt letter 128 then codes ": '" ++ letter ∷ codes "'" else []
 
-abbrev pub unknown_among : List OptionRow → List ℕ → List ℕ
-unknown_among rows [] = []
-unknown_among rows (letter ∷ letters) =
-    if is_some (option_lettered rows letter) then unknown_among rows letters else quoted_letter letter
+abbrev pub unknown_among : List OptionRow → (letters : List ℕ) → List ℕ
+unknown_among rows letters =
+    option_map_or quoted_letter (find (λ letter. is_none (option_lettered rows letter)) letters) []
 
-abbrev pub unknown_letter : Option ToolRow → List ℕ → List ℕ
-unknown_letter (Some row) word = unknown_among row.options (letters_of word)
-unknown_letter None word = []
+abbrev pub unknown_letter : Option ToolRow → (word : List ℕ) → List ℕ
+unknown_letter row word = option_map_or (λ row. unknown_among row.options (letters_of word)) row []
 
 -- For which option a value in a word of its own was: the word before it, if the words up to that one end with an option
 -- that lacks its value.
@@ -58,10 +57,8 @@ lacks_value given = false
 
 abbrev pub end_with_option : List (List ℕ) → Bool
 end_with_option [] = false
-end_with_option (name ∷ words) = elim (row_named (tools OwnName) name) [
-  | Some row ↦ lacks_value (given_by OwnName row words)
-  | None ↦ false
-]
+end_with_option (name ∷ words) =
+    option_map_or (λ row. lacks_value (given_by OwnName row words)) (row_named (tools OwnName) name) false
 
 abbrev pub for_option : List (List ℕ) → ℕ → List ℕ
 for_option words place =

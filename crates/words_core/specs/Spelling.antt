@@ -49,11 +49,11 @@ abbrev pub before : Given → Result Meaning Fault → Result Meaning Fault
 before first meant = then_check meant (λ meaning. Ok (record meaning { given = joined first meaning.given }))
 
 -- an option with its value: the option stands in the word at the place `option`, the value in the word at `place`
-abbrev pub said : ℕ → ℕ → Result Choice UsageKind → Result Meaning Fault
+abbrev pub said : (option place : ℕ) → Result Choice UsageKind → Result Meaning Fault
 said option place (Ok choice) = reading (one_option choice option)
 said option place (Err fault) = Err (Usage fault place)
 
-abbrev pub valued : Kind → ℕ → ℕ → List ℕ → Result Meaning Fault
+abbrev pub valued : Kind → (option place : ℕ) → (text : List ℕ) → Result Meaning Fault
 valued kind option place text = said option place (choice_in kind text)
 
 abbrev pub attached : Kind → ℕ → List ℕ → Result Meaning Fault
@@ -96,7 +96,7 @@ long rows place word = named place (option_called rows (before_first is_equals w
 -- A word that may be an option or an operand. `--` ends the options, and a hyphen alone is an operand.
 
 -- a word that begins with two hyphens, by what follows these
-abbrev pub dashed : List OptionRow → ℕ → List ℕ → List ℕ → Result Meaning Fault
+abbrev pub dashed : List OptionRow → (place : ℕ) → (word rest : List ℕ) → Result Meaning Fault
 dashed rows place word [] = Ok (record { given = nothing; next = OnlyOperands })
 dashed rows place word (byte ∷ bytes) = long rows place word
 
@@ -116,11 +116,12 @@ abbrev pub counted_with : ℕ → Measured → Result Count UsageKind → Result
 counted_with place unit (Ok count) more = before (one_option (Amount unit count) place) more
 counted_with place unit (Err fault) more = Err (Usage fault place)
 
-abbrev pub with_letters : List OptionRow → Sign → ℕ → List ℕ → Result Meaning Fault
-with_letters rows sign place text =
-    let letters = after_digits text in
-    counted_with place (unit_in letters).0 (times sign (leading_digits text) (unit_in letters).1)
-    (cluster rows place (others letters))
+abbrev pub count_and_options : List OptionRow → Sign → (place : ℕ) → (digits letters : List ℕ) → Result Meaning Fault
+count_and_options rows sign place digits letters =
+    counted_with place (unit_in letters).0 (times sign digits (unit_in letters).1) (cluster rows place (others letters))
+
+abbrev pub with_letters : List OptionRow → Sign → (place : ℕ) → (text : List ℕ) → Result Meaning Fault
+with_letters rows sign place text = count_and_options rows sign place (leading_digits text) (after_digits text)
 
 -- The first word may be a hyphen and digits: then the digits are the value of an option of this kind. Letters may
 -- follow the digits. After a `+` digits and letters may say where `tail` begins.
@@ -166,7 +167,7 @@ abbrev pub given_by : Calling → ToolRow → List (List ℕ) → Result Given F
 given_by calling tool words = spelled tool.options words 1 (start_of calling tool.number)
 
 -- a call returned what was meant, or memory was refused
-abbrev pub Reads : {A : Type 0} → Result A Fault → Result A Fault → Type 0
+abbrev pub Reads : {A : Type 0} → (meant result : Result A Fault) → Type 0
 Reads meant (Ok value) = meant ≡ Ok value
 Reads meant (Err fault) = (fault ≡ Memory) ⊎ (meant ≡ Err fault)
 

@@ -127,11 +127,11 @@ abbrev pub first_number : Option ℕ → ℕ
 first_number from = unwrap_or from 0
 
 -- whether suffixes of this width write this many numbers, from 0 on
-abbrev pub names_all : Alphabet → ℕ → ℕ → Bool
+abbrev pub names_all : Alphabet → (count width : ℕ) → Bool
 names_all alphabet count width = nat_le count (name_count alphabet width)
 
 -- the least width that writes this many numbers, from the last argument on, and after at most `more` steps
-abbrev pub least_from : Alphabet → ℕ → ℕ → ℕ → ℕ
+abbrev pub least_from : Alphabet → (count more width : ℕ) → ℕ
 least_from alphabet count zero width = width
 least_from alphabet count (suc more) width =
     if names_all alphabet count width then width else least_from alphabet count more (width + 1)
@@ -141,21 +141,21 @@ unfoldable pub least_width : Alphabet → ℕ → ℕ
 least_width alphabet count = least_from alphabet count 21 2
 
 -- suffixes of this width, or a fault if they don't write this many numbers
-abbrev pub wide_enough : Alphabet → ℕ → ℕ → Result Suffix Fault
+abbrev pub wide_enough : Alphabet → (count width : ℕ) → Result Suffix Fault
 wide_enough alphabet count width =
     if names_all alphabet count width then Ok (fixed width) else Err (Usage SuffixTooShort 0)
 
-abbrev pub for_all : Alphabet → ℕ → ℕ → Result Suffix Fault
+abbrev pub for_all : Alphabet → (count width : ℕ) → Result Suffix Fault
 for_all alphabet count width =
     if width == 0 then Ok (fixed (least_width alphabet count)) else wide_enough alphabet count width
 
 abbrev pub or_two : ℕ → ℕ
 or_two width = if width == 0 then 2 else width
 
-abbrev pub numbered : Alphabet → ℕ → ℕ → Result Suffix Fault
+abbrev pub numbered : Alphabet → (from width : ℕ) → Result Suffix Fault
 numbered alphabet from width = wide_enough alphabet (from + 1) (or_two width)
 
-abbrev pub suffix_for : Way → Alphabet → Option ℕ → ℕ → Result Suffix Fault
+abbrev pub suffix_for : Way → Alphabet → (from : Option ℕ) → (width : ℕ) → Result Suffix Fault
 suffix_for (Cut (Round files delim)) alphabet from width = for_all alphabet (first_number from + files) width
 suffix_for (Cut (Parts limit)) alphabet (Some from) width = numbered alphabet from width
 suffix_for (Cut (Parts limit)) alphabet None width = Ok (free width)
@@ -197,14 +197,14 @@ IsWidth width = (1 ≤ width) × (width ≤ 255)
 
 -- How many numbers, from 0 on, a width must write, if the first file has this number. If the number of files is known,
 -- all files have names. If files come one after another, at least the first has a name.
-abbrev pub numbers_needed : Way → ℕ → ℕ
+abbrev pub numbers_needed : Way → (first : ℕ) → ℕ
 numbers_needed (Cut (Parts limit)) first = first + 1
 numbers_needed (Cut (Round files delim)) first = first + files
 numbers_needed (Chunks chunks) first = first + chunks.count
 numbers_needed (Chunk place chunks) first = 0
 numbers_needed (Turn place files delim) first = 0
 
-abbrev pub AreNamed : Way → Alphabet → Option ℕ → ℕ → Type 0
+abbrev pub AreNamed : Way → Alphabet → (from : Option ℕ) → (width : ℕ) → Type 0
 AreNamed way alphabet from width = numbers_needed way (first_number from) ≤ name_count alphabet width
 
 -- what can be asked of `split`: words that ask for anything else are refused

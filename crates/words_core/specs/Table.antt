@@ -4,10 +4,12 @@
 -- `-s`, `--pid` and `--max-unchanged-stats` of `tail`, the `-p` and `--output-error` of `tee`, and the long names;
 -- `--looks` is of these tools alone.
 use Rattle.std.specs.{
-  Prelude.{ℕ, Bool, true, false, List, [], ◌∷◌, map, filter, codes, Option, Some, None, Result, Ok, Err},
+  Prelude.{ℕ, Bool, List, [], ◌∷◌, map, filter, find, codes, Option, Some, None, option_map, Result, Ok, Err},
   Prelude.{if◌then◌else◌, eqb, bytes_eq, nat_lt},
-  List.starts_with,
+  List.{list_any, starts_with},
+  Option.option_map_or,
 }
+use Prim.Native.String.{String}
 use Rattle.ports_core.specs.declared.{
   calling.Calling.Calling,
   fault.UsageKind.{UsageKind, TheVariants.{UnknownOption, AmbiguousOption}},
@@ -51,17 +53,30 @@ pub record ToolRow : Type 0 where
 
 -- The table of the manuals. `choice_in` says what each kind of value means.
 
--- a row: its names, whether it takes a value and what it asks for, what help calls the value, and what it does
-abbrev pub option : List (List ℕ) → Takes → List ℕ → List ℕ → OptionRow
-option names takes value does = record { names = names; takes = takes; value = value; does = does }
+-- a row of an option, and one of a tool: their texts as text, and their fields in that order
+
+abbrev pub option : (names : List String) → Takes → (value does : String) → OptionRow
+option names takes value does =
+    record { names = map codes names; takes = takes; value = codes value; does = codes does }
+
+abbrev pub tool_row : (name : String) → Tool → List OptionRow → (number : Option (Kind × Letters))
+    → (operands does : String) → ToolRow
+tool_row name tool options number operands does = record {
+  name = codes name;
+  tool = tool;
+  options = options;
+  number = number;
+  operands = codes operands;
+  does = codes does;
+}
 
 -- options of each tool
 
 abbrev pub help_row : OptionRow
-help_row = option (codes "--help" ∷ []) (Last Help) [] (codes "write help, and do nothing else")
+help_row = option ("--help" ∷ []) (Last Help) "" "write help, and do nothing else"
 
 abbrev pub version_row : OptionRow
-version_row = option (codes "--version" ∷ []) (Last Version) [] (codes "write the version, and do nothing else")
+version_row = option ("--version" ∷ []) (Last Version) "" "write the version, and do nothing else"
 
 -- what stands in the place of a tool's name, and asks for a text of the program
 unfoldable pub program_table : List OptionRow
@@ -70,144 +85,88 @@ program_table = help_row ∷ version_row ∷ []
 -- options of several tools
 
 abbrev pub quiet_row : OptionRow
-quiet_row = option (codes "-q" ∷ codes "--quiet" ∷ codes "--silent" ∷ []) (Nothing (asks.Headers Never)) []
-    (codes "write no headers")
+quiet_row = option ("-q" ∷ "--quiet" ∷ "--silent" ∷ []) (Nothing (asks.Headers Never)) "" "write no headers"
 
 abbrev pub verbose_row : OptionRow
-verbose_row = option (codes "-v" ∷ codes "--verbose" ∷ []) (Nothing (asks.Headers Always)) []
-    (codes "write a header before each file")
+verbose_row = option ("-v" ∷ "--verbose" ∷ []) (Nothing (asks.Headers Always)) "" "write a header before each file"
 
 abbrev pub zero_row : OptionRow
-zero_row = option (codes "-z" ∷ codes "--zero-terminated" ∷ []) (Nothing asks.ZeroTerminated) []
-    (codes "lines end with byte 0, not with a newline")
+zero_row = option ("-z" ∷ "--zero-terminated" ∷ []) (Nothing asks.ZeroTerminated) ""
+    "lines end with byte 0, not with a newline"
 
 -- the options of `head`
 abbrev pub head_table : List OptionRow
 head_table =
-    option (codes "-n" ∷ codes "--lines" ∷ []) (Value (Amount Lines)) (codes "COUNT")
-    (codes "write COUNT lines; with - all but the last COUNT")
-    ∷ option (codes "-c" ∷ codes "--bytes" ∷ []) (Value (Amount Bytes)) (codes "COUNT")
-    (codes "write COUNT bytes; with - all but the last COUNT")
+    option ("-n" ∷ "--lines" ∷ []) (Value (Amount Lines)) "COUNT" "write COUNT lines; with - all but the last COUNT"
+    ∷ option ("-c" ∷ "--bytes" ∷ []) (Value (Amount Bytes)) "COUNT" "write COUNT bytes; with - all but the last COUNT"
     ∷ quiet_row ∷ verbose_row ∷ zero_row ∷ help_row ∷ version_row ∷ []
 
 -- the options of `tail`: those of `head`, and how files are followed
 abbrev pub tail_table : Calling → List OptionRow
 tail_table calling =
-    option (codes "-n" ∷ codes "--lines" ∷ []) (Value (Amount Lines)) (codes "COUNT")
-    (codes "write COUNT lines; with + all from line COUNT on")
-    ∷ option (codes "-c" ∷ codes "--bytes" ∷ []) (Value (Amount Bytes)) (codes "COUNT")
-    (codes "write COUNT bytes; with + all from byte COUNT on")
+    option ("-n" ∷ "--lines" ∷ []) (Value (Amount Lines)) "COUNT" "write COUNT lines; with + all from line COUNT on"
+    ∷ option ("-c" ∷ "--bytes" ∷ []) (Value (Amount Bytes)) "COUNT" "write COUNT bytes; with + all from byte COUNT on"
     ∷ quiet_row ∷ verbose_row ∷ zero_row
-    ∷ option (codes "-f" ∷ codes "--follow" ∷ []) (Optional (asks.Follow Descriptor) (Follow calling)) (codes "HOW")
-    (codes "follow what is appended, by descriptor or name")
-    ∷ option (codes "-F" ∷ []) (Nothing asks.FollowNames) [] (codes "the same as --follow=name --retry")
-    ∷ option (codes "--retry" ∷ []) (Nothing asks.Retry) [] (codes "with --follow=name, wait for missing names")
-    ∷ option (codes "--looks" ∷ []) (Value Looks) (codes "NUMBER") (codes "end after NUMBER checks of what is followed")
-    ∷ option (codes "-s" ∷ codes "--sleep-interval" ∷ []) (Value Pause) (codes "SECONDS")
-    (codes "check what is followed within this time")
-    ∷ option (codes "--pid" ∷ []) (Value Process) (codes "PID") (codes "end once the process PID is gone")
-    ∷ option (codes "--max-unchanged-stats" ∷ []) (Value NoEffect) (codes "NUMBER") (codes "taken without effect")
+    ∷ option ("-f" ∷ "--follow" ∷ []) (Optional (asks.Follow Descriptor) (Follow calling)) "HOW"
+    "follow what is appended, by descriptor or name"
+    ∷ option ("-F" ∷ []) (Nothing asks.FollowNames) "" "the same as --follow=name --retry"
+    ∷ option ("--retry" ∷ []) (Nothing asks.Retry) "" "with --follow=name, wait for missing names"
+    ∷ option ("--looks" ∷ []) (Value Looks) "NUMBER" "end after NUMBER checks of what is followed"
+    ∷ option ("-s" ∷ "--sleep-interval" ∷ []) (Value Pause) "SECONDS" "check what is followed within this time"
+    ∷ option ("--pid" ∷ []) (Value Process) "PID" "end once the process PID is gone"
+    ∷ option ("--max-unchanged-stats" ∷ []) (Value NoEffect) "NUMBER" "taken without effect"
     ∷ help_row ∷ version_row ∷ []
 
 -- the options of `split`
 abbrev pub split_table : List OptionRow
 split_table =
-    option (codes "-l" ∷ codes "--lines" ∷ []) (Value LinesEach) (codes "LINES")
-    (codes "put this many lines in each file")
-    ∷ option (codes "-b" ∷ codes "--bytes" ∷ []) (Value BytesEach) (codes "BYTES")
-    (codes "put this many bytes in each file")
-    ∷ option (codes "-C" ∷ codes "--line-bytes" ∷ []) (Value LineBytesEach) (codes "BYTES")
-    (codes "put whole lines of at most BYTES in each file")
-    ∷ option (codes "-n" ∷ codes "--number" ∷ []) (Value Divided) (codes "CHUNKS")
-    (codes "into N files: N, l/N, r/N; the Kth alone: K/N")
-    ∷ option (codes "-a" ∷ codes "--suffix-length" ∷ []) (Value Width) (codes "WIDTH")
-    (codes "names have WIDTH characters after the prefix")
-    ∷ option (codes "-d" ∷ codes "--numeric-suffixes" ∷ [])
-    (Optional (asks.Suffixes Decimal None) NumericSuffixes) (codes "FROM")
-    (codes "digits in names, not letters, from FROM on")
-    ∷ option (codes "-x" ∷ codes "--hex-suffixes" ∷ [])
-    (Optional (asks.Suffixes Hexadecimal None) HexSuffixes) (codes "FROM")
-    (codes "hexadecimal digits in names, from FROM on")
-    ∷ option (codes "-e" ∷ codes "--elide-empty-files" ∷ []) (Nothing asks.ElideEmptyFiles) []
-    (codes "with -n, make no empty files")
-    ∷ option (codes "-t" ∷ codes "--separator" ∷ []) (Value Separator) (codes "BYTE")
-    (codes "lines end with BYTE, not with a newline")
-    ∷ option (codes "--additional-suffix" ∷ []) (Value Ending) (codes "TEXT") (codes "names end with TEXT")
-    ∷ option (codes "-u" ∷ codes "--unbuffered" ∷ []) (Nothing asks.NoEffect) [] (codes "taken without effect")
-    ∷ option (codes "--verbose" ∷ []) (Nothing asks.Verbose) [] (codes "write each name before its file is opened")
+    option ("-l" ∷ "--lines" ∷ []) (Value LinesEach) "LINES" "put this many lines in each file"
+    ∷ option ("-b" ∷ "--bytes" ∷ []) (Value BytesEach) "BYTES" "put this many bytes in each file"
+    ∷ option ("-C" ∷ "--line-bytes" ∷ []) (Value LineBytesEach) "BYTES" "put whole lines of at most BYTES in each file"
+    ∷ option ("-n" ∷ "--number" ∷ []) (Value Divided) "CHUNKS" "into N files: N, l/N, r/N; the Kth alone: K/N"
+    ∷ option ("-a" ∷ "--suffix-length" ∷ []) (Value Width) "WIDTH" "names have WIDTH characters after the prefix"
+    ∷ option ("-d" ∷ "--numeric-suffixes" ∷ []) (Optional (asks.Suffixes Decimal None) NumericSuffixes) "FROM"
+    "digits in names, not letters, from FROM on"
+    ∷ option ("-x" ∷ "--hex-suffixes" ∷ []) (Optional (asks.Suffixes Hexadecimal None) HexSuffixes) "FROM"
+    "hexadecimal digits in names, from FROM on"
+    ∷ option ("-e" ∷ "--elide-empty-files" ∷ []) (Nothing asks.ElideEmptyFiles) "" "with -n, make no empty files"
+    ∷ option ("-t" ∷ "--separator" ∷ []) (Value Separator) "BYTE" "lines end with BYTE, not with a newline"
+    ∷ option ("--additional-suffix" ∷ []) (Value Ending) "TEXT" "names end with TEXT"
+    ∷ option ("-u" ∷ "--unbuffered" ∷ []) (Nothing asks.NoEffect) "" "taken without effect"
+    ∷ option ("--verbose" ∷ []) (Nothing asks.Verbose) "" "write each name before its file is opened"
     ∷ help_row ∷ version_row ∷ []
 
 -- the options of `csplit`
 abbrev pub csplit_table : List OptionRow
 csplit_table =
-    option (codes "-f" ∷ codes "--prefix" ∷ []) (Value Prefix) (codes "PREFIX")
-    (codes "names begin with PREFIX, not with xx")
-    ∷ option (codes "-n" ∷ codes "--digits" ∷ []) (Value Width) (codes "DIGITS")
-    (codes "numbers in names have this many digits, not 2")
-    ∷ option (codes "-b" ∷ codes "--suffix-format" ∷ []) (Value Format) (codes "FORMAT")
-    (codes "write numbers as printf does, as in %03d.txt")
-    ∷ option (codes "-k" ∷ codes "--keep-files" ∷ []) (Nothing asks.KeepFiles) [] (codes "keep files after a fault")
-    ∷ option (codes "-s" ∷ codes "-q" ∷ codes "--quiet" ∷ codes "--silent" ∷ []) (Nothing asks.Quiet) []
-    (codes "write no sizes")
-    ∷ option (codes "-z" ∷ codes "--elide-empty-files" ∷ []) (Nothing asks.ElideEmptyFiles) []
-    (codes "make no empty files")
-    ∷ option (codes "--suppress-matched" ∷ []) (Nothing asks.SuppressMatched) []
-    (codes "leave out the line at each cut")
+    option ("-f" ∷ "--prefix" ∷ []) (Value Prefix) "PREFIX" "names begin with PREFIX, not with xx"
+    ∷ option ("-n" ∷ "--digits" ∷ []) (Value Width) "DIGITS" "numbers in names have this many digits, not 2"
+    ∷ option ("-b" ∷ "--suffix-format" ∷ []) (Value Format) "FORMAT" "write numbers as printf does, as in %03d.txt"
+    ∷ option ("-k" ∷ "--keep-files" ∷ []) (Nothing asks.KeepFiles) "" "keep files after a fault"
+    ∷ option ("-s" ∷ "-q" ∷ "--quiet" ∷ "--silent" ∷ []) (Nothing asks.Quiet) "" "write no sizes"
+    ∷ option ("-z" ∷ "--elide-empty-files" ∷ []) (Nothing asks.ElideEmptyFiles) "" "make no empty files"
+    ∷ option ("--suppress-matched" ∷ []) (Nothing asks.SuppressMatched) "" "leave out the line at each cut"
     ∷ help_row ∷ version_row ∷ []
 
 -- the options of `tee`
 abbrev pub tee_table : Calling → List OptionRow
 tee_table calling =
-    option (codes "-a" ∷ codes "--append" ∷ []) (Nothing asks.Append) [] (codes "append to the files")
-    ∷ option (codes "-p" ∷ codes "--output-error" ∷ [])
-    (Optional (asks.OnBroken WarnNoPipe) (OnBroken calling)) (codes "MODE")
-    (codes "go on (warn) or exit once an output is broken")
+    option ("-a" ∷ "--append" ∷ []) (Nothing asks.Append) "" "append to the files"
+    ∷ option ("-p" ∷ "--output-error" ∷ []) (Optional (asks.OnBroken WarnNoPipe) (OnBroken calling)) "MODE"
+    "go on (warn) or exit once an output is broken"
     ∷ help_row ∷ version_row ∷ []
 
 -- The tools. A hyphen and digits as the first word count lines for `head`, `tail` and `split`; for `head` and `tail`
 -- letters may follow the digits.
 unfoldable pub tools : Calling → List ToolRow
 tools calling =
-    record {
-      name = codes "head";
-      tool = Head;
-      options = head_table;
-      number = Some (Amount Lines, OfHead);
-      operands = codes "[FILE]...";
-      does = codes "writes the first lines or bytes of files";
-    }
-    ∷ record {
-      name = codes "tail";
-      tool = Tail;
-      options = tail_table calling;
-      number = Some (Amount Lines, OfTail);
-      operands = codes "[FILE]...";
-      does = codes "writes the last lines or bytes, follows files";
-    }
-    ∷ record {
-      name = codes "split";
-      tool = Split;
-      options = split_table;
-      number = Some (LinesEach, NoLetters);
-      operands = codes "[FILE [PREFIX]]";
-      does = codes "cuts a file into pieces";
-    }
-    ∷ record {
-      name = codes "csplit";
-      tool = Csplit;
-      options = csplit_table;
-      number = None;
-      operands = codes "FILE OPERAND...";
-      does = codes "cuts a file at patterns and line numbers";
-    }
-    ∷ record {
-      name = codes "tee";
-      tool = Tee;
-      options = tee_table calling;
-      number = None;
-      operands = codes "[FILE]...";
-      does = codes "copies its input to standard output and files";
-    } ∷ []
+    tool_row "head" Head head_table (Some (Amount Lines, OfHead)) "[FILE]..." "writes the first lines or bytes of files"
+    ∷ tool_row "tail" Tail (tail_table calling) (Some (Amount Lines, OfTail)) "[FILE]..."
+    "writes the last lines or bytes, follows files"
+    ∷ tool_row "split" Split split_table (Some (LinesEach, NoLetters)) "[FILE [PREFIX]]" "cuts a file into pieces"
+    ∷ tool_row "csplit" Csplit csplit_table None "FILE OPERAND..." "cuts a file at patterns and line numbers"
+    ∷ tool_row "tee" Tee (tee_table calling) None "[FILE]..." "copies its input to standard output and files"
+    ∷ []
 
 -- a row of the table that the code walks, as one of these
 
@@ -230,21 +189,18 @@ tool_seen row = record {
 }
 
 -- the tool of this name in a table
-abbrev pub row_named : List ToolRow → List ℕ → Option ToolRow
-row_named [] name = None
-row_named (row ∷ rows) name = if bytes_eq row.name name then Some row else row_named rows name
+abbrev pub row_named : List ToolRow → (name : List ℕ) → Option ToolRow
+row_named rows name = find (λ row. bytes_eq row.name name) rows
 
-abbrev pub is_among : List (List ℕ) → List ℕ → Bool
-is_among [] name = false
-is_among (known ∷ names) name = if bytes_eq known name then true else is_among names name
+abbrev pub is_among : (names : List (List ℕ)) → (name : List ℕ) → Bool
+is_among names name = list_any (λ known. bytes_eq known name) names
 
 -- what the option of this name in a tool's table takes and asks for
-abbrev pub option_named : List OptionRow → List ℕ → Option Takes
-option_named [] name = None
-option_named (row ∷ rows) name = if is_among row.names name then Some row.takes else option_named rows name
+abbrev pub option_named : List OptionRow → (name : List ℕ) → Option Takes
+option_named rows name = option_map (λ row. row.takes) (find (λ row. is_among row.names name) rows)
 
 -- the option of this letter; letters are ASCII, and 45 is a hyphen
-abbrev pub option_lettered : List OptionRow → ℕ → Option Takes
+abbrev pub option_lettered : List OptionRow → (letter : ℕ) → Option Takes
 option_lettered rows letter = if nat_lt letter 128 then option_named rows (45 ∷ letter ∷ []) else None
 
 -- what an option asks for that may stand without a value, among letters too
@@ -256,13 +212,12 @@ alone takes = None
 -- A long name may be cut short, where all names that begin so are names of one option.
 
 -- whether one of these names begins so
-abbrev pub begins_one : List ℕ → List (List ℕ) → Bool
-begins_one start [] = false
-begins_one start (name ∷ names) = if starts_with eqb name start then true else begins_one start names
+abbrev pub begins_one : (names : List (List ℕ)) → (start : List ℕ) → Bool
+begins_one names start = list_any (λ name. starts_with eqb name start) names
 
 -- the options of which a name begins so
-abbrev pub beginning : List ℕ → List OptionRow → List OptionRow
-beginning start rows = filter (λ row. begins_one start row.names) rows
+abbrev pub beginning : List OptionRow → (start : List ℕ) → List OptionRow
+beginning rows start = filter (λ row. begins_one row.names start) rows
 
 -- the only one of these options
 abbrev pub only_one : List OptionRow → Result Takes UsageKind
@@ -270,11 +225,6 @@ only_one [] = Err UnknownOption
 only_one (row ∷ []) = Ok row.takes
 only_one (row ∷ other ∷ rows) = Err AmbiguousOption
 
--- what was found by a name in full, or else by one that is cut short
-abbrev pub full_or : {A E : Type 0} → Option A → Result A E → Result A E
-full_or (Some found) short = Ok found
-full_or None short = short
-
--- the option of this long name, or else the only one of which a name begins so
-abbrev pub option_called : List OptionRow → List ℕ → Result Takes UsageKind
-option_called rows name = full_or (option_named rows name) (only_one (beginning name rows))
+-- the option of this long name in full, or else the only one of which a name begins so
+abbrev pub option_called : List OptionRow → (name : List ℕ) → Result Takes UsageKind
+option_called rows name = option_map_or (λ takes. Ok takes) (option_named rows name) (only_one (beginning rows name))

@@ -1,19 +1,8 @@
 -- What the value of an option says, or what is wrong with it. A value that isn't of its form is told before one that is
 -- too large, and that before 0.
-use Rattle.std.specs.{
-  Prelude.{ℕ, ◌+◌, ◌-◌, ◌*◌, ◌/◌, ◌^◌, ◌==◌, ◌&&◌, Bool, nat_lt, nat_le, min, codes, length, List, [], ◌∷◌},
-  Prelude.{Option, Some, None, Result, Ok, Err, if◌then◌else◌, bytes_eq, eqb, filter, ok_or},
-  Char.{is_ascii_digit, is_digit},
-  List.{list_all, list_any, starts_with},
-  Option.option_or,
-  Str.Parse.digits_value,
-}
+use Rattle.std.specs.{Prelude.{ℕ, ◌+◌, ◌-◌, ◌*◌, ◌/◌, ◌^◌, ◌==◌, ◌&&◌, Bool, nat_lt, min, codes, length, List, [], ◌∷◌}, Prelude.{Option, Some, None, Result, Ok, Err, if◌then◌else◌, bytes_eq, eqb, filter, find, ok_or, option_map}, Char.{is_ascii_digit, is_digit}, List.{list_all, list_any, starts_with}, Option.option_or, Str.Parse.digits_value}
 use Rattle.seg_core.specs.Count.{after_digits, count_of, digits_of, leading_digits, value_of}
-use Rattle.ports_core.specs.declared.{
-  calling.Calling.{Calling, TheVariants.{Cutters, OwnName}},
-  on_broken.OnBroken.OnBroken,
-  fault.UsageKind.{UsageKind, TheVariants.{BadNumber, NumberTooLarge, BadSeparator, BadSuffix, BadFollow, BadMode}},
-}
+use Rattle.ports_core.specs.declared.{calling.Calling.{Calling, TheVariants.{Cutters, OwnName}}, on_broken.OnBroken.OnBroken, fault.UsageKind.{UsageKind, TheVariants.{BadNumber, BadSeparator, BadSuffix, BadFollow, BadMode}}}
 pub use Rattle.words_core.specs.Number.{counted, not_zero, number_fault, then_check, up_to}
 use Rattle.words_core.specs.declared.value.Followed.{Followed}
 use Rattle.ports_core.specs.declared.on_broken.OnBroken.TheVariants as on_broken
@@ -25,9 +14,7 @@ abbrev pub is_hex : ℕ → Bool
 is_hex byte = is_digit byte 16
 
 abbrev pub hex_in : List ℕ → Result ℕ UsageKind
-hex_in text =
-    if nat_lt 0 (length text) && list_all is_hex text
-    then (if nat_le (digits_value 16 text) (2 ^ 63 - 1) then Ok (digits_value 16 text) else Err NumberTooLarge)
+hex_in text = if nat_lt 0 (length text) && list_all is_hex text then up_to (2 ^ 63 - 1) (Ok (digits_value 16 text))
     else Err BadNumber
 
 abbrev pub some_amount : List ℕ → Result ℕ UsageKind
@@ -50,27 +37,22 @@ ending_in text = if list_any (λ byte. byte == 47) text then Err BadSuffix else 
 -- One of a few values, by its text. By a tool's own name the text may be cut short, where one value alone begins so.
 
 -- the value of this text
-abbrev pub value_in : {A : Type 0} → List (List ℕ × A) → List ℕ → Option A
-value_in [] text = None
-value_in (value ∷ values) text = if bytes_eq value.0 text then Some value.1 else value_in values text
+abbrev pub value_in : {A : Type 0} → List (List ℕ × A) → (text : List ℕ) → Option A
+value_in values text = option_map (λ value. value.1) (find (λ value. bytes_eq value.0 text) values)
 
 -- the values that begin so
-abbrev pub values_from : {A : Type 0} → List ℕ → List (List ℕ × A) → List (List ℕ × A)
-values_from start values = filter (λ value. starts_with eqb value.0 start) values
+abbrev pub values_from : {A : Type 0} → List (List ℕ × A) → (start : List ℕ) → List (List ℕ × A)
+values_from values start = filter (λ value. starts_with eqb value.0 start) values
 
 -- the only one of these values
 abbrev pub only_value : {A : Type 0} → List (List ℕ × A) → Option A
 only_value (value ∷ []) = Some value.1
 only_value values = None
 
--- the value that is cut short to this text
-abbrev pub beginning_in : {A : Type 0} → Calling → List (List ℕ × A) → List ℕ → Option A
-beginning_in Cutters values text = None
-beginning_in OwnName values text = only_value (values_from text values)
-
--- the value of this text, or else the one that is cut short to it
-abbrev pub value_by : {A : Type 0} → Calling → List (List ℕ × A) → List ℕ → Option A
-value_by calling values text = option_or (value_in values text) (beginning_in calling values text)
+-- the value of this text, or else by the own name the one that is cut short to it
+abbrev pub value_by : {A : Type 0} → Calling → List (List ℕ × A) → (text : List ℕ) → Option A
+value_by Cutters values text = value_in values text
+value_by OwnName values text = option_or (value_in values text) (only_value (values_from values text))
 
 -- what is followed
 

@@ -1,7 +1,8 @@
 -- What a list of words asks for, by how the program was called. The first word is the tool's name, and is word 0.
 use Rattle.std.specs.{
-  Prelude.{ℕ, ◌-◌, ◌^◌, Bool, true, false, List, [], ◌∷◌, Option, Some, None, option_map, Result, Ok, Err},
-  Prelude.{◌&&◌, ◌||◌, length, nat_lt},
+  Option.option_or,
+  Prelude.{ℕ, ◌-◌, ◌^◌, Bool, false, List, [], ◌∷◌, Option, Some, None, option_map, Result, Ok, Err},
+  Prelude.{◌&&◌, ◌||◌, is_some, length, nat_lt},
 }
 use Rattle.ports_core.specs.declared.{
   calling.Calling.{Calling, TheVariants.{Cutters, OwnName}},
@@ -47,13 +48,9 @@ abbrev pub topic_of : Choice → Option Topic
 topic_of (choice.About topic) = Some topic
 topic_of choice = None
 
-abbrev pub or_later : Option Topic → Option Topic → Option Topic
-or_later (Some topic) later = Some topic
-or_later None later = later
-
 abbrev pub topic_in : List Chosen → Option Topic
 topic_in [] = None
-topic_in (option ∷ options) = or_later (topic_of option.choice) (topic_in options)
+topic_in (option ∷ options) = option_or (topic_of option.choice) (topic_in options)
 
 abbrev pub about_or : Tool → Option Topic → Result Settings Fault → Result Settings Fault
 about_or tool (Some topic) work = Ok (About tool topic)
@@ -84,20 +81,16 @@ abbrev pub settings_of : Calling → List (List ℕ) → Result Settings Fault
 settings_of calling [] = Err (Usage MissingTool 0)
 settings_of calling (name ∷ words) = tool_settings calling name words (row_named (tools calling) name)
 
-abbrev pub is_followed : {A : Type 0} → Option A → Bool
-is_followed None = false
-is_followed (Some followed) = true
-
 -- Whether inputs are followed, where `fed` says whether standard input is a file that can be watched. Where there are
 -- several, and it is one of them and can't be followed, the words are refused for that.
 abbrev pub follows : Calling → (fed : Bool) → Settings → Bool
 follows calling fed (Tail asked) =
-    is_followed asked.followed && (nat_lt 1 (length asked.ends.names) || is_followed (followed_by calling fed asked))
+    is_some asked.followed && (nat_lt 1 (length asked.ends.names) || is_some (followed_by calling fed asked))
 follows calling fed settings = false
 
 -- whether it matters if standard input is a file that can be watched
 abbrev pub asks_input : Calling → Settings → Bool
-asks_input OwnName (Tail asked) = is_followed asked.followed && has_dash asked.ends.names
+asks_input OwnName (Tail asked) = is_some asked.followed && has_dash asked.ends.names
 asks_input calling settings = false
 
 -- how often inputs are looked at where they are followed
@@ -117,9 +110,5 @@ HasOperands settings = Unit {0}
 
 -- what the settings ask for can be done
 abbrev pub CanRun : Settings → Type 0
-CanRun (Head asked) = Unit {0}
-CanRun (Tail asked) = Unit {0}
 CanRun (Split asked) = CanSplit asked
-CanRun (Csplit asked) = Unit {0}
-CanRun (Tee asked) = Unit {0}
-CanRun (About tool topic) = Unit {0}
+CanRun settings = Unit {0}

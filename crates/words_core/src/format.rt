@@ -158,7 +158,7 @@ fn base_of(letter: u8) -> Option<Base>
 
 /// The form that flags, a width, a precision and a base give. None if they don't go together.
 fn form_of(flags: &[u8], width: u64, precision: Option<u64>, base: Base) -> Option<Form>
-    ensures { result ≡ form_of flags.now width precision (Some base) }
+    ensures { result ≡ form_of flags.now width precision base }
 {
     let digits = precision.unwrap_or(1);
     if !go_with(base, flags) || width > WIDEST || digits > WIDEST {

@@ -1,7 +1,7 @@
 //! The texts of help and of the version. Help is made from the rows of the table, so it has what the tools take.
-ghost use Rattle.std.specs.Prelude.{◌≡◌, ◌++◌, drop, length, map, IfOk, IfErr, codes};
+ghost use Rattle.std.specs.Prelude.{◌≡◌, ◌++◌, drop, flat_map, length, map, IfOk, IfErr, codes};
 ghost use Rattle.words_core.specs.{
-  Help.{after_name, help_of, line, listed, option_line, option_lines, program_help, text_about, tool_help, tool_lines},
+  Help.{after_name, help_of, line, listed, option_line, program_help, text_about, tool_help, tool_line},
   Help.{value_listed, version_of},
   Table.{row_seen, tool_seen},
 };
@@ -95,7 +95,7 @@ fn program_help(alloc: Global) -> Result<Vec<u8>, AllocError>
 
 /// Writes a line for each tool.
 fn write_tools(text: &mut Vec<u8>, rows: &[ToolRow]) -> Result<(), AllocError>
-    ensures { IfOk result (λ _. text.new.items ≡ text.old.items ++ tool_lines (map tool_seen rows.now)) }
+    ensures { IfOk result (λ _. text.new.items ≡ text.old.items ++ flat_map tool_line (map tool_seen rows.now)) }
 {
     for row in rows {
         write_line(text, row.name.as_bytes(), row.does.as_bytes())?;
@@ -105,7 +105,7 @@ fn write_tools(text: &mut Vec<u8>, rows: &[ToolRow]) -> Result<(), AllocError>
 
 /// Writes a line for each option.
 fn write_options(alloc: Global, text: &mut Vec<u8>, rows: &[OptionRow]) -> Result<(), AllocError>
-    ensures { IfOk result (λ _. text.new.items ≡ text.old.items ++ option_lines (map row_seen rows.now)) }
+    ensures { IfOk result (λ _. text.new.items ≡ text.old.items ++ flat_map option_line (map row_seen rows.now)) }
 {
     for row in rows {
         write_option(alloc, text, row)?;

@@ -11,27 +11,28 @@ ghost use Rattle.ports_core.specs.declared.fault.UsageKind.{
 ghost use Rattle.words_core.specs.{
   declared.{
     spelling.State.TheVariants.Reading,
-    format.Format.Format as Written,
     table.Letters.TheVariants.{OfHead, OfTail},
   },
   Called.{IsCalled, calling_of, words_of},
-  Given.{Given, asked_by, GivenOperand, bare, one_operand, one_option},
+  Given.{Given, asked_by, one_operand, one_option},
   Division.{division_in, way_of_division},
-  Choice.choice_in,
+  Choice.{choice_in, seen},
   CsplitWords.{chosen_by, decimal_form, style_of},
-  Format.{Format, format_in},
+  Format.format_in,
+  Laws.{AskTheSame, GivesBefore, IsOrdinary, MayHave, MeansLetters, NamesFiles, Numbered, RefusedToFollow, Start},
+  Laws.{first_state, spelled_from},
   Laws.{AreAlike, AreAmong, AreNames, CsplitAsks, EndsAsk, FollowAsks, Gives, HasLetters, IsLetter, IsLong, IsParted},
   Laws.{IsNumberWithLetters, IsSwitch, IsTold, LastDecides, LeaveTheRest, MeanTheSame, NumberAsks, OnBrokenAsks},
   Laws.{AreCutShort, RefusedAsShort, RefusedBut, SplitAsks, StartAsks, TeeAsks, amount_of, appends, as_operands},
   Laws.{as_wide, begin_with_start, by_own_name, counts, counts_looks, counts_pause, drops_sizes, elides_files},
   Laws.{ends_with_zero, following, fresh_file, gives_ending},
-  Laws.{gives_format, has, heads, how_many, is_plain, keeps_files, kind_of, leave_open, leaves_lines_out, names_prefix},
+  Laws.{gives_format, has, heads, is_plain, keeps_files, leave_open, leaves_lines_out, names_prefix},
   Laws.{names_process, plain_style, retries, says_followed, says_on_broken, separates, spells, tells_of_files},
   Laws.{ten_of_input, thousands, widens},
   EndsWords.{ends_of, ten_lines},
-  Lettered.{is_lettered, is_start, others, unit_in},
+  Lettered.{is_lettered, is_start, unit_in, unit_of},
   SplitWords.{SplitAsked, is_way, least_width, split_asked, split_of, way_in, way_of, separator_in},
-  Spelling.{cluster, counted_with, given_before, mixed, onward, spelled, with_letters},
+  Spelling.{count_and_options, given_before, mixed, onward, spelled, with_letters},
   Table.{OptionRow, alone, beginning, begins_one, head_table, option_called, option_named, tail_table, tools},
   TailWords.{retry_by, tail_of, unfollowed},
   TeeWords.{tee_asked, tee_of},
@@ -44,6 +45,7 @@ ghost use Rattle.seg_core.specs.{
 
 use crate::choice::{Choice, Kind};
 use crate::division::Division;
+use crate::format::Format;
 use crate::settings::{Headers, Settings, Topic};
 use crate::spelled::Chosen;
 use crate::spelling::State;
@@ -107,11 +109,10 @@ pub fn last_of_csplit_decides()
     ensures digits { LastDecides widens (λ options. (chosen_by options).digits) 2 }
     ensures format { LastDecides gives_format (λ options. (chosen_by options).format) None }
     ensures plain { (options : List Chosen) → (chosen_by options).format ≡ None
-        → ((style_of options).prefix ≡ (chosen_by options).prefix.now)
-        × ((style_of options).form ≡ decimal_form (chosen_by options).digits) × ((style_of options).ending ≡ []) }
-    ensures formatted { (options : List Chosen) (format : Written) → (chosen_by options).format ≡ Some format
-        → ((style_of options).prefix ≡ (chosen_by options).prefix.now ++ format.before.now)
-        × ((style_of options).form ≡ format.form) × ((style_of options).ending ≡ format.after.now) }
+        → NamesFiles (style_of options) (chosen_by options).prefix.now (decimal_form (chosen_by options).digits) [] }
+    ensures formatted { (options : List Chosen) (format : Format) → (chosen_by options).format ≡ Some format
+        → NamesFiles (style_of options) ((chosen_by options).prefix.now ++ format.before.now) format.form
+        format.after.now }
 {}
 
 /// If several options of `tee` say what is done once an output is broken, the last decides, as if it stood alone,
@@ -127,12 +128,8 @@ pub fn last_of_tee_decides()
 /// An option that is taken without effect, with or without a value, changes nothing: the other options ask for what
 /// they ask for without it. Such options are `-u` of `split` and `--max-unchanged-stats` of `tail`.
 pub fn some_have_no_effect()
-    ensures { (calling : Calling) (tool : Tool) (before after : List Chosen) (word : ℕ) (operands : List GivenOperand)
-        → settings_for calling tool
-        (record {
-          options = before ++ record { choice = Choice.NoEffect; word = word } ∷ after;
-          operands = operands;
-        }) ≡ settings_for calling tool (record { options = before ++ after; operands = operands }) }
+    ensures { (before after : List Chosen) (word : ℕ)
+        → AskTheSame (before ++ record { choice = Choice.NoEffect; word = word } ∷ after) (before ++ after) }
 {}
 
 /// What an option without a value asks for is asked for exactly if the option is given, wherever it stands and however
@@ -184,12 +181,12 @@ pub fn beginnings_are_of_one_option()
         → option_named rows name ≡ Some option → option_called rows name ≡ Ok option }
     ensures one { (rows : List OptionRow) (name : List ℕ) (option : Takes) → option_named rows name ≡ None
         → (option_called rows name ≡ Ok option)
-        ↔ ((row : OptionRow) × (beginning name rows ≡ row ∷ []) × (row.takes ≡ option)) }
+        ↔ ((row : OptionRow) × (beginning rows name ≡ row ∷ []) × (row.takes ≡ option)) }
     ensures several { (rows : List OptionRow) (name : List ℕ) → (option_called rows name ≡ Err AmbiguousOption)
-        ↔ ((option_named rows name ≡ None) × (2 ≤ length (beginning name rows))) }
+        ↔ ((option_named rows name ≡ None) × (2 ≤ length (beginning rows name))) }
     ensures unknown { (rows : List OptionRow) (name : List ℕ) → (option_called rows name ≡ Err UnknownOption)
-        ↔ ((option_named rows name ≡ None) × (beginning name rows ≡ [])) }
-    ensures begins { (row : OptionRow) (start : List ℕ) → (begins_one start row.names ≡ true)
+        ↔ ((option_named rows name ≡ None) × (beginning rows name ≡ [])) }
+    ensures begins { (row : OptionRow) (start : List ℕ) → (begins_one row.names start ≡ true)
         ↔ ((rest : List ℕ) × Contains row.names (start ++ rest)) }
     ensures told { (rows : List OptionRow) (name : List ℕ) (kind : UsageKind) (words : List (List ℕ)) (place : ℕ)
         → IsLong rows name (Err kind)
@@ -210,22 +207,17 @@ pub fn names_mean_the_same()
 /// XBD 12.1; GNU's long options).
 pub fn values_are_spelled_alike()
     ensures attached { (rows : List OptionRow) (letter : ℕ) (kind : Kind) (value : List ℕ) (choice : Choice)
-        (words : List (List ℕ)) (place : ℕ) → IsLetter rows letter kind → value ≢ [] → choice_in kind value ≡ Ok choice
-        → Gives rows ((codes "-" ++ letter ∷ value) ∷ words) place choice (spelled rows words (place + 1) Reading) }
+        → IsLetter rows letter kind → value ≢ [] → choice_in kind value ≡ Ok choice
+        → Gives rows Reading ((codes "-" ++ letter ∷ value) ∷ []) choice }
     ensures after_letter { (rows : List OptionRow) (letter : ℕ) (kind : Kind) (value : List ℕ) (choice : Choice)
-        (words : List (List ℕ)) (place : ℕ) → IsLetter rows letter kind → choice_in kind value ≡ Ok choice
-        → Gives rows ((codes "-" ++ letter ∷ []) ∷ value ∷ words) place choice
-        (spelled rows words (place + 1 + 1) Reading) }
-    ensures after_equals { (rows : List OptionRow) (name : List ℕ) (takes : Takes) (kind : Kind) (value : List ℕ)
-        (choice : Choice) (words : List (List ℕ)) (place : ℕ) → IsLong rows name (Ok takes) → kind_of takes ≡ Some kind
-        → choice_in kind value ≡ Ok choice
-        → Gives rows ((codes "--" ++ (name ++ (codes "=" ++ value))) ∷ words) place choice
-        (spelled rows words (place + 1) Reading) }
+        → IsLetter rows letter kind → choice_in kind value ≡ Ok choice
+        → Gives rows Reading ((codes "-" ++ letter ∷ []) ∷ value ∷ []) choice }
+    ensures after_equals { (rows : List OptionRow) (name : List ℕ) (takes : Takes) (value : List ℕ) (choice : Choice)
+        → IsLong rows name (Ok takes) → MayHave takes value choice
+        → Gives rows Reading ((codes "--" ++ (name ++ (codes "=" ++ value))) ∷ []) choice }
     ensures after_name { (rows : List OptionRow) (name : List ℕ) (kind : Kind) (value : List ℕ) (choice : Choice)
-        (words : List (List ℕ)) (place : ℕ) → IsLong rows name (Ok (Takes.Value kind))
-        → choice_in kind value ≡ Ok choice
-        → Gives rows ((codes "--" ++ name) ∷ value ∷ words) place choice
-        (spelled rows words (place + 1 + 1) Reading) }
+        → IsLong rows name (Ok (Takes.Value kind)) → choice_in kind value ≡ Ok choice
+        → Gives rows Reading ((codes "--" ++ name) ∷ value ∷ []) choice }
 {}
 
 /// Letters in one word spell what they spell apart (POSIX.1-2017, XBD 12.2, guideline 5). A letter that takes no value
@@ -233,16 +225,13 @@ pub fn values_are_spelled_alike()
 /// hyphen; if not, the next words are read. A long name without a value gives its option in the same way.
 pub fn letters_stand_together()
     ensures together { (rows : List OptionRow) (letter next : ℕ) (choice : Choice) (rest : List ℕ)
-        (words : List (List ℕ)) (place : ℕ) → IsSwitch rows letter choice → next ≢ 45
-        → spelled rows ((codes "-" ++ letter ∷ next ∷ rest) ∷ words) place Reading
-        ≡ given_before (bare choice place) (spelled rows ((codes "-" ++ next ∷ rest) ∷ words) place Reading) }
-    ensures apart { (rows : List OptionRow) (letter : ℕ) (choice : Choice) (words : List (List ℕ)) (place : ℕ)
-        → IsSwitch rows letter choice → spelled rows ((codes "-" ++ letter ∷ []) ∷ words) place Reading
-        ≡ given_before (bare choice place) (spelled rows words (place + 1) Reading) }
-    ensures long { (rows : List OptionRow) (name : List ℕ) (takes : Takes) (choice : Choice) (words : List (List ℕ))
-        (place : ℕ) → IsLong rows name (Ok takes) → alone takes ≡ Some choice
-        → spelled rows ((codes "--" ++ name) ∷ words) place Reading
-        ≡ given_before (bare choice place) (spelled rows words (place + 1) Reading) }
+        → IsSwitch rows letter choice → next ≢ 45
+        → GivesBefore rows (codes "-" ++ letter ∷ next ∷ rest) (codes "-" ++ next ∷ rest) (seen choice) }
+    ensures apart { (rows : List OptionRow) (letter : ℕ) (choice : Choice) → IsSwitch rows letter choice
+        → Gives rows Reading ((codes "-" ++ letter ∷ []) ∷ []) (seen choice) }
+    ensures long { (rows : List OptionRow) (name : List ℕ) (takes : Takes) (choice : Choice)
+        → IsLong rows name (Ok takes) → alone takes ≡ Some choice
+        → Gives rows Reading ((codes "--" ++ name) ∷ []) (seen choice) }
 {}
 
 /// Options and operands may mix. A word that doesn't begin with a hyphen, or is a hyphen alone, is an operand wherever
@@ -258,12 +247,12 @@ pub fn operands_may_mix()
 /// reported whatever follows them, except a missing value, which is missing only if no word follows. If the first words
 /// have no fault, the fault stands after them.
 pub fn leftmost_fault_decides()
-    ensures decides { (rows : List OptionRow) (first more : List (List ℕ)) (place : ℕ) (state : State)
-        (kind : UsageKind) (word : ℕ) → spelled rows first place state ≡ Err (Fault.Usage kind word)
-        → kind ≢ MissingValue → spelled rows (first ++ more) place state ≡ Err (Fault.Usage kind word) }
-    ensures later { (rows : List OptionRow) (first more : List (List ℕ)) (place : ℕ) (state : State) (given : Given)
-        (kind : UsageKind) (word : ℕ) → spelled rows first place state ≡ Ok given
-        → spelled rows (first ++ more) place state ≡ Err (Fault.Usage kind word) → place + length first ≤ word }
+    ensures decides { (start : Start) (first more : List (List ℕ)) (kind : UsageKind) (word : ℕ)
+        → spelled_from start first ≡ Err (Fault.Usage kind word) → kind ≢ MissingValue
+        → spelled_from start (first ++ more) ≡ Err (Fault.Usage kind word) }
+    ensures later { (start : Start) (first more : List (List ℕ)) (given : Given) (kind : UsageKind) (word : ℕ)
+        → spelled_from start first ≡ Ok given → spelled_from start (first ++ more) ≡ Err (Fault.Usage kind word)
+        → start.place + length first ≤ word }
 {}
 
 /// Words are read from the left, and what a word means depends only on the words before it. An option such as `--help`
@@ -271,8 +260,7 @@ pub fn leftmost_fault_decides()
 /// words aren't checked together.
 #[tactic(auto, unfolding(crate::specs::Spelling::foremost, crate::specs::Table::tools))]
 pub fn reading_ends()
-    ensures left { (rows : List OptionRow) (first : List (List ℕ)) (place : ℕ) (state : State)
-        → LeaveTheRest rows first place state }
+    ensures left { (start : Start) (first : List (List ℕ)) → LeaveTheRest start first }
     ensures last { (rows : List OptionRow) (name : List ℕ) (topic : Topic) (words : List (List ℕ)) (place : ℕ)
         → IsLong rows name (Ok (Takes.Last topic))
         → spelled rows ((codes "--" ++ name) ∷ words) place Reading ≡ Ok (one_option (Choice.About topic) place) }
@@ -288,8 +276,8 @@ pub fn reading_ends()
 
 /// The operands are some of the words, in their order, each with its place.
 pub fn operands_keep_their_order()
-    ensures { (rows : List OptionRow) (words : List (List ℕ)) (place : ℕ) (state : State) (given : Given)
-        → spelled rows words place state ≡ Ok given → AreAmong given.operands place words }
+    ensures { (start : Start) (words : List (List ℕ)) (given : Given) → spelled_from start words ≡ Ok given
+        → AreAmong given.operands start.place words }
 {}
 
 /// Three kinds of first words are read in another way than other words: a hyphen and digits, a hyphen and a number with
@@ -297,24 +285,16 @@ pub fn operands_keep_their_order()
 /// tool has for a number, with the digits as its value. The others give what a number with letters asks for.
 #[tactic(auto, unfolding(crate::specs::Spelling::foremost))]
 pub fn number_comes_first()
-    ensures other { (calling : Calling) (rows : List OptionRow) (kind : Kind) (letters : Letters) (byte : ℕ)
-        (rest : List ℕ) (words : List (List ℕ)) (place : ℕ) → is_number rest ≡ false
-        → is_lettered rows letters rest ≡ false → (byte ≡ 43 → is_start calling rows letters rest ≡ false)
-        → spelled rows ((byte ∷ rest) ∷ words) place (State.First calling kind letters)
-        ≡ spelled rows ((byte ∷ rest) ∷ words) place Reading }
-    ensures number { (calling : Calling) (rows : List OptionRow) (kind : Kind) (letters : Letters) (digits : List ℕ)
-        (choice : Choice) (words : List (List ℕ)) (place : ℕ) → is_number digits ≡ true
-        → choice_in kind digits ≡ Ok choice
-        → spelled rows ((codes "-" ++ digits) ∷ words) place (State.First calling kind letters)
-        ≡ given_before (one_option choice place) (spelled rows words (place + 1) Reading) }
-    ensures letters { (calling : Calling) (rows : List OptionRow) (kind : Kind) (letters : Letters) (text : List ℕ)
-        (words : List (List ℕ)) (place : ℕ) → is_number text ≡ false → is_lettered rows letters text ≡ true
-        → spelled rows ((codes "-" ++ text) ∷ words) place (State.First calling kind letters)
-        ≡ onward (spelled rows words (place + 1)) (with_letters rows Sign.Plain place text) }
-    ensures start { (calling : Calling) (rows : List OptionRow) (kind : Kind) (letters : Letters) (text : List ℕ)
-        (words : List (List ℕ)) (place : ℕ) → is_start calling rows letters text ≡ true
-        → spelled rows ((codes "+" ++ text) ∷ words) place (State.First calling kind letters)
-        ≡ onward (spelled rows words (place + 1)) (with_letters rows Sign.Plus place text) }
+    ensures other { (tool : Numbered) (byte : ℕ) (rest : List ℕ) (words : List (List ℕ)) (place : ℕ)
+        → IsOrdinary tool byte rest → spelled tool.rows ((byte ∷ rest) ∷ words) place (first_state tool)
+        ≡ spelled tool.rows ((byte ∷ rest) ∷ words) place Reading }
+    ensures number { (tool : Numbered) (digits : List ℕ) (choice : Choice) → is_number digits ≡ true
+        → choice_in tool.kind digits ≡ Ok choice
+        → Gives tool.rows (first_state tool) ((codes "-" ++ digits) ∷ []) choice }
+    ensures letters { (tool : Numbered) (text : List ℕ) → is_number text ≡ false
+        → is_lettered tool.rows tool.letters text ≡ true → MeansLetters tool (codes "-" ++ text) Sign.Plain text }
+    ensures start { (tool : Numbered) (text : List ℕ) → is_start tool.calling tool.rows tool.letters text ≡ true
+        → MeansLetters tool (codes "+" ++ text) Sign.Plus text }
 {}
 
 /// A number with letters as the first word, also after a `+`, asks for a count: the number that its digits write, or
@@ -324,9 +304,11 @@ pub fn number_comes_first()
 #[tactic(auto, unfolding(crate::specs::Spelling::foremost, crate::specs::Table::tools))]
 pub fn letters_ask()
     ensures asks { (rows : List OptionRow) (sign : Sign) (text digits letters : List ℕ) (place : ℕ)
-        → IsParted text digits letters → with_letters rows sign place text
-        ≡ counted_with place (unit_in letters).0 (counted (sized sign (how_many digits * (unit_in letters).1)))
-        (cluster rows place (others letters)) }
+        → IsParted text digits letters
+        → with_letters rows sign place text ≡ count_and_options rows sign place digits letters }
+    ensures unit { (rows : List OptionRow) (text digits letters : List ℕ) (letter : ℕ) (unit : Unit × ℕ)
+        → HasLetters rows text digits letters → Contains letters letter → unit_of letter ≡ Some unit
+        → unit_in letters ≡ unit }
     ensures head { (text : List ℕ) → (is_lettered head_table OfHead text ≡ true)
         ↔ ((digits letters : List ℕ) × (digits ≢ []) × HasLetters head_table text digits letters) }
     ensures tail { (calling : Calling) (text : List ℕ) → is_lettered (tail_table calling) OfTail text ≡ true
@@ -364,8 +346,7 @@ pub fn callings_mean_the_same()
     ensures unknown { (name : List ℕ) (words : List (List ℕ)) → tool_named name ≡ None → MeanTheSame (name ∷ words) }
     ensures head { (words : List (List ℕ)) → MeanTheSame (codes "head" ∷ words) }
     ensures tail { (words : List (List ℕ)) → begin_with_start words ≡ false → MeanTheSame (codes "tail" ∷ words)
-        ⊎ ((settings_of Calling.Cutters (codes "tail" ∷ words) ≡ Err (Fault.Usage BadFollow 0))
-        ⊎ RefusedAsShort follow_values BadFollow (codes "tail" ∷ words)) }
+        ⊎ RefusedToFollow (codes "tail" ∷ words) }
     ensures split { (words : List (List ℕ)) → MeanTheSame (codes "split" ∷ words) }
     ensures csplit { (words : List (List ℕ)) → settings_of Calling.OwnName (codes "csplit" ∷ words)
         ≡ by_own_name (settings_of Calling.Cutters (codes "csplit" ∷ words)) }
@@ -550,13 +531,7 @@ pub fn split_options_ask()
 pub fn csplit_options_ask()
     ensures nothing { CsplitAsks [] (record {
       prefix = codes "xx";
-      form = record {
-        base = Base.Decimal;
-        is_marked = false;
-        width = 0;
-        filling = Filling.BlanksBefore;
-        precision = 2;
-      };
+      form = decimal_form 2;
       ending = [];
       keep = false;
       quiet = false;
@@ -569,9 +544,9 @@ pub fn csplit_options_ask()
         → CsplitAsks (codes "-n" ∷ value ∷ []) (record plain_style { form = decimal_form digits }) }
     ensures format { (value : List ℕ) (format : Format) → format_in value ≡ Some format
         → CsplitAsks (codes "-b" ∷ value ∷ []) (record plain_style {
-          prefix = codes "xx" ++ format.before;
+          prefix = codes "xx" ++ format.before.now;
           form = format.form;
-          ending = format.after;
+          ending = format.after.now;
         }) }
     ensures keep { CsplitAsks (codes "-k" ∷ []) (record plain_style { keep = true }) }
     ensures quiet { CsplitAsks (codes "-s" ∷ []) (record plain_style { quiet = true }) }

@@ -573,7 +573,7 @@ pub fn find_called(rows: &[OptionRow], name: &[u8]) -> Result<Takes, UsageKind>
 
 /// What the only option of which a name begins so takes and asks for.
 fn find_only(rows: &[OptionRow], start: &[u8]) -> Result<Takes, UsageKind>
-    ensures { result ≡ only_one (beginning start.now (map row_seen rows.now)) }
+    ensures { result ≡ only_one (beginning (map row_seen rows.now) start.now) }
 {
     match first_beginning(rows, start) {
         None => Err(UsageKind::UnknownOption),
@@ -589,10 +589,10 @@ fn first_beginning<'a>(
     rows: &'a [OptionRow],
     start: &[u8],
 ) -> Option<(&'a OptionRow, &'a [OptionRow])>
-    ensures none { IfNone result (beginning start.now (map row_seen rows.now) ≡ []) }
+    ensures none { IfNone result (beginning (map row_seen rows.now) start.now ≡ []) }
     ensures some { IfSome result
-        (λ found. beginning start.now (map row_seen rows.now)
-        ≡ row_seen found.0.now ∷ beginning start.now (map row_seen found.1.now)) }
+        (λ found. beginning (map row_seen rows.now) start.now
+        ≡ row_seen found.0.now ∷ beginning (map row_seen found.1.now) start.now) }
 {
     let mut left = rows;
     while let [row, rest @ ..] = left {
@@ -606,7 +606,7 @@ fn first_beginning<'a>(
 
 /// Whether one of these names begins so.
 fn begins_one(names: &[&str], start: &[u8]) -> bool
-    ensures { result ≡ begins_one start.now (map (λ known. known.now) names.now) }
+    ensures { result ≡ begins_one (map (λ known. known.now) names.now) start.now }
 {
     for known in names {
         if known.as_bytes().starts_with(start) {

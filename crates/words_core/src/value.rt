@@ -171,7 +171,7 @@ fn value_in<A: Copy>(values: &[(&str, A)], text: &str) -> Option<A>
 
 /// The only value that begins so.
 fn only_value_from<A: Copy>(values: &[(&str, A)], start: &str) -> Option<A>
-    ensures { result ≡ only_value (values_from start.now (map value_seen values.now)) }
+    ensures { result ≡ only_value (values_from (map value_seen values.now) start.now) }
 {
     let (found, rest) = first_value_from(values, start)?;
     match first_value_from(rest, start) {
@@ -185,10 +185,10 @@ fn first_value_from<'a, 'b, A: Copy>(
     values: &'a [(&'b str, A)],
     start: &str,
 ) -> Option<(&'a (&'b str, A), &'a [(&'b str, A)])>
-    ensures none { IfNone result (values_from start.now (map value_seen values.now) ≡ []) }
+    ensures none { IfNone result (values_from (map value_seen values.now) start.now ≡ []) }
     ensures some { IfSome result
-        (λ found. values_from start.now (map value_seen values.now)
-        ≡ value_seen found.0.now ∷ values_from start.now (map value_seen found.1.now)) }
+        (λ found. values_from (map value_seen values.now) start.now
+        ≡ value_seen found.0.now ∷ values_from (map value_seen found.1.now) start.now) }
 {
     let mut left = values;
     while let [value, rest @ ..] = left {

@@ -14,7 +14,7 @@ abbrev pub capped : ℕ → ℕ
 capped count = min count 65536
 
 -- a token was taken: the open groups and the count of the innermost concatenation, before and after it
-abbrev pub Took : Token → List Group → Count → List Group → Count → Type 0
+abbrev pub Took : Token → (groups : List Group) → (count : Count) → (groups' : List Group) → (count' : Count) → Type 0
 Took (Set bytes) groups count groups' count' = (groups' ≡ groups) × (count'.before ≡ capped (count.before + count.last))
     × (count'.last ≡ 1)
 Took Front groups count groups' count' = (groups' ≡ groups) × (count'.before ≡ capped (count.before + count.last))

@@ -6,7 +6,7 @@ use Rattle.scan_core.specs.{
 }
 
 -- a branch is open at a place of a line; the flags say whether the place is the line's first or its last
-abbrev pub Opens : When → Bool → Bool → Type 0
+abbrev pub Opens : When → (at_first at_last : Bool) → Type 0
 Opens Never at_first at_last = ⊥
 Opens AtFront at_first at_last = IsTrue at_first
 Opens AtEnd at_first at_last = IsTrue at_last

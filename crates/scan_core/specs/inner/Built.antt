@@ -10,7 +10,7 @@ use Rattle.scan_core.specs.{
 }
 
 -- every node takes both bytes or neither
-abbrev pub AreAlike : List Node → ℕ → ℕ → Type 0
+abbrev pub AreAlike : List Node → (one other : ℕ) → Type 0
 AreAlike code one other = (number : ℕ) (bytes : List Bool) → At code number (Take bytes)
     → has bytes one ≡ has bytes other
 

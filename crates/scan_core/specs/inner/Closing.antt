@@ -18,7 +18,7 @@ pub record Closer (code : List Node) (hops : Hops) (old new : List ℕ) (over : 
   pub less : (over ≡ 0 → ⊥) → unset new < unset old
 
 -- where this hop leads from a number of `old` is in `new`
-abbrev pub IsFollowed : List ℕ → List ℕ → Hop → Type 0
+abbrev pub IsFollowed : (old new : List ℕ) → Hop → Type 0
 IsFollowed old new hop = (bit : ℕ) → bit < 64 → bit_at hop.from bit ≡ 1 → IsIn old (hop.at * 64 + bit)
     → IsIn new (end_of hop)
 

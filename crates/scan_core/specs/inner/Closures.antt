@@ -18,7 +18,7 @@ abbrev pub IsBase : List Node → List ℕ → Type 0
 IsBase code = IsBegun code false
 
 -- if a number of a word leads out of a set, its bit is 1
-abbrev pub IsLeading : List Node → List ℕ → ℕ → ℕ → Type 0
+abbrev pub IsLeading : List Node → List ℕ → (at word : ℕ) → Type 0
 IsLeading code words at word = (bit : ℕ) (to : ℕ) → bit < 64 → Flows code false false (at * 64 + bit) to
     → (bit_at word bit ≡ 1) ⊎ IsIn words to
 
@@ -28,7 +28,7 @@ IsPlain code from = (at_first at_last : Bool) (to : ℕ) → Flows code at_first
     → Flows code false false from to
 
 -- a step without a byte to a number of the same word
-abbrev pub Stays : List Node → ℕ → ℕ → Type 0
+abbrev pub Stays : List Node → (from to : ℕ) → Type 0
 Stays code from to = Flows code false false from to × (to / 64 ≡ from / 64)
 
 -- `all` has what the chosen numbers of a word lead to within it
@@ -43,7 +43,7 @@ pub record Closes (code : List Node) (at chosen all : ℕ) : Type 0 where
 abbrev pub chosen_at : ℕ → ℕ
 chosen_at place = place % 256 * 2 ^ (place / 256 % 8 * 8) % 2 ^ 64
 
-abbrev pub IsInside : List Node → ℕ → ℕ → Type 0
+abbrev pub IsInside : List Node → (place entry : ℕ) → Type 0
 IsInside code place entry = Closes code (place / 2048) (chosen_at place) entry
 
 pub record AreClosures (code : List Node) (closures : Closures) : Type 0 where

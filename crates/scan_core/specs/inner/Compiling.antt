@@ -36,7 +36,7 @@ abbrev pub Finishes : List Node → List Pending → Compiling → Type 0
 Finishes nodes pending new = FinishesBy (reverse pending) nodes new
 
 -- a duplication begins; if it asks for its item 0 times, the item is passed over
-abbrev pub Begins : ℕ → Option ℕ → Compiling → Compiling → Type 0
+abbrev pub Begins : ℕ → Option ℕ → (old new : Compiling) → Type 0
 Begins low None old new = IsNow (old.nodes.items ++ Back 0 ∷ [])
     (old.pending.items ++ Repeated (record { start = length old.nodes.items; low = low; high = None }) ∷ []) None new
 Begins low (Some zero) old new = IsNow old.nodes.items old.pending.items (Some 0) new
@@ -45,12 +45,12 @@ Begins low (Some (suc high)) old new =
     ++ Repeated (record { start = length old.nodes.items; low = low; high = Some (suc high) }) ∷ []) None new
 
 -- a group is complete
-abbrev pub Closes : Compiling → Compiling → Type 0
+abbrev pub Closes : (old new : Compiling) → Type 0
 Closes old new = (around : List Pending) → old.pending.items ≡ around ++ Group ∷ []
     → Finishes old.nodes.items around new
 
 -- a token that isn't passed over is taken
-abbrev pub Writes : Token → Compiling → Compiling → Type 0
+abbrev pub Writes : Token → (old new : Compiling) → Type 0
 Writes (Set bytes) old new = Finishes (old.nodes.items ++ Take bytes ∷ []) old.pending.items new
 Writes Front old new = Finishes (old.nodes.items ++ First ∷ []) old.pending.items new
 Writes End old new = Finishes (old.nodes.items ++ Last ∷ []) old.pending.items new
@@ -59,16 +59,16 @@ Writes Open old new = Closes old new
 Writes (Repeat low high) old new = Begins low high old new
 
 -- a token that is passed over, and ends the item if no group is open
-abbrev pub PassesLeaf : ℕ → Compiling → Compiling → Type 0
+abbrev pub PassesLeaf : ℕ → (old new : Compiling) → Type 0
 PassesLeaf zero old new = Finishes old.nodes.items old.pending.items new
 PassesLeaf (suc depth) old new = IsNow old.nodes.items old.pending.items (Some (suc depth)) new
 
-abbrev pub PassesOpen : ℕ → Compiling → Compiling → Type 0
+abbrev pub PassesOpen : ℕ → (old new : Compiling) → Type 0
 PassesOpen zero old new = Unit {0}
 PassesOpen (suc depth) old new = PassesLeaf depth old new
 
 -- a token is passed over, of an item of which `depth` groups are open
-abbrev pub Passes : ℕ → Token → Compiling → Compiling → Type 0
+abbrev pub Passes : ℕ → Token → (old new : Compiling) → Type 0
 Passes depth (Set bytes) old new = PassesLeaf depth old new
 Passes depth Front old new = PassesLeaf depth old new
 Passes depth End old new = PassesLeaf depth old new
@@ -76,15 +76,15 @@ Passes depth Close old new = IsNow old.nodes.items old.pending.items (Some (suc 
 Passes depth Open old new = PassesOpen depth old new
 Passes depth (Repeat low high) old new = IsNow old.nodes.items old.pending.items (Some depth) new
 
-abbrev pub TakesIn : Option ℕ → Token → Compiling → Compiling → Type 0
+abbrev pub TakesIn : Option ℕ → Token → (old new : Compiling) → Type 0
 TakesIn None token old new = Writes token old new
 TakesIn (Some depth) token old new = Passes depth token old new
 
-abbrev pub Takes : Compiling → Token → Compiling → Type 0
+abbrev pub Takes : (old : Compiling) → Token → (new : Compiling) → Type 0
 Takes old token new = TakesIn old.passing token old new
 
 -- the tokens are taken from the last to the first
-abbrev pub TakesAll : Compiling → List Token → Compiling → Type 0
+abbrev pub TakesAll : (old : Compiling) → List Token → (new : Compiling) → Type 0
 TakesAll old [] new = old ≡ new
 TakesAll old (token ∷ tokens) new = (now : Compiling) × TakesAll old tokens now × Takes now token new
 
@@ -98,7 +98,7 @@ abbrev pub PopsNone : List Pending → Type 0
 PopsNone pending = (around : List Pending) (duplication : Duplication) → pending ≡ around ++ Repeated duplication ∷ []
     → ⊥
 
-abbrev pub Pops : Compiling → Option Duplication → Compiling → Type 0
+abbrev pub Pops : (old : Compiling) → Option Duplication → (new : Compiling) → Type 0
 Pops old None new = (new ≡ old) × PopsNone old.pending.items
 Pops old (Some duplication) new = (new.nodes.items ≡ old.nodes.items) × (new.passing ≡ old.passing)
     × (old.pending.items ≡ new.pending.items ++ Repeated duplication ∷ [])

@@ -24,12 +24,12 @@ abbrev pub AreHops : List Node → List Hop → Type 0
 AreHops code hops = AreEach no_hop (λ _. IsHop code) (length hops) hops
 
 -- one of the hops leads from a word to a number
-abbrev pub HopsTo : List Hop → ℕ → ℕ → Type 0
+abbrev pub HopsTo : List Hop → (at to : ℕ) → Type 0
 HopsTo hops at to = (place : ℕ) × (place < length hops) × ((slice_index_or hops place no_hop).at ≡ at)
     × (end_of (slice_index_or hops place no_hop) ≡ to)
 
 -- a number is in the word or in every set, or a hop leads from the word to the number
-abbrev pub Meets : List ℕ → List Hop → ℕ → ℕ → Type 0
+abbrev pub Meets : List ℕ → List Hop → (at to : ℕ) → Type 0
 Meets base hops at to = (to / 64 ≡ at) ⊎ (IsIn base to ⊎ HopsTo hops at to)
 
 -- a hop to a number that leads only to what is in every set
@@ -41,7 +41,7 @@ abbrev pub AreLandings : List Node → List ℕ → List Hop → Type 0
 AreLandings code base landings = AreEach no_hop (λ _. IsLanding code base) (length landings) landings
 
 -- a hop of either part leads from a word to a number
-abbrev pub PartsTo : List Hop → List Hop → ℕ → ℕ → Type 0
+abbrev pub PartsTo : (onward landings : List Hop) → (at to : ℕ) → Type 0
 PartsTo onward landings at to = HopsTo onward at to ⊎ HopsTo landings at to
 
 -- all hops, in two parts

@@ -17,10 +17,10 @@ pub record IsOffset (rows : List ℕ) (count state byte offset : ℕ) : Type 0 w
   pub stop : (state < count → count ≤ entry rows state byte) → offset ≡ 6 * count
 
 -- the six bits of a word for a state
-abbrev pub six_bits : ℕ → ℕ → ℕ
+abbrev pub six_bits : (word state : ℕ) → ℕ
 six_bits word state = word / 2 ^ (6 * state) % 64
 
-abbrev pub IsWord : List ℕ → ℕ → ℕ → ℕ → Type 0
+abbrev pub IsWord : List ℕ → (count byte word : ℕ) → Type 0
 IsWord rows count byte word = (state : ℕ) → state ≤ count → IsOffset rows count state byte (six_bits word state)
 
 -- no state has more positions than the largest pattern
@@ -61,6 +61,6 @@ pub record IsStateAt (code : List Node) (table : Table) (line : List ℕ) (place
   pub bound : steps ≤ place * (weight code + 1)
 
 -- the low six bits of a word are the state that the bytes before a place lead to
-abbrev pub IsAt : List Node → ShiftTable → List ℕ → ℕ → ℕ → ℕ → Type 0
+abbrev pub IsAt : List Node → ShiftTable → List ℕ → (place word steps : ℕ) → Type 0
 IsAt code shifts line place word steps = (table : Table) × IsTable code table × IsShifted table shifts
     × ((state : ℕ) × (word % 64 ≡ 6 * state) × IsStateAt code table line place state steps)

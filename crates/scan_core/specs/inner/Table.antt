@@ -11,20 +11,20 @@ use Rattle.scan_core.specs.{
 }
 
 -- a byte leads from a number of a set to this number, or number 0 does, and then steps without a byte
-abbrev pub Next : List Node → ℕ → (ℕ → Type 0) → ℕ → Type 0
+abbrev pub Next : List Node → (byte : ℕ) → (ℕ → Type 0) → (number : ℕ) → Type 0
 Next code byte Set number = (from : ℕ) × (((before : ℕ) × Set before × StepsBy code byte before from) ⊎ (from ≡ 0))
     × FlowsOn code false false from number
 
 -- a number is entered at a place that isn't the line's last
-abbrev pub Inner : List Node → List ℕ → ℕ → ℕ → Type 0
+abbrev pub Inner : List Node → List ℕ → (place number : ℕ) → Type 0
 Inner code line zero number = Reaches code line 0 true false number
 Inner code line (suc place) number = Reaches code line (suc place) false false number
 
-abbrev pub InSets : List (List Bool) → ℕ → ℕ → Type 0
+abbrev pub InSets : List (List Bool) → (state number : ℕ) → Type 0
 InSets sets state number = IsMarked (set_at sets state) number
 
 -- a state's entry for a byte
-abbrev pub entry : List ℕ → ℕ → ℕ → ℕ
+abbrev pub entry : List ℕ → (state byte : ℕ) → ℕ
 entry rows state byte = slice_index_or rows (state * 256 + byte) 0
 
 -- what an entry says of a state's set and a byte is true

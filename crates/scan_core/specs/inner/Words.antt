@@ -19,7 +19,7 @@ abbrev pub width : List Node → ℕ
 width code = length code / 64 + 1
 
 -- the lowest bits of a word as flags
-unfoldable pub bits : ℕ → ℕ → List Bool
+unfoldable pub bits : (count word : ℕ) → List Bool
 bits zero word = []
 bits (suc count) word = (word % 2 == 1) ∷ bits count (word / 2)
 
@@ -64,7 +64,7 @@ IsOf code (Takes byte) number = StepsBy code byte number (number + 1)
 IsOf code Counts number = counted_at code number ≡ 1
 
 -- a word has a bit for each number of a kind
-abbrev pub IsMask : List Node → Kind → ℕ → ℕ → Type 0
+abbrev pub IsMask : List Node → Kind → (at word : ℕ) → Type 0
 IsMask code kind at word = (bit : ℕ) → bit < 64 → (bit_at word bit ≡ 1) ↔ IsOf code kind (at * 64 + bit)
 
 -- for each byte the words of the numbers that take it

@@ -2,8 +2,8 @@
 use Rattle.std.specs.Prelude.{Result, Ok, Err, option_map}
 use Rattle.ports_core.specs.declared.fault.UsageKind.{UsageKind}
 use Rattle.words_core.specs.{
-  Choice.{seen, text, written},
-  Format.format_seen,
+  Choice.seen,
+  Format.{format_seen, text},
   declared.{choice.Choice.Choice, csplit_words.CsplitOptions.CsplitOptions},
 }
 
@@ -14,5 +14,5 @@ seen_in (Err fault) = Err fault
 abbrev pub options_seen : CsplitOptions → CsplitOptions
 options_seen asked = record asked {
   prefix = text asked.prefix.now;
-  format = option_map (λ format. written (format_seen format)) asked.format;
+  format = option_map format_seen asked.format;
 }

@@ -2,7 +2,7 @@
 use Rattle.std.specs.Prelude.{◌≡◌, ℕ, ◌<◌, ◌==◌, List, [], ◌∷◌, ◌++◌, if◌then◌else◌}
 
 -- the rest is what follows an ASCII letter in the text
-abbrev pub AfterLetter : List ℕ → List ℕ → Type 0
+abbrev pub AfterLetter : (text rest : List ℕ) → Type 0
 AfterLetter text rest = (front : List ℕ) × (letter : ℕ) × (letter < 128) × (text ≡ front ++ letter ∷ rest)
 
 -- a text without the `%` (37) at its front, if it has one

@@ -12,6 +12,6 @@ first_letter [] = None
 first_letter (byte ∷ bytes) = if nat_lt byte 128 then Some (byte, bytes) else None
 
 -- a call added what was meant to what was given before, or returned the fault; or memory was refused
-abbrev pub Adds : Result Meaning Fault → Given → Given → Result State Fault → Type 0
+abbrev pub Adds : (meant : Result Meaning Fault) → (old new : Given) → (result : Result State Fault) → Type 0
 Adds meant old new (Ok next) = before old meant ≡ Ok (record { given = new; next = next })
 Adds meant old new (Err fault) = (fault ≡ Memory) ⊎ (before old meant ≡ Err fault)

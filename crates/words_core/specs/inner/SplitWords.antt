@@ -6,7 +6,7 @@ use Rattle.words_core.specs.{declared.spelled.Chosen.Chosen, SplitWords.way_in}
 
 -- The way to split after one more option. A second way is refused, and reported at the word of this option.
 
-abbrev pub way_by : ℕ → Option Way → Option Way → Result (Option Way) Fault
+abbrev pub way_by : (word : ℕ) → (way found : Option Way) → Result (Option Way) Fault
 way_by word way None = Ok way
 way_by word None (Some found) = Ok (Some found)
 way_by word (Some way) (Some found) = Err (Usage TwoWays word)

@@ -10,6 +10,7 @@ returns c = record {
   prefix = last_decides csplit_by (λ asked. asked.prefix.now) (λ a o c. search rules) plain;
   digits = last_decides csplit_by (λ asked. asked.digits) (λ a o c. search rules) plain;
   format = last_decides csplit_by (λ asked. asked.format) (λ a o c. search rules) plain;
-  plain = λ options none. rw none (append-nil (chosen_by options).prefix.now, refl, refl);
-  formatted = λ options format some. rw some (refl, refl, refl);
+  plain = λ options none. rw none
+      (record { begins = append-nil (chosen_by options).prefix.now; number = refl; ends = refl });
+  formatted = λ options format some. rw some (record { begins = refl; number = refl; ends = refl });
 }

@@ -65,6 +65,8 @@ module _ (rows : List OptionRow) (kind : UsageKind) (word : ℕ) where
 
 pub returns : goal.returns
 returns c = record {
-  decides = λ rows first more place state kind word is other. told_whatever_follows first more rows place state word other is;
-  later = λ rows first more place state given kind word. stands_later rows kind word first more place state given;
+  decides = λ start first more kind word is other.
+      told_whatever_follows first more start.rows start.place start.state word other is;
+  later = λ start first more given kind word.
+      stands_later start.rows kind word first more start.place start.state given;
 }

@@ -7,19 +7,19 @@ use Rattle.std.{
       Sums.{AllPass-from_list_all, list_all-from_AllPass, take_while-cons},
     },
   },
-  proofs.Common.{◌≡◌, ◌≢◌, ◌⊎◌, ◌||◌, inl, inr, refl, sym, ◌∙◌, arith, rules, ℕ, Bool, true, false, is_some},
+  proofs.Common.{◌≡◌, ◌≢◌, ◌⊎◌, ◌||◌, inl, inr, refl, sym, ◌∙◌, arith, rules, if◌then◌else◌, ℕ, Bool, true, false, is_some},
   proofs.Math.Bool.or-true,
-  proofs.Common.{◌↔◌, List, [], ◌∷◌, length, Option, Some},
-  specs.{Prelude.{filter, nat_lt}, Char.is_ascii_digit, List.{list_all, prefix_len}},
+  proofs.Common.{◌↔◌, ◌≤◌, zero, suc, ap, List, [], ◌∷◌, length, Option, None, Some},
+  specs.{Prelude.{filter, nat_lt}, Char.is_ascii_digit, List.{Contains, list_all, prefix_len}, Option.unwrap_or},
 }
-use Rattle.seg_core.specs.Count.{after_digits, leading_digits}
+use Rattle.seg_core.specs.{Count.{after_digits, leading_digits}, declared.unit.Unit.Unit as Measured}
 use Rattle.ports_core.specs.declared.calling.Calling.{Calling, TheVariants.OwnName}
 use Rattle.words_core.{
   specs.declared.{choice.Choice.Choice, table.{Takes.Takes}},
   specs.Laws.{HasLetters, IsNumberWithLetters, IsSwitch},
-  specs.Lettered.{are_known, is_known, is_unit, switched},
+  specs.Lettered.{are_known, is_known, is_unit, switched, unit_in, unit_of},
   specs.Table.{OptionRow, alone, head_table, option_lettered, tail_table},
-  proofs.LetteredLemmas.{as_parts},
+  proofs.{LetteredLemmas.{as_parts}, SpellingLemmas.either},
 }
 use Rattle.words_core.specs.declared.table.Takes.TheVariants as takes
 use Rattle.words_core.proofs.laws.letters_ask.Goals as goal
@@ -130,3 +130,33 @@ returns-clause-tail c calling text is = tail_shape calling text (and_parts (are_
 
 pub returns-clause-start : goal.returns-clause-start
 returns-clause-start c text is = tail_shape OwnName text (and_parts (are_known (tail_table OwnName) (after_digits text)) _ is).0
+
+-- The unit is that of the only letter that stands for one.
+
+some_unit : (letters : List ℕ) (letter : ℕ) → Contains letters letter → is_unit letter ≡ true
+    → 1 ≤ length (filter is_unit letters)
+some_unit [] letter (place, within, is) unit = absurd (omega arith)
+some_unit (first ∷ letters) letter (zero, within, is) unit =
+    let same : is_unit first ≡ true = ap is_unit is ∙ unit in rw same (omega arith)
+some_unit (first ∷ letters) letter (suc place, within, is) unit =
+    let more = some_unit letters letter (place, omega arith, is) unit in
+    either (λ found. 1 ≤ length found) (is_unit first) _ _ (omega arith) more
+
+only_unit : (letters : List ℕ) (letter : ℕ) {unit : Measured × ℕ} → length (filter is_unit letters) ≤ 1
+    → Contains letters letter → unit_of letter ≡ Some unit → unit_in letters ≡ unit
+only_unit [] letter few (place, within, is) said = absurd (omega arith)
+only_unit (first ∷ letters) letter few (zero, within, is) said = rw (ap unit_of is ∙ said) refl
+only_unit (first ∷ letters) letter {unit} few (suc place, within, is) said =
+    by (unit_of first) few (λ fewer. only_unit letters letter fewer here said) where
+      here : Contains letters letter
+      here = (place, omega arith, is)
+
+      by : (found : Option (Measured × ℕ))
+          → length (if is_some found then first ∷ filter is_unit letters else filter is_unit letters) ≤ 1
+          → (length (filter is_unit letters) ≤ 1 → unit_in letters ≡ unit) → unwrap_or found (unit_in letters) ≡ unit
+      by None few rest = rest few
+      by (Some other) few rest =
+          let more = some_unit letters letter here (ap is_some said) in absurd (omega arith)
+
+pub returns-clause-unit : goal.returns-clause-unit
+returns-clause-unit c rows text digits letters letter unit has among said = only_unit letters letter has.few among said

@@ -31,7 +31,7 @@ before_both first next (Err fault) = refl
 
 module _ (rows : List OptionRow) where
   leaves : (first : List (List ℕ)) (place : ℕ) (meant : Result Meaning Fault)
-      → ((next : State) → LeaveTheRest rows first (place + 1) next)
+      → ((next : State) → LeaveTheRest (record { rows = rows; place = place + 1; state = next }) first)
       → ((fault : Fault) × ((more : List (List ℕ))
       → onward (spelled rows (first ++ more) (place + 1)) meant ≡ Err fault))
       ⊎ ((given : Given) × (next : State)
@@ -49,7 +49,8 @@ module _ (rows : List OptionRow) where
     )
   ]
 
-  leave_the_rest : (first : List (List ℕ)) (place : ℕ) (state : State) → LeaveTheRest rows first place state
+  leave_the_rest : (first : List (List ℕ)) (place : ℕ) (state : State)
+      → LeaveTheRest (record { rows = rows; place = place; state = state }) first
   leave_the_rest [] place state = inr (
     nothing,
     state,
@@ -73,7 +74,7 @@ last_ends rows name topic words place is = rw (long_name name place is, nothing_
 pub returns : goal.returns
 unfolding tools foremost program_table
 returns c = record {
-  left = leave_the_rest;
+  left = λ start first. leave_the_rest start.rows first start.place start.state;
   last = last_ends;
   head = λ calling words. rw (nothing_more head_table words 2) (refl, refl);
   tail = λ calling words. rw (nothing_more (tail_table calling) words 2) (refl, refl);

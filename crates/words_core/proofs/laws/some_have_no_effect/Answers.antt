@@ -2,4 +2,4 @@ use Rattle.words_core.proofs.ChoiceLemmas.{no_effect}
 use Rattle.words_core.proofs.laws.some_have_no_effect.Goals as goal
 
 pub returns : goal.returns
-returns c calling which before after word operands = no_effect before after word calling which operands
+returns c = no_effect
