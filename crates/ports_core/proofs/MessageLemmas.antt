@@ -1,6 +1,6 @@
 -- Lemmas on messages.
 use Rattle.std.proofs.{
-  Common.{◌≡◌, ℕ, Bool, false, List, [], ◌∷◌, ◌++◌, take, Result, Ok, Err, OnOk, IfErr, ◌⊎◌, refl, sym, ◌∙◌, ap},
+  Common.{◌≡◌, ℕ, Bool, false, List, [], ◌∷◌, ◌++◌, map, take, Result, Ok, Err, OnOk, IfErr, ◌⊎◌, refl, sym, ◌∙◌, ap},
   Common.arith,
 }
 use Rattle.ports_core.specs.{
@@ -13,7 +13,8 @@ use Rattle.ports_core.specs.{
     whole.WriteCut.WriteCut,
     fault.Fault.{Fault, TheVariants.Memory},
   },
-  Message.{Prints, whole, cut, passed, PrintsOn, Says, SaysAll, SaysOn, TellsOn, output_named, output_reason},
+  Message.{Prints, PrintsOn, Report, Says, SaysAll, SaysEach, SaysFor, SaysOn, TellsOn, cut, output_named, output_reason},
+  Message.{passed, whole},
 }
 
 pub prints_on : (told : Bool) {text : List ℕ} {old new : List Slot} (result : Result (Unit {0}) WriteCut)
@@ -65,3 +66,26 @@ pub says_after : (told : Bool) (speaker : Speaker) (messages more : List Message
     → SaysAll told speaker (messages ++ more) old new
 says_after told speaker [] more old mid new so_far says = grind arith
 says_after told speaker (first ∷ messages) more old mid new so_far says = (so_far.0, so_far.1, says_after _ _ messages _ _ _ _ so_far.2 says)
+
+-- reports, one after another
+
+pub each_more : (told : Bool) (speaker : Speaker) (reports : List Report) (report : Report) (old mid new : Slot)
+    → SaysEach told speaker reports old mid → SaysFor told speaker report.why report.message mid new
+    → SaysEach told speaker (reports ++ report ∷ []) old new
+each_more told speaker [] report old mid new so_far says = grind arith
+each_more told speaker (first ∷ reports) report old mid new so_far says =
+    (so_far.0, so_far.1, each_more _ _ reports _ _ _ _ so_far.2 says)
+
+-- their messages, without the reasons
+abbrev pub messages_in : List Report → List Message
+messages_in reports = map (λ (report : Report). report.message) reports
+
+pub each_all : (told : Bool) (speaker : Speaker) (reports : List Report) (old new : Slot)
+    → SaysEach told speaker reports old new → SaysAll told speaker (messages_in reports) old new
+each_all told speaker [] old new is = is
+each_all told speaker (report ∷ reports) old new says =
+    (says.0, (report.why, says.1), each_all _ _ reports _ _ says.2)
+
+pub each_state : (told : Bool) (speaker : Speaker) (reports : List Report) (old new : Slot)
+    → SaysEach told speaker reports old new → new.state ≡ old.state
+each_state told speaker reports old new says = all_said_state _ _ _ _ _ (each_all told speaker reports old new says)

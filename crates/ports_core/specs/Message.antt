@@ -74,3 +74,14 @@ output_reason slots fault = Other
 abbrev pub TellsOn : Bool → Speaker → Fault → List Slot → List Slot → Type 0
 TellsOn told speaker fault old new =
     OnError (Tells told speaker (output_reason old fault) fault (output_named old fault)) old new
+
+-- a message, and the reason that its line gives, if it gives one
+pub record Report : Type 0 where
+  pub message : Message
+  pub why : Reason
+
+-- an output got the lines of these reports, one after another
+abbrev pub SaysEach : Bool → Speaker → List Report → Slot → Slot → Type 0
+SaysEach told speaker [] old new = new ≡ old
+SaysEach told speaker (report ∷ reports) old new = (mid : Slot)
+    × SaysFor told speaker report.why report.message old mid × SaysEach told speaker reports mid new

@@ -241,7 +241,7 @@ messages_alike : (task : Task) (work : Work) (is_first : Bool) (name : List ℕ)
 messages_alike task work is_first name None = refl
 messages_alike task work is_first name (Some _) = refl
 
-pub said_from : (told : Bool) (speaker : Speaker) (why : Reason) (messages : List Message) (old new : Slot)
+said_from : (told : Bool) (speaker : Speaker) (why : Reason) (messages : List Message) (old new : Slot)
     → SaysFrom told speaker why messages old new → SaysAll told speaker messages old new
 said_from told speaker why [] old new says = says
 said_from told speaker why (message ∷ messages) old new (mid, one, says) =

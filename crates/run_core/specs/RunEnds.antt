@@ -1,5 +1,5 @@
 -- How a run over its inputs ends, from the streams as it found them.
-use Rattle.std.specs.Prelude.{◌≡◌, ℕ, ◌≤◌, Bool, true, false, List, [], ◌∷◌, ◌++◌, length, Option, Some}
+use Rattle.std.specs.Prelude.{◌≡◌, ℕ, ◌≤◌, Bool, true, false, List, [], ◌∷◌, ◌++◌, length, map, Option, Some}
 use Rattle.ports_core.specs.{
   Slot.Slot,
   Source.{Content, Source},
@@ -7,7 +7,7 @@ use Rattle.ports_core.specs.{
   Swept.Swept,
   Work.{Needs, no_needs},
   Text.{Message, message_of, status_after},
-  Message.{SaysAll, SaysFor, Tells, output_named, output_reason},
+  Message.{SaysAll, SaysEach, Tells, output_named, output_reason},
   Inputs.largest_piece,
   Streams.{standard_error, streams_with},
   declared.{calling.Speaker.Speaker, fault.Fault.{Fault, TheVariants.Memory}, reason.Reason.Reason},
@@ -66,9 +66,8 @@ pub data RunStep (told : Bool) (task : Task) (shown : Option (List ℕ)) (most :
 
 -- an output got these messages, one after another, all with this reason
 abbrev pub SaysFrom : Bool → Speaker → Reason → List Message → Slot → Slot → Type 0
-SaysFrom told speaker why [] old new = new ≡ old
-SaysFrom told speaker why (message ∷ messages) old new = (mid : Slot) × SaysFor told speaker why message old mid
-    × SaysFrom told speaker why messages mid new
+SaysFrom told speaker why messages =
+    SaysEach told speaker (map (λ message. record { message = message; why = why }) messages)
 
 -- an output got the messages on these inputs, in order, each with the reason for which its source broke
 abbrev pub SaysOf : Bool → Task → List Source → List Input → Slot → Slot → Type 0

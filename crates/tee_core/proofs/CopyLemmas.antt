@@ -8,12 +8,12 @@ use Rattle.std.{
 use Rattle.ports_core.specs.{
   Slot.{Slot, adds, breaks, is_open, opened, slot_at, told_of, unopened},
   Part.IsBeginning,
-  Text.Message,
+  Message.Report,
   declared.{on_broken.OnBroken.OnBroken, fault.Fault.Fault, reason.Reason.Reason, slot.Mode.Mode},
   Streams.{standard_error, standard_output},
 }
 use Rattle.ports_core.proofs.{
-  MessageLemmas.all_said_state,
+  MessageLemmas.each_state,
   PartLemmas.take_begins_after,
   Runs.{adds_both, adds-nil},
   SlotLemmas.{length-changed_at, slot_at-changed, slot_at-elsewhere},
@@ -22,8 +22,8 @@ use Rattle.tee_core.specs.{
   Opening.{OpensAs, is_opened, is_unopened},
   Outputs.{ChangesEach, Gets, gets_all, breaks_off, gets_none, IsFile, IsOutput, IsReady, IsUsable},
   Run.{AreSound, Copied, SaysTo, Step, TeeRun, all_opened, one_more, said_since, standings_of},
-  Run.{IsFileOf, IsOutputOf, stands_as, started, tee_called, tells},
-  inner.Steps.{HasStreams, IsTeeOf, output_at, output_slot},
+  Run.{IsFileOf, IsOutputOf, output_at, output_slot, stands_as, started, tee_called, tells},
+  inner.Steps.{HasStreams, IsTeeOf},
   TeeState.TeeState,
   declared.standing.Standing.{Standing, TheVariants.{Sound}},
 }
@@ -79,7 +79,7 @@ module _ {names : List (List ℕ)} {tee : TeeState} (is : IsTeeOf names tee) whe
 
 -- standard error is changed alone
 
-module _ {run : TeeRun} {messages : List Message} {old new : List Slot} (says : SaysTo run messages old new) where
+module _ {run : TeeRun} {reports : List Report} {old new : List Slot} (says : SaysTo run reports old new) where
   pub said_count : length new ≡ length old
   said_count = ap length says.slots ∙ length-changed_at 1 (λ _. says.error) old
 
@@ -92,7 +92,7 @@ module _ {run : TeeRun} {messages : List Message} {old new : List Slot} (says : 
 
   said_open : 1 < length old → is_open (slot_at old 1).state ≡ true → is_open (slot_at new 1).state ≡ true
   said_open within opened = ap (λ slot. is_open slot.state) (said_error within)
-      ∙ ap is_open (all_said_state run.told (tee_called run.calling) messages (slot_at old 1) says.error says.said) ∙ opened
+      ∙ ap is_open (each_state run.told (tee_called run.calling) reports (slot_at old 1) says.error says.said) ∙ opened
 
   pub standings_said : {count : ℕ} → HasStreams old count → standings_of new ≡ standings_of old
   standings_said has = rw (says.slots, has.are) refl
@@ -120,8 +120,8 @@ pub streams_kept : {old new : List Slot} {count : ℕ} → HasStreams old count 
 streams_kept has many same =
     streams_of (many ∙ streams_count has) (ap (λ slot. is_open slot.state) same ∙ streams_open has)
 
-pub streams_said : {run : TeeRun} {messages : List Message} {old new : List Slot} {count : ℕ} → HasStreams old count
-    → SaysTo run messages old new → HasStreams new count
+pub streams_said : {run : TeeRun} {reports : List Report} {old new : List Slot} {count : ℕ} → HasStreams old count
+    → SaysTo run reports old new → HasStreams new count
 streams_said has says = streams_of (said_count says ∙ streams_count has)
     (said_open says (omega (arith, streams_count has)) (streams_open has))
 
@@ -135,10 +135,10 @@ streams_next has apart step =
 pub stepped : {run : TeeRun} {fault : Fault} {Change : Slot → Slot → Type 0} {IsOne : ℕ → Type 0}
     {old mid new : List Slot} {known nows : List Standing} → HasStreams old (length run.names) → (IsOne 1 → ⊥)
     → known ≡ standings_of old → ChangesEach Change IsOne old mid → nows ≡ standings_of mid
-    → SaysTo run (said_since run fault known nows (length known)) mid new
+    → SaysTo run (said_since run fault known mid (length known)) mid new
     → Step run fault Change IsOne old new × (nows ≡ standings_of new)
 stepped {mid = mid} has apart seen changes sees says = (
-  record { mid = mid; changes = changes; said = rw (ap length seen ∙ count_standings has, seen, sees) at says },
+  record { mid = mid; changes = changes; said = rw (ap length seen ∙ count_standings has, seen) at says },
   sees ∙ sym (standings_said says (streams_kept has changes.count (changes.others 1 apart))),
 )
 
@@ -220,7 +220,7 @@ module _ {run : TeeRun} {x : List ℕ} {slots : List Slot} (stands : Stands run 
       let there = output_to is (suc (suc n)) output in
       has_usable (starts_well run (suc n)).1 (stands.each (suc n) (omega (arith, there.1)))
 
-  pub stands_said : {messages : List Message} {new : List Slot} → SaysTo run messages slots new → Stands run x new
+  pub stands_said : {reports : List Report} {new : List Slot} → SaysTo run reports slots new → Stands run x new
   stands_said says = record {
     count = said_count says ∙ stands.count;
     opened = said_open says (omega (arith, stands.count)) stands.opened;
@@ -270,33 +270,31 @@ sound_stand has sound =
     let those = rw has.are at sound in
     rw (has.are, those 0 (λ is. omega (arith, is)), sound_files has.files (λ n. those (suc (suc n)) (λ is. omega (arith, is))), has.files_are) refl
 
-quiet_at : (on_broken : OnBroken) (was : Standing) (n count : ℕ)
-    → tells on_broken was (get_or (replicate count Sound) n Sound) ≡ false
-quiet_at on_broken was n count = rw (by n count) (quiet was) where
-  by : (n count : ℕ) → get_or (replicate count Sound) n Sound ≡ Sound
-  by n zero = refl
-  by zero (suc count) = refl
-  by (suc n) (suc count) = by n count
+quiet_at : (on_broken : OnBroken) (was : Standing) → tells on_broken was Sound ≡ false
+quiet_at on_broken Sound = refl
+quiet_at on_broken was = refl
 
-  quiet : (was : Standing) → tells on_broken was Sound ≡ false
-  quiet Sound = refl
-  quiet was = refl
+sound_at : (slots : List Slot) → AreSound slots → (n : ℕ) → (output_at slots n).is_broken ≡ false
+sound_at slots sound zero = sound 0 (λ is. omega (arith, is))
+sound_at slots sound (suc n) = sound (suc (suc n)) (λ is. omega (arith, is))
 
-quiet_since : (run : TeeRun) (fault : Fault) (known : List Standing) (count n : ℕ)
-    → said_since run fault known (replicate count Sound) n ≡ []
-quiet_since run fault known count zero = refl
-quiet_since run fault known count (suc n) =
-    rw (quiet_since run fault known count n, quiet_at run.on_broken (get_or known n Sound) n count) refl
+quiet_since : (run : TeeRun) (fault : Fault) (known : List Standing) (slots : List Slot) → AreSound slots → (n : ℕ)
+    → said_since run fault known slots n ≡ []
+quiet_since run fault known slots sound zero = refl
+quiet_since run fault known slots sound (suc n) = rw (
+  quiet_since run fault known slots sound n,
+  sound_at slots sound n,
+  quiet_at run.on_broken (get_or known n Sound),
+) refl
 
 -- a step in which no output breaks
 pub sound_step : {run : TeeRun} {fault : Fault} {Change : Slot → Slot → Type 0} {IsOne : ℕ → Type 0}
     {old new : List Slot} {count : ℕ} → HasStreams new count → AreSound new → ChangesEach Change IsOne old new
     → Step run fault Change IsOne old new
-sound_step {run} {fault} {old = old} {new} {count} has sound changes = record {
+sound_step {run} {fault} {old = old} {new} has sound changes = record {
   mid = new;
   changes = changes;
-  said = rw (sound_stand has sound, quiet_since run fault (standings_of old) (suc count) (length run.names + 1))
-      (input_silent run has);
+  said = rw (quiet_since run fault (standings_of old) new sound (length run.names + 1)) (input_silent run has);
 }
 
 -- a step after which no output is broken
@@ -312,11 +310,8 @@ module _ {run : TeeRun} {fault : Fault} {Change : Slot → Slot → Type 0} {IsO
     by true is = sym (stay_broken stays decides step.changes place is) ∙ sound_mid place differs
 
   pub sound_error : {count : ℕ} → HasStreams step.mid count → (IsOne 1 → ⊥) → slot_at new 1 ≡ slot_at old 1
-  sound_error {count} has apart =
-      let silent = rw (
-        sound_stand has sound_mid,
-        quiet_since run fault (standings_of old) (suc count) (length run.names + 1),
-      ) at step.said.said in
+  sound_error has apart =
+      let silent = rw (quiet_since run fault (standings_of old) step.mid sound_mid (length run.names + 1)) at step.said.said in
       said_error step.said (omega (arith, streams_count has)) ∙ silent ∙ step.changes.others 1 apart
 
 pub sound_said : {run : TeeRun} {pieces : List (List ℕ)} {slots : List Slot} → Copied run pieces slots

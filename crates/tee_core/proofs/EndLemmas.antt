@@ -13,8 +13,8 @@ use Rattle.ports_core.specs.{
   declared.on_broken.OnBroken.{OnBroken, TheVariants.{Warn, Exit, WarnNoPipe, ExitNoPipe, Signal}},
   declared.reason.Reason.{Reason, TheVariants.Other},
   Inputs.{CameFrom, OfContent, empty},
-  Text.{Message, status_after},
-  Message.{SaysAll, TellsOn, output_reason},
+  Text.status_after,
+  Message.{Report, SaysEach, TellsOn, output_reason},
   Streams.{standard_output, standard_error},
 }
 use Rattle.ports_core.proofs.{
@@ -25,10 +25,11 @@ use Rattle.tee_core.{
   specs.{
     Run.{AreSound, ClosesAll, ComesIn, Copied, EndsAs, GaveLast, IsAsFound, IsRead, LeavesOf, SaysTo, TeeRun},
     Run.{all_copied, any_is, copied, ends_run, forgives, gone_status, is_done, is_same, lost_for, no_room, one_more},
-    Run.{said_of_input, standings_of, stands_as, started, status_for, tee_called, to_end, IsFileOf},
+    Run.{output_at, output_slot, said_of_input, standings_of, stands_as, started, status_for, tee_called, to_end},
+    Run.IsFileOf,
     Outputs.{Closes, is_closed, fails_to_close, was_broken},
     declared.standing.Standing.{Standing, TheVariants.{Sound, Broken, Gone}},
-    inner.Steps.{CopiesRead, HasStreams, output_at, output_slot},
+    inner.Steps.{CopiesRead, HasStreams},
   },
   proofs.{
     ChangeLemmas.{closed_broken, is_between},
@@ -185,7 +186,7 @@ module _ {run : TeeRun} {told_in : Bool} where
   pub ends_copied : {content : Content} {source : Source} {fault : Option Fault} {status : ℕ}
       {old mid new : List Slot} {known : List Standing} → status ≡ status_for run.on_broken known fault
       → known ≡ standings_of new → CopiesRead run told_in content source old fault
-      → SaysTo run (said_of_input fault) old mid → ClosesAll run mid new
+      → SaysTo run (said_of_input source fault) old mid → ClosesAll run mid new
       → EndsAs run told_in content source new status
   ends_copied {fault = fault} {old = old} {mid} is seen read says closes =
       copied read.pieces fault old mid read.read read.copied says closes
@@ -309,8 +310,8 @@ well_of on_broken fault has sound zero_is = elim (cases_Bool (forgives on_broken
 ]
 
 -- the end of a run
-module _ {run : TeeRun} {pieces : List (List ℕ)} {messages : List Message} {old mid new : List Slot}
-    (so_far : Copied run pieces old) (says : SaysTo run messages old mid) (ends : ClosesAll run mid new) where
+module _ {run : TeeRun} {pieces : List (List ℕ)} {reports : List Report} {old mid new : List Slot}
+    (so_far : Copied run pieces old) (says : SaysTo run reports old mid) (ends : ClosesAll run mid new) where
   no_file : IsFileOf run.names 1 → ⊥
   no_file file = omega (arith, file.0)
 
@@ -358,12 +359,12 @@ module _ {run : TeeRun} {pieces : List (List ℕ)} {messages : List Message} {ol
           ∙ ap closes (has_copied (suc n) (omega (arith, file.1)))
           ∙ sym (mapped_at (λ name. closes (adds bytes (opened name run.mode))) run.names n (omega (arith, file.1)))
 
-    pub sound_says : SaysAll run.told (tee_called run.calling) messages standard_error says.error
+    pub sound_says : SaysEach run.told (tee_called run.calling) reports standard_error says.error
     sound_says = rw (sound_said so_far old_sound) at says.said
 
-pub said_none : (fault : Option Fault) → is_none fault ≡ true → said_of_input fault ≡ []
-said_none None ended = refl
-said_none (Some one) ended = absurd (cc)
+pub said_none : (source : Source) (fault : Option Fault) → is_none fault ≡ true → said_of_input source fault ≡ []
+said_none source None ended = refl
+said_none source (Some one) ended = absurd (cc)
 
 module _ {run : TeeRun} {told_in : Bool} where
   pub whole_if : {content : Content} {source : Source} {new : List Slot} {status : ℕ} → status ≡ 0
@@ -373,7 +374,7 @@ module _ {run : TeeRun} {told_in : Bool} where
   whole_if zero_is sound (copied pieces fault old mid comes so_far says ends is) =
       let good = well_of run.on_broken fault (end_streams so_far says ends) sound (sym is ∙ zero_is) in
       let goes = sound_goes_on run.on_broken (stands_streams (stands_of so_far)) (old_sound so_far says ends good.1) in
-      let quiet : says.error ≡ standard_error = rw (said_none fault good.0) at (sound_says so_far says ends good.1) in
+      let quiet : says.error ≡ standard_error = rw (said_none _ fault good.0) at (sound_says so_far says ends good.1) in
       rw (all_sound so_far says ends good.1, quiet, read_whole _ goes good.0 comes.read) refl
 
   pub whole_of : (there : Content) {source : Source} {new : List Slot} {status : ℕ} → told_in ≡ true → status ≡ 0

@@ -202,14 +202,14 @@ stand_sound : (mode : Mode) (names : List (List ℕ))
 stand_sound mode [] = refl
 stand_sound mode (name ∷ names) = cc (stand_sound mode names)
 
-pub starts : (run : TeeRun) {old new : List Slot} {known nows : List Standing} → Opens run.mode run.names streams old
+pub starts : (run : TeeRun) {old new : List Slot} {known : List Standing} → Opens run.mode run.names streams old
     → known ≡ replicate (length run.names + 1) Sound
-    → SaysTo run (said_since run (fault.Open 0) known nows (length known)) old new
-    → nows ≡ standings_of old → Copied run [] new
-starts run {old} {new} {known} opens unknown says sees = started new (record {
+    → SaysTo run (said_since run (fault.Open 0) known old (length known)) old new
+    → Copied run [] new
+starts run {old} {new} {known} opens unknown says = started new (record {
   mid = old;
   changes = opened_all run opens;
-  said = rw (ap length unknown ∙ length-replicate (length run.names + 1) Sound, known_is, sees) at says;
+  said = rw (ap length unknown ∙ length-replicate (length run.names + 1) Sound, known_is) at says;
 }) where
   known_is : known ≡ standings_of (all_opened run)
   known_is = unknown ∙ ap (λ n. replicate n Sound) (let e : length run.names + 1 ≡ suc (length run.names) = omega arith in e)

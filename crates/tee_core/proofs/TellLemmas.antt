@@ -7,14 +7,16 @@ use Rattle.std.{
 }
 use Rattle.ports_core.specs.{
   Slot.{Slot, changed_at, no_slot, slot_at, is_open},
-  Text.{Message, message_of},
-  Message.SaysOn,
+  Source.Source,
+  Text.message_of,
+  Message.{Report, SaysOn},
   declared.{reason.Reason.Reason, fault.Fault.Fault},
 }
-use Rattle.ports_core.proofs.MessageLemmas.{all_said_state, says_more}
+use Rattle.ports_core.proofs.MessageLemmas.{each_more, each_state}
 use Rattle.tee_core.specs.{
-  Run.{SaysTo, TeeRun, output_names, said_of_input, said_since, standings_of, stands_as, tee_called, tells},
-  inner.Steps.{HasStreams, output_at, output_slot},
+  Run.{SaysTo, TeeRun, output_at, output_names, output_slot, report_of, said_of_input, said_since, standings_of},
+  Run.{stands_as, tee_called, tells},
+  inner.Steps.HasStreams,
   declared.standing.Standing.{Standing, TheVariants.{Sound}},
 }
 
@@ -58,32 +60,44 @@ count_standings {count} has =
 
 -- standard error alone is written
 
-says_too : (message : Message) {run : TeeRun} {messages : List Message} {count : ℕ} {old now new : List Slot}
-    {why : Reason} → HasStreams old count → SaysTo run messages old now
-    → SaysOn run.told (tee_called run.calling) why message now new → SaysTo run (messages ++ message ∷ []) old new
-says_too message {run} {messages} {why = why} has so_far says =
+says_too : (report : Report) {run : TeeRun} {reports : List Report} {count : ℕ} {old now new : List Slot}
+    → HasStreams old count → SaysTo run reports old now
+    → SaysOn run.told (tee_called run.calling) report.why report.message now new
+    → SaysTo run (reports ++ report ∷ []) old new
+says_too report {run} {reports} has so_far says =
     let said = says has.output so_far.error has.files (so_far.slots ∙ ap (changed_at 1 (λ _. so_far.error)) has.are) in record {
       error = said.0;
-      said = says_more run.told (tee_called run.calling) messages message _ so_far.error said.0 so_far.said (why, said.1);
+      said = each_more run.told (tee_called run.calling) reports report _ so_far.error said.0 so_far.said said.1;
       slots = said.2 ∙ sym (ap (changed_at 1 (λ _. said.0)) has.are);
     }
 
-stands_still : {run : TeeRun} {messages : List Message} {count : ℕ} {old now : List Slot} (n : ℕ) → HasStreams old count
-    → SaysTo run messages old now → stands_as (output_at now n) ≡ get_or (standings_of old) n Sound
-stands_still n has said =
-    ap (λ those. stands_as (output_at those n)) (said.slots ∙ ap (changed_at 1 (λ _. said.error)) has.are)
-    ∙ standing_at has.output said.error has.files n ∙ sym (ap (λ those. get_or (standings_of those) n Sound) has.are)
+output_same : (output error other : Slot) (files : List Slot) (n : ℕ)
+    → output_at (output ∷ error ∷ files) n ≡ output_at (output ∷ other ∷ files) n
+output_same output error other files zero = refl
+output_same output error other files (suc n) = refl
 
--- the message for the fault that ended the reading
-pub input_told : (run : TeeRun) {fault : Option Fault} {one : Fault} {count : ℕ} {old new : List Slot} {why : Reason}
-    → fault ≡ Some one → HasStreams old count
+-- outputs stay as they are while messages are written
+stays_at : {run : TeeRun} {reports : List Report} {count : ℕ} {old now : List Slot} (n : ℕ) → HasStreams old count
+    → SaysTo run reports old now → output_at now n ≡ output_at old n
+stays_at n has said =
+    ap (λ those. output_at those n) (said.slots ∙ ap (changed_at 1 (λ _. said.error)) has.are)
+    ∙ output_same has.output said.error has.error has.files n ∙ sym (ap (λ those. output_at those n) has.are)
+
+stands_there : {count : ℕ} {slots : List Slot} (n : ℕ) → HasStreams slots count
+    → stands_as (output_at slots n) ≡ get_or (standings_of slots) n Sound
+stands_there n has = rw has.are (standing_at has.output has.error has.files n)
+
+-- the report of the fault that ended the reading
+pub input_told : (run : TeeRun) (source : Source) {fault : Option Fault} {one : Fault} {count : ℕ} {old new : List Slot}
+    {why : Reason} → fault ≡ Some one → why ≡ source.reason → HasStreams old count
     → SaysOn run.told (tee_called run.calling) why (message_of one (codes "standard input")) old new
-    → SaysTo run (said_of_input fault) old new
-input_told run {why = why} is has says = let said = says has.output has.error has.files has.are in rw (is, has.are) (record {
-  error = said.0;
-  said = (said.0, (why, said.1), refl);
-  slots = said.2;
-})
+    → SaysTo run (said_of_input source fault) old new
+input_told run source is reason has says =
+    let said = (rw reason at says) has.output has.error has.files has.are in rw (is, has.are) (record {
+      error = said.0;
+      said = (said.0, said.1, refl);
+      slots = said.2;
+    })
 
 pub input_silent : (run : TeeRun) {slots : List Slot} {count : ℕ} → HasStreams slots count → SaysTo run [] slots slots
 input_silent run has = rw has.are (record { error = has.error; said = refl; slots = refl })
@@ -91,7 +105,7 @@ input_silent run has = rw has.are (record { error = has.error; said = refl; slot
 -- how far the loop over the outputs has come
 pub record Telling (run : TeeRun) (fault : Fault) (before : List Standing) (n : ℕ) (old now : List Slot)
     (known : List Standing) : Type 0 where
-  pub said : SaysTo run (said_since run fault before (standings_of old) n) old now
+  pub said : SaysTo run (said_since run fault before old n) old now
   pub seen : SeenTo n before (standings_of old) known
 
 pub tells_none : {run : TeeRun} {fault : Fault} {known : List Standing} {count : ℕ} {slots : List Slot}
@@ -103,27 +117,28 @@ module _ {run : TeeRun} {fault : Fault} {before known : List Standing} {n count 
   pub error_open : is_open (slot_at now 1).state ≡ true
   error_open =
       ap (λ those. is_open (slot_at those 1).state) (so_far.said.slots ∙ ap (changed_at 1 (λ _. so_far.said.error)) has.are)
-      ∙ ap is_open (all_said_state run.told (tee_called run.calling) _ _ so_far.said.error so_far.said.said)
+      ∙ ap is_open (each_state run.told (tee_called run.calling) _ _ so_far.said.error so_far.said.said)
       ∙ ap (λ those. is_open (slot_at those 1).state) has.are ∙ has.opened
 
   pub tells_next : (other : Standing) {new : List Slot} {name : List ℕ} {standing : Standing}
       → length before ≡ count + 1 → n < length before → name ≡ get_or (output_names run.names) n []
       → standing ≡ stands_as (output_at now n)
       → (tells run.on_broken (get_or known n other) standing ≡ true
-      → (why : Reason) × SaysOn run.told (tee_called run.calling) why (message_of fault name) now new)
+      → SaysOn run.told (tee_called run.calling) (output_at now n).reason (message_of fault name) now new)
       → (tells run.on_broken (get_or known n other) standing ≡ false → new ≡ now)
       → Telling run fault before (n + 1) old new (set known n standing)
   tells_next other {new} {name} {standing} many within named sees says quiet =
       let many_now = count_standings has ∙ sym many in
-      let stood = sees ∙ stands_still n has so_far.said in
+      let still = stays_at n has so_far.said in
+      let stood = sees ∙ ap stands_as still in
       let was = get_next n before (standings_of old) other within many_now so_far.seen in
       record {
-        said = rw (let e : n + 1 ≡ suc n = omega arith in e, ← was, ← stood, ← named)
-            (cond_both (tells run.on_broken (get_or known n other) standing) (message_of fault name ∷ []) []
-            (λ more. SaysTo run (said_since run fault before (standings_of old) n ++ more) old new)
-            (λ is. let (why, said) = says is in says_too (message_of fault name) has so_far.said said)
-            (λ is. rw (append-nil (said_since run fault before (standings_of old) n), quiet is) so_far.said));
-        seen = seen_next n before (standings_of old) within many_now so_far.seen stood;
+        said = rw (let e : n + 1 ≡ suc n = omega arith in e, ← was, ← stood)
+            (cond_both (tells run.on_broken (get_or known n other) standing) (report_of run fault n (output_at old n) ∷ []) []
+            (λ more. SaysTo run (said_since run fault before old n ++ more) old new)
+            (λ is. says_too (report_of run fault n (output_at old n)) has so_far.said (rw (named, still) at (says is)))
+            (λ is. rw (append-nil (said_since run fault before old n), quiet is) so_far.said));
+        seen = seen_next n before (standings_of old) within many_now so_far.seen (stood ∙ stands_there n has);
       }
 
   pub told_all : length before ≡ count + 1 → n ≡ length before → known ≡ standings_of old

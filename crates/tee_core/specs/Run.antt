@@ -8,8 +8,8 @@ use Rattle.ports_core.specs.{
   Slot.{Slot, adds, changed_at, closes, opened, slot_at, told_of},
   Inputs.largest_piece,
   Source.{Content, Source, source_of},
-  Text.{Message, message_of},
-  Message.SaysAll,
+  Text.message_of,
+  Message.{Report, SaysAll, SaysEach},
   declared.calling.{Calling.Calling, Speaker.Speaker},
   declared.reason.Reason.Reason,
   declared.on_broken.OnBroken.{OnBroken, TheVariants.{Warn, Exit, WarnNoPipe, ExitNoPipe, Signal}},
@@ -98,27 +98,43 @@ tells on_broken was now = false
 abbrev pub output_names : List (List ℕ) → List (List ℕ)
 output_names names = codes "standard output" ∷ names
 
--- The messages for those of the first n outputs that are sound in `was` and broken in `now`, in their order. Standard
--- error isn't counted, and a break that isn't reported has no message.
-abbrev pub said_since : TeeRun → Fault → (was now : List Standing) → ℕ → List Message
+-- the slot of output n: standard error stands between standard output and the files
+abbrev pub output_slot : ℕ → ℕ
+output_slot zero = 0
+output_slot (suc n) = suc (suc n)
+
+abbrev pub output_at : List Slot → ℕ → Slot
+output_at slots n = slot_at slots (output_slot n)
+
+-- the report that output n, of this slot, met the fault: with the name of the output, and the reason why it broke
+abbrev pub report_of : TeeRun → Fault → ℕ → Slot → Report
+report_of run fault n slot = record {
+  message = message_of fault (get_or (output_names run.names) n []);
+  why = slot.reason;
+}
+
+-- The reports of those of the first n outputs that are sound in `was` and broken in `now`, in their order. Standard
+-- error isn't counted, and a break that isn't to be reported has no report.
+abbrev pub said_since : TeeRun → Fault → (was : List Standing) → (now : List Slot) → ℕ → List Report
 said_since run fault was now zero = []
 said_since run fault was now (suc n) = said_since run fault was now n
-    ++ (if tells run.on_broken (get_or was n Sound) (get_or now n Sound)
-    then message_of fault (get_or (output_names run.names) n []) ∷ [] else [])
+    ++ (if tells run.on_broken (get_or was n Sound) (stands_as (output_at now n))
+    then report_of run fault n (output_at now n) ∷ [] else [])
 
--- the messages for all outputs that broke in a step
-abbrev pub said_in : TeeRun → Fault → (old new : List Slot) → List Message
-said_in run fault old new = said_since run fault (standings_of old) (standings_of new) (length run.names + 1)
+-- the reports of all outputs that broke in a step
+abbrev pub said_in : TeeRun → Fault → (old new : List Slot) → List Report
+said_in run fault old new = said_since run fault (standings_of old) new (length run.names + 1)
 
--- the message for the fault that ended the reading, if one did
-abbrev pub said_of_input : Option Fault → List Message
-said_of_input None = []
-said_of_input (Some fault) = message_of fault (codes "standard input") ∷ []
+-- the report of the fault that ended the reading of this source, if one did
+abbrev pub said_of_input : Source → Option Fault → List Report
+said_of_input source None = []
+said_of_input source (Some fault) =
+    record { message = message_of fault (codes "standard input"); why = source.reason } ∷ []
 
--- standard error got these messages, and no other slot changed
-pub record SaysTo (run : TeeRun) (messages : List Message) (old new : List Slot) : Type 0 where
+-- standard error got the lines of these reports, and no other slot changed
+pub record SaysTo (run : TeeRun) (reports : List Report) (old new : List Slot) : Type 0 where
   pub error : Slot
-  pub said : SaysAll run.told (tee_called run.calling) messages (slot_at old 1) error
+  pub said : SaysEach run.told (tee_called run.calling) reports (slot_at old 1) error
   pub slots : new ≡ changed_at 1 (λ _. error) old
 
 -- whether the input failed, or an output broke whose reader isn't gone
@@ -199,7 +215,7 @@ abbrev pub IsOutputOf : List (List ℕ) → ℕ → Type 0
 IsOutputOf names place = (place ≡ 1 → ⊥) × (place < length names + 2)
 
 -- One step of a run: each slot that `IsOne` names was changed as `Change` says. Then standard error got the message of
--- `fault` for each output that broke in this step, unless its reader is gone and that isn't reported.
+-- `fault` for each output that broke in this step, with its reason, unless its reader is gone and that isn't reported.
 pub record Step (run : TeeRun) (fault : Fault) (Change : Slot → Slot → Type 0) (IsOne : ℕ → Type 0)
     (old new : List Slot) : Type 0 where
   pub mid : List Slot
@@ -231,10 +247,11 @@ pub data Copied (run : TeeRun) : List (List ℕ) → List Slot → Type 0 where
 pub data EndsAs (run : TeeRun) (told_in : Bool) (content : Content) (source : Source) (new : List Slot) (status : ℕ)
     : Type 0 where
   -- The input came in pieces, and each was copied: `fed` is what that left. Then the fault that ended the reading was
-  -- reported, if one did (`mid`), and the files were closed. The status says whether anything failed.
+  -- reported, if one did (`mid`), with the reason of the source, and the files were closed. The status says whether
+  -- anything failed.
   copied : (pieces : List (List ℕ)) (fault : Option Fault) (fed mid : List Slot)
       → ComesIn told_in content source (is_done run.on_broken (standings_of fed)) pieces fault → Copied run pieces fed
-      → SaysTo run (said_of_input fault) fed mid → ClosesAll run mid new
+      → SaysTo run (said_of_input source fault) fed mid → ClosesAll run mid new
       → status ≡ status_for run.on_broken (standings_of new) fault → EndsAs run told_in content source new status
   -- There was no memory for the run, and nothing was opened or read.
   no_room : (error : Slot)

@@ -1,7 +1,7 @@
 //! A whole run of `tee`.
 ghost use Rattle.std.specs.{
   Prelude.{◌≡◌, ◌+◌, ◌<◌, ◌≤◌, ◌^◌, ◌-◌, replicate, ℕ, List, Option, [], true, false, map, length, get_or},
-  Prelude.{IfOk, IfErr, IfSome, IsTrue, codes},
+  Prelude.{IfOk, IfErr, IsTrue},
 };
 ghost use Rattle.ports_core.specs.{
   declared.fault.Fault.Fault,
@@ -15,8 +15,8 @@ ghost use Rattle.tee_core.specs.{
   Opening.Opens,
   Outputs.IsReady,
   Run.{AreSound, ClosesAll, CopiesPiece, Copied, EndsAs, SaysTo, all_copied, forgives, is_done, output_names, said_of_input},
-  Run.{said_since, standings_of, stands_as, tee_called, tells},
-  inner.Steps.{CopiesRead, HasStreams, IsTeeOf, output_slot, run_for},
+  Run.{output_slot, said_since, standings_of, stands_as, tee_called, tells},
+  inner.Steps.{CopiesRead, HasStreams, IsTeeOf, run_for},
   declared.standing.Standing.TheVariants.Sound,
 };
 
@@ -236,10 +236,8 @@ fn close_all<O: Outs>(job: &Job<'_>, tee: &mut Tee, known: &mut [Standing], outs
 /// Reports what ended the reading before the input's end, if anything did.
 fn tell_input<I: Inputs, O: Outs>(job: &Job<'_>, fault: &Option<Fault>, inputs: &I, outs: &mut O)
     requires { (count : ℕ) × HasStreams (O.slots outs.old) count }
-    ensures told { SaysTo (run_for O.told job.now) (said_of_input fault.now) (O.slots outs.old) (O.slots outs.new) }
-    ensures reason { IfSome fault.now (λ fault. SaysOn O.told (tee_called job.now.calling)
-        (source_at (I.sources inputs.now) 0).reason (message_of fault (codes "standard input")) (O.slots outs.old)
-        (O.slots outs.new)) }
+    ensures { SaysTo (run_for O.told job.now) (said_of_input (source_at (I.sources inputs.now) 0) fault.now)
+        (O.slots outs.old) (O.slots outs.new) }
 {
     if let Some(fault) = fault {
         let why = inputs.reason(0);
@@ -259,7 +257,7 @@ fn tell_broken<O: Outs>(job: &Job<'_>, fault: &Fault, known: &mut [Standing], ou
     requires streams { HasStreams (O.slots outs.old) (length job.now.names.now) }
     requires known { length known.old ≡ length job.now.names.now + 1 }
     ensures said { SaysTo (run_for O.told job.now)
-        (said_since (run_for O.told job.now) fault.now known.old known.new (length known.old))
+        (said_since (run_for O.told job.now) fault.now known.old (O.slots outs.old) (length known.old))
         (O.slots outs.old) (O.slots outs.new) }
     ensures seen { known.new ≡ standings_of (O.slots outs.old) }
 {

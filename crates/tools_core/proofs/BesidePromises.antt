@@ -9,7 +9,7 @@ use Rattle.std.{
 }
 use Rattle.ports_core.specs.{
   Inputs.{CameFrom, largest_piece},
-  Message.{SaysAll, whole},
+  Message.{Report, SaysEach, whole},
   Part.{File, OutputsAt, Part, file_of, told_file},
   Slot.{Slot, adds, closes, has_file, is_open, no_slot, opened, slot_at},
   Source.{Content, Source, missing, source_at, source_of},
@@ -19,16 +19,16 @@ use Rattle.ports_core.specs.{
   declared.{
     fault.Fault.{Fault, TheVariants.Read},
     calling.{Calling.Calling, Speaker.Speaker},
-    reason.Reason.{Reason, TheVariants.Other},
+    reason.Reason.TheVariants.Other,
   },
-  Text.{Message, line_of},
+  Text.line_of,
 }
 use Rattle.run_core.{
-  proofs.{FeedingLemmas.needed_within, InputLemmas.{said_from}},
+  proofs.FeedingLemmas.needed_within,
   specs.{
     Input.{Input, World, shown_of, input_of, inputs_at, inputs_from, is_dash, standard_input},
     Reading.{AreDone, IsLeft, reason_of},
-    RunEnds.{EndsAs, SaysFrom, SaysOf, as_defined},
+    RunEnds.{EndsAs, SaysOf, as_defined},
     Task.{Task, made_by, of_input, status_of},
   },
 }
@@ -55,7 +55,7 @@ use Rattle.tools_core.{
   },
   proofs.{SameLemmas.all_alike, LeftLemmas.{gone, met_by, outputs_of, slot_of}},
 }
-use Rattle.ports_core.proofs.MessageLemmas.{all_said_state}
+use Rattle.ports_core.proofs.MessageLemmas.{each_state}
 use Rattle.ports_core.specs.Swept as swept_so
 use Rattle.tee_core.specs.Run as tee
 
@@ -155,19 +155,20 @@ module _ (work : Option (List ℕ) → Work) (world : World) where
 
 -- Standard error takes all lines, the outputs get all of a part, and files are removed.
 
-took_lines : (speaker : Speaker) (why : Reason) (lines : List Message) (old : Slot) → old.is_broken ≡ false
-    → (error : Slot) × SaysFrom true speaker why lines old error × (error.is_broken ≡ false)
-took_lines speaker why [] old sound = (old, refl, sound)
-took_lines speaker why (message ∷ lines) old sound =
-    let line = line_of speaker why message in
-    let (error, says, still) = took_lines speaker why lines (adds line old) sound in
+took_reports : (speaker : Speaker) (reports : List Report) (old : Slot) → old.is_broken ≡ false
+    → (error : Slot) × SaysEach true speaker reports old error × (error.is_broken ≡ false)
+took_reports speaker [] old sound = (old, refl, sound)
+took_reports speaker (report ∷ reports) old sound =
+    let line = line_of speaker report.why report.message in
+    let (error, says, still) = took_reports speaker reports (adds line old) sound in
     (error, (adds line old, record { said = line; is = inl refl; printed = whole sound refl }, says), still)
 
 took_messages : (task : Task) (sources : List Source) (inputs : List Input) (old : Slot) → old.is_broken ≡ false
     → (error : Slot) × SaysOf true task sources inputs old error
 took_messages task sources [] old sound = (old, refl)
 took_messages task sources (input ∷ inputs) old sound =
-    let (mid, one, still) = took_lines task.speaker (reason_of input.slot sources) (of_input task true input).messages old sound in
+    let (mid, one, still) = took_reports task.speaker (map (λ message. record { message = message; why = reason_of input.slot sources })
+    (of_input task true input).messages) old sound in
     let (error, says) = took_messages task sources inputs mid still in (error, (mid, one, says))
 
 files_are : (files : List File) → map file_of (map slot_of files) ≡ map (told_file true) files
@@ -391,10 +392,10 @@ tee_well calling asked world few = record {
     reads = length pieces + 1;
   }
 
-  lines : (error : Slot) × SaysAll true (tee_called calling) (said_of_input fault) standard_error error
+  lines : (error : Slot) × SaysEach true (tee_called calling) (said_of_input source fault) standard_error error
   lines =
-      let (error, says, sound) = took_lines (tee_called calling) Other (said_of_input fault) standard_error refl in
-      (error, said_from true (tee_called calling) Other (said_of_input fault) standard_error error says)
+      let (error, says, sound) = took_reports (tee_called calling) (said_of_input source fault) standard_error refl in
+      (error, says)
 
   copied : List Slot
   copied = laid calling asked (has_open calling asked content.bytes) standard_error content.bytes
@@ -404,7 +405,7 @@ tee_well calling asked world few = record {
 
   well : HasStreams (new lines.0) (length asked.names) × AreSound (new lines.0)
   well = laid_well calling asked (λ name. closes (has_open calling asked content.bytes name)) lines.0 content.bytes (λ name. refl)
-      (ap is_open (all_said_state true (tee_called calling) (said_of_input fault) standard_error lines.0 lines.1))
+      (ap is_open (each_state true (tee_called calling) (said_of_input source fault) standard_error lines.0 lines.1))
 
   comes : tee.ComesIn true content source (tee.is_done asked.on_broken (standings_of copied)) pieces fault
   comes = let first = open_well calling asked content.bytes in rw (sound_goes_on asked.on_broken first.0 first.1) (record {

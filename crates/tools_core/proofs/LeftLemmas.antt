@@ -12,7 +12,7 @@ use Rattle.std.proofs.{
 }
 use Rattle.ports_core.specs.{
   Slot.{Slot, adds, has_file, slot_at, closes, opened, removes},
-  Source.{Content, Source},
+  Source.{Content, Source, no_source},
   Streams.{standard_error, standard_output, streams_with},
   Inputs.largest_piece,
   Draft.{Draft, Manner, shares_of},
@@ -67,6 +67,7 @@ use Rattle.words_core.specs.{
   declared.settings.Settings.{Settings, TheVariants.{Head, Tail, Split, Csplit, Tee, About}},
   Help.text_about,
 }
+use Rattle.ports_core.proofs.MessageLemmas.{each_all, messages_in}
 use Rattle.ports_core.specs.Draft as made
 use Rattle.ports_core.specs.declared.fault.Fault.TheVariants as fault_is
 use Rattle.seg_core.specs.declared.cut.Way.TheVariants as way
@@ -488,7 +489,7 @@ met_by false = None
 abbrev pub tee_made : TeeAsked → Content → Outcome
 tee_made asked content = record {
   part = record { out = content.bytes; files = map (λ name. file_of (copy asked.mode content.bytes name)) asked.names };
-  messages = said_of_input (met_by content.breaks_off);
+  messages = messages_in (said_of_input no_source (met_by content.breaks_off));
   failed = content.breaks_off;
   sweeps = false;
 }
@@ -523,14 +524,20 @@ met_status : (breaks_off : Bool) → ◌≡◌ {A = ℕ} (cond (is_none (met_by 
 met_status true = refl
 met_status false = refl
 
+input_messages : (one other : Source) (fault : Option Fault)
+    → messages_in (said_of_input one fault) ≡ messages_in (said_of_input other fault)
+input_messages one other None = refl
+input_messages one other (Some fault) = refl
+
 tee_left : {calling : Calling} {asked : TeeAsked} {content : Content} {source : Source} {new : List Slot} {status : ℕ}
     (ends : tee.EndsAs (tee_run calling true asked) true content source new status)
     → IsCopied ends → IsLeft (tee_called calling) (tee_made asked content) new status
-tee_left {asked} {content} (tee.copied pieces fault old mid comes so_far says closes is) (sound, all) =
+tee_left {asked} {content} {source} (tee.copied pieces fault old mid comes so_far says closes is) (sound, all) =
     let goes = sound_goes_on asked.on_broken (stands_streams (stands_of so_far)) (old_sound so_far says closes sound) in
     let met = met_is _ goes all comes.few comes.read in record {
       error = says.error;
-      says = rw met at (sound_says so_far says closes sound);
+      says = rw (input_messages no_source source (met_by content.breaks_off))
+          (rw met at (each_all _ _ _ _ _ (sound_says so_far says closes sound)));
       swept = rw (all_sound so_far says closes sound, all, copies_are asked.mode content.bytes asked.names);
       is = is ∙ sound_status asked.on_broken fault (end_streams so_far says closes) sound ∙ rw met (met_status content.breaks_off);
     }

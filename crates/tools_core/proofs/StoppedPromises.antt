@@ -22,7 +22,7 @@ use Rattle.ports_core.specs.{
   Text.{Message, is_quiet, message_of},
   Work.{Needs, Work},
 }
-use Rattle.ports_core.proofs.MessageLemmas.{says_more}
+use Rattle.ports_core.proofs.MessageLemmas.{messages_in, says_more}
 use Rattle.run_core.specs.{
   Feeding.{IsCall, Step, Stops, closes as ends_call, enough, feeds, opens, to_end},
   Input.{inputs_at, standard_input},
@@ -295,13 +295,15 @@ read_or Leaves left (tee.to_limit x piece rest is many within leaves) = grind (a
 read_or Leaves left (tee.to_broken_output x rest is leaves) = absurd (cc)
 
 -- what is reported about the input was met
-input_tells : (run : Run) (asked : TeeAsked) {content : Content} (Leaves : List ℕ → Type 0) {is_vain : Bool}
-    {x : List ℕ} {fault : Option Fault} → inputs_at run.world (names_of (Tee asked)) ≡ standard_input content ∷ []
-    → IsRead content Leaves is_vain x fault → All (TellsMet run (Tee asked)) (said_of_input fault)
-input_tells run asked {content} Leaves only (tee.to_break x is broke leaves) =
+input_tells : (run : Run) (asked : TeeAsked) {content : Content} (source : Source) (Leaves : List ℕ → Type 0)
+    {is_vain : Bool} {x : List ℕ} {fault : Option Fault}
+    → inputs_at run.world (names_of (Tee asked)) ≡ standard_input content ∷ []
+    → IsRead content Leaves is_vain x fault
+    → All (TellsMet run (Tee asked)) (messages_in (said_of_input source fault))
+input_tells run asked {content} source Leaves only (tee.to_break x is broke leaves) =
     one_line (TellsMet run (Tee asked)) _
     (Read 0, codes "standard input", inr (broken_off (standard_input content) content ([], [], only) refl broke (λ task of. absurd of)), refl)
-input_tells run asked {content} Leaves only (tee.to_limit x piece rest is many within leaves) =
+input_tells run asked {content} source Leaves only (tee.to_limit x piece rest is many within leaves) =
     one_line (TellsMet run (Tee asked)) _ (
       TooLong,
       codes "standard input",
@@ -309,7 +311,7 @@ input_tells run asked {content} Leaves only (tee.to_limit x piece rest is many w
           (standard_input content, content, ([], [], only), refl, omega (arith, ap length is, length-append (x ++ piece) rest)),
       refl,
     )
-input_tells run asked Leaves only reads = All-nil (TellsMet run (Tee asked))
+input_tells run asked source Leaves only reads = All-nil (TellsMet run (Tee asked))
 
 -- if nothing is kept back and an output broke, the status is 1
 loud_status : (on_broken : OnBroken) {slots : List Slot} {count : ℕ} (fault : Option Fault) → HasStreams slots count
@@ -335,7 +337,7 @@ tee_or : {run : Run} (asked : TeeAsked) {content : Content} {source : Source}
     → inputs_at run.world (names_of (Tee asked)) ≡ standard_input content ∷ []
     → (ends : tee.EndsAs (tee_run run.calling true asked) true content source run.outputs run.status)
     → Unless run (Tee asked) (IsCopied ends)
-tee_or {run} asked {content} only (tee.copied pieces fault old mid came so_far says closes is) =
+tee_or {run} asked {content} {source} only (tee.copied pieces fault old mid came so_far says closes is) =
     elim (cases_Bool (tee.is_quiet asked.on_broken)) [
       | inl quiet ↦ elim (cases_Bool (tee.any_is Gone (standings_of run.outputs))) [
         | inl gone ↦ inr (inr (record {
@@ -350,7 +352,7 @@ tee_or {run} asked {content} only (tee.copied pieces fault old mid came so_far s
       | inr loud ↦ loudly (inl loud)
     ] where
       told : TellsAll run asked fault
-      told = told_all run asked so_far says closes refl (input_tells run asked _ only came.read)
+      told = told_all run asked so_far says closes source refl (input_tells run asked source _ only came.read)
 
       stop : IsLoud asked.on_broken run.outputs → run.status ≡ 1 → (why : Fault) (name : List ℕ)
           → StopsRun run (Tee asked) name why → Tells run (Tee asked) why name → IsStop false run (Tee asked)
@@ -491,9 +493,9 @@ tee_why : (run : Run) (asked : TeeAsked) {content : Content} {source : Source}
     → inputs_at run.world (names_of (Tee asked)) ≡ standard_input content ∷ [] → tee.is_quiet asked.on_broken ≡ true
     → tee.EndsAs (tee_run run.calling true asked) true content source run.outputs run.status
     → run.status ≡ 1 → SaysWhy run (Tee asked)
-tee_why run asked only quiet (tee.copied pieces fault old mid comes so_far says closes is) one = by fault refl where
+tee_why run asked {source = source} only quiet (tee.copied pieces fault old mid comes so_far says closes is) one = by fault refl where
   told : TellsAll run asked fault
-  told = told_all run asked so_far says closes refl (input_tells run asked _ only comes.read)
+  told = told_all run asked so_far says closes source refl (input_tells run asked source _ only comes.read)
 
   silent : (on_broken : OnBroken) (gone : Bool) → tee.is_quiet on_broken ≡ true
       → cond gone (tee.gone_status on_broken false) 0 ≡ 1 → ⊥

@@ -1,7 +1,7 @@
 -- Lemmas on what a run of `tee` leaves and reports of its outputs, and on what ended it.
 use Rattle.std.proofs.{
   Common.{◌≡◌, ◌⊎◌, ℕ, ◌+◌, ◌≤◌, ◌<◌, ◌^◌, get_or, zero, suc, Bool, true, false, List, [], ◌∷◌, ◌++◌, length},
-  Common.{Option, Some, inl, inr, refl, sym, ◌∙◌, ap, arith, append-nil, All, codes, not},
+  Common.{Option, Some, inl, inr, refl, sym, ◌∙◌, ap, arith, append-nil, All, codes, not, if◌then◌else◌},
   lemmas.{
     List.{
       Elements.{All-append, All-nil},
@@ -9,6 +9,7 @@ use Rattle.std.proofs.{
       get_or_default,
       get_or_past,
       length-map,
+      map-append,
     },
     Grind.common_steps,
     Bool.{cases_Bool, cases_lt, cond_both, false≢true, not-true, or_cases, or_parts},
@@ -28,10 +29,10 @@ use Rattle.ports_core.specs.{
   Streams.{streams_with, standard_error},
   Part.{IsBeginning},
   Text.{Message, message_of},
-  Message.SaysAll,
+  Message.{Report, SaysAll},
 }
 use Rattle.ports_core.proofs.{
-  MessageLemmas.says_after,
+  MessageLemmas.{each_all, messages_in, says_after},
   PartLemmas.{begins_itself, begins_trans, nothing_begins},
 }
 use Rattle.tee_core.{
@@ -39,9 +40,10 @@ use Rattle.tee_core.{
     Outputs.{Closes, Gets, gets_all, breaks_off, gets_none, is_closed, fails_to_close, was_broken},
     Opening.{OpensAs, is_opened, is_unopened},
     Run.{AreSound, ClosesAll, Copied, IsRead, LeavesOf, SaysTo, Step, TeeRun, all_opened, any_is, ends_run, is_done},
-    Run.{is_same, lost_for, output_names, said_of_input, said_in, said_since, standings_of, stands_as, tee_called, tells},
+    Run.{is_same, lost_for, output_at, output_names, output_slot, report_of, said_of_input, said_in, said_since},
+    Run.{standings_of, stands_as, tee_called, tells},
     declared.standing.Standing.{Standing, TheVariants.{Broken, Gone, Sound}},
-    inner.Steps.{HasStreams, output_at, output_slot},
+    inner.Steps.HasStreams,
   },
   proofs.{
     CopyLemmas.{Has, Stands, has_all, has_begun, has_none, has_sound, joined_more, mapped_at, output_of, said_error},
@@ -171,28 +173,37 @@ any_tests one (standing ∷ standings) = rw (any_tests one standings)
 
 -- The lines about outputs that broke in a step.
 
-module _ (job : TeeRun) (fault : Fault) (was now : List Standing) where
+module _ (job : TeeRun) (fault : Fault) (was : List Standing) (now : List Slot) where
   -- the output of this number broke in the step, and is reported
   abbrev IsDue : ℕ → Type 0
-  IsDue n = tells job.on_broken (get_or was n Sound) (get_or now n Sound) ≡ true
+  IsDue n = tells job.on_broken (get_or was n Sound) (stands_as (output_at now n)) ≡ true
 
   abbrev line_of : ℕ → Message
   line_of n = message_of fault (get_or (output_names job.names) n [])
 
-  since_are : (Line : Message → Type 0) → ((n : ℕ) → IsDue n → Line (line_of n)) → (count : ℕ)
-      → All Line (said_since job fault was now count)
-  since_are Line tell zero = All-nil Line
-  since_are Line tell (suc count) = All-append Line _ _ (since_are Line tell count)
-      (cond_both (tells job.on_broken (get_or was count Sound) (get_or now count Sound)) (line_of count ∷ []) [] (All Line)
-      (λ is. one_line Line (line_of count) (tell count is)) (λ differs. All-nil Line))
+  -- one output more
+  since_next : (count : ℕ) → messages_in (said_since job fault was now (suc count))
+      ≡ messages_in (said_since job fault was now count)
+      ++ messages_in (if tells job.on_broken (get_or was count Sound) (stands_as (output_at now count))
+      then report_of job fault count (output_at now count) ∷ [] else [])
+  since_next count = map-append (λ (report : Report). report.message) (said_since job fault was now count) _
 
-  since_has : (n count : ℕ) → n < count → IsDue n → HasLine (line_of n) (said_since job fault was now count)
+  since_are : (Line : Message → Type 0) → ((n : ℕ) → IsDue n → Line (line_of n)) → (count : ℕ)
+      → All Line (messages_in (said_since job fault was now count))
+  since_are Line tell zero = All-nil Line
+  since_are Line tell (suc count) = rw (since_next count) (All-append Line _ _ (since_are Line tell count)
+      (cond_both (tells job.on_broken (get_or was count Sound) (stands_as (output_at now count)))
+      (report_of job fault count (output_at now count) ∷ []) [] (λ more. All Line (messages_in more))
+      (λ is. one_line Line (line_of count) (tell count is)) (λ differs. All-nil Line)))
+
+  since_has : (n count : ℕ) → n < count → IsDue n
+      → HasLine (line_of n) (messages_in (said_since job fault was now count))
   since_has n zero within is = absurd (omega arith)
-  since_has n (suc count) within is = elim (cases_lt n count) [
+  since_has n (suc count) within is = rw (since_next count) (elim (cases_lt n count) [
     | inl before ↦ has_before _ (since_has n count before is)
     | inr past ↦ let same : count ≡ n = omega (arith, within, past) in
-        has_after (said_since job fault was now count) (rw (same, is) ([], [], refl))
-  ]
+        has_after (messages_in (said_since job fault was now count)) (rw (same, is) ([], [], refl))
+  ])
 
 -- the line about an output of this number that is broken
 abbrev line_at : TeeRun → ℕ → Slot → Message
@@ -240,14 +251,16 @@ module _ (job : TeeRun) (final : List Slot) (Line : Message → Type 0)
         → tee.is_told job.on_broken (stands_as (output_at final n)) ≡ true
         → HasLine (line_at job n (output_at final n)) lines
 
-  reports_said : {lines messages : List Message} {old new : List Slot} → HasStreams old (length job.names)
-      → Reports lines old → SaysTo job messages old new → All Line messages → Reports (lines ++ messages) new
-  reports_said {lines} {messages} {old} has so_far says are = record {
+  reports_said : {lines : List Message} {reports : List Report} {old new : List Slot}
+      → HasStreams old (length job.names) → Reports lines old → SaysTo job reports old new
+      → All Line (messages_in reports) → Reports (lines ++ messages_in reports) new
+  reports_said {lines} {reports} {old} has so_far says are = record {
     said = rw (said_error says (omega (arith, streams_count has)))
-        (says_after job.told (tee_called job.calling) lines messages standard_error (slot_at old 1) says.error so_far.said says.said);
-    are = All-append Line lines messages so_far.are are;
+        (says_after job.told (tee_called job.calling) lines (messages_in reports) standard_error (slot_at old 1) says.error
+        so_far.said (each_all _ _ reports _ _ says.said));
+    are = All-append Line lines (messages_in reports) so_far.are are;
     each = λ n within broken told.
-        has_before messages (so_far.each n within (rw (said_place says (output_slot n) (not_error n)) at broken) told);
+        has_before (messages_in reports) (so_far.each n within (rw (said_place says (output_slot n) (not_error n)) at broken) told);
   }
 
   module _ {fault : Fault} {Change : Slot → Slot → Type 0} {IsOne : ℕ → Type 0} {old new : List Slot}
@@ -261,12 +274,12 @@ module _ (job : TeeRun) (final : List Slot) (Line : Message → Type 0)
     stay_before n broken = let same = now_at n ∙ (breaks n (broken_number has n broken)).0 broken in stay n (rw same broken) ∙ same
 
     reports_next : {lines : List Message} → (IsOne 1 → ⊥) → Reports lines old
-        → Reports (lines ++ said_in job fault old step.mid) new
+        → Reports (lines ++ messages_in (said_in job fault old step.mid)) new
     reports_next {lines} apart so_far = record {
       said = rw (said_error step.said (omega (arith, streams_count mid)))
           (says_after job.told (tee_called job.calling) lines _ standard_error (slot_at old 1) step.said.error so_far.said
-          (rw (step.changes.others 1 apart) at step.said.said));
-      are = All-append Line lines _ so_far.are (since_are job fault (standings_of old) (standings_of step.mid) Line about (length job.names + 1));
+          (each_all _ _ _ _ _ (rw (step.changes.others 1 apart) at step.said.said)));
+      are = All-append Line lines _ so_far.are (since_are job fault (standings_of old) step.mid Line about (length job.names + 1));
       each = λ n within broken told. by n within broken told (output_at old n).is_broken refl;
     } where
       mid : HasStreams step.mid (length job.names)
@@ -275,14 +288,14 @@ module _ (job : TeeRun) (final : List Slot) (Line : Message → Type 0)
       -- the line about an output that broke in the step
       line : (n : ℕ) → n ≤ length job.names → (output_at old n).is_broken ≡ false
           → (output_at step.mid n).is_broken ≡ true
-          → line_of job fault (standings_of old) (standings_of step.mid) n ≡ line_at job n (output_at final n)
+          → line_of job fault (standings_of old) step.mid n ≡ line_at job n (output_at final n)
       line n within sound broken =
           rw (stay n (rw (now_at n) broken), now_at n, (breaks n within).1 sound broken) refl
 
-      about : (n : ℕ) → IsDue job fault (standings_of old) (standings_of step.mid) n
-          → Line (line_of job fault (standings_of old) (standings_of step.mid) n)
+      about : (n : ℕ) → IsDue job fault (standings_of old) step.mid n
+          → Line (line_of job fault (standings_of old) step.mid n)
       about n told =
-          let (was, now) = tells_parts job.on_broken _ _ (rw (stands_at has n, stands_at mid n) at told) in
+          let (was, now) = tells_parts job.on_broken _ _ (rw (stands_at has n) at told) in
           let broken = told_slot job.on_broken (output_at step.mid n) now in
           let within = broken_number mid n broken in
           rw (line n within (sound_slot (output_at old n) was) broken)
@@ -291,13 +304,13 @@ module _ (job : TeeRun) (final : List Slot) (Line : Message → Type 0)
       by : (n : ℕ) → n ≤ length job.names → (output_at new n).is_broken ≡ true
           → tee.is_told job.on_broken (stands_as (output_at final n)) ≡ true → (broken : Bool)
           → (output_at old n).is_broken ≡ broken
-          → HasLine (line_at job n (output_at final n)) (lines ++ said_in job fault old step.mid)
+          → HasLine (line_at job n (output_at final n)) (lines ++ messages_in (said_in job fault old step.mid))
       by n within broken told true was = has_before _ (so_far.each n within was told)
       by n within broken told false sound =
           let now = rw (stay n broken, now_at n) at told in
           has_after lines (rw (← (line n within sound (rw (now_at n) at broken)))
-          (since_has job fault (standings_of old) (standings_of step.mid) n (length job.names + 1) (omega (arith, within))
-          (rw (stands_at has n, stands_at mid n, sound) now)))
+          (since_has job fault (standings_of old) step.mid n (length job.names + 1) (omega (arith, within))
+          (rw (stands_at has n, sound) now)))
 
   reports_of : {pieces : List (List ℕ)} {slots : List Slot} → Copied job pieces slots → Stay slots
       → (lines : List Message) × Reports lines slots
@@ -433,8 +446,8 @@ pub record TellsAll (run : Run) (asked : TeeAsked) (fault : Option Fault) : Type
       → IsToldAt run asked (output_slot n)
 
 -- a run whose outputs were left in this way
-module _ (run : Run) (asked : TeeAsked) {pieces : List (List ℕ)} {messages : List Message} {old mid : List Slot}
-    (so_far : Copied (job_of run asked) pieces old) (says : SaysTo (job_of run asked) messages old mid)
+module _ (run : Run) (asked : TeeAsked) {pieces : List (List ℕ)} {reports : List Report} {old mid : List Slot}
+    (so_far : Copied (job_of run asked) pieces old) (says : SaysTo (job_of run asked) reports old mid)
     (ends : ClosesAll (job_of run asked) mid run.outputs) where
   pub has : HasStreams run.outputs (length asked.names)
   has = end_streams so_far says ends
@@ -454,18 +467,18 @@ module _ (run : Run) (asked : TeeAsked) {pieces : List (List ℕ)} {messages : L
   stays n broken = (final_breaks (final_at n (broken_number (stands_streams (stands_of so_far)) n broken))).0 broken
 
   -- what was reported, if the line about the input tells what was met
-  pub told_all : {fault : Option Fault} → messages ≡ said_of_input fault → All (TellsMet run (Tee asked)) messages
-      → TellsAll run asked fault
-  told_all for of_input = record {
+  pub told_all : (source : Source) {fault : Option Fault} → reports ≡ said_of_input source fault
+      → All (TellsMet run (Tee asked)) (messages_in reports) → TellsAll run asked fault
+  told_all source for of_input = record {
     streams = has;
     lines = lines;
-    says = record { are = reports.are; said = reports.said };
+    says = record { are = all.are; said = all.said };
     input = λ met is. has_before _ (has_after before.0 (rw (for, is) ([], [], refl)));
     each = λ n within told. (
       _,
       called n within,
-      says_line (rw (failing_message run (output_slot n) (output_at run.outputs n).state _) at
-          (reports.each n within (told_slot asked.on_broken (output_at run.outputs n) told) told)) (record { are = reports.are; said = reports.said }),
+      says_line (rw (failing_message run (output_slot n) (output_at run.outputs n).state (get_or (output_names asked.names) n [])) at
+          (all.each n within (told_slot asked.on_broken (output_at run.outputs n) told) told)) (record { are = all.are; said = all.said }),
     );
   } where
     called : (n : ℕ) → n ≤ length asked.names
@@ -487,10 +500,10 @@ module _ (run : Run) (asked : TeeAsked) {pieces : List (List ℕ)} {messages : L
     before = reports_of (job_of run asked) run.outputs (TellsMet run (Tee asked)) tell so_far stays
 
     lines : List Message
-    lines = (before.0 ++ messages) ++ said_in (job_of run asked) (Write 0) mid ends.mid
+    lines = (before.0 ++ messages_in reports) ++ messages_in (said_in (job_of run asked) (Write 0) mid ends.mid)
 
-    reports : Reports (job_of run asked) run.outputs (TellsMet run (Tee asked)) tell lines run.outputs
-    reports = reports_next (job_of run asked) run.outputs (TellsMet run (Tee asked)) tell
+    all : Reports (job_of run asked) run.outputs (TellsMet run (Tee asked)) tell lines run.outputs
+    all = reports_next (job_of run asked) run.outputs (TellsMet run (Tee asked)) tell
         (stands_streams (stands_said (stands_of so_far) says)) ends
         (λ n within. rw (said_place ends.said (output_slot n) (not_error n), ← (said_place says (output_slot n) (not_error n))) at
         (final_breaks (final_at n within))) (λ n broken. refl) (λ file. omega (arith, file.0))

@@ -1,7 +1,7 @@
 -- What private calls of a run rest on, and what they leave.
-use Rattle.std.specs.Prelude.{◌≡◌, ℕ, ◌<◌, zero, suc, Bool, true, false, List, ◌∷◌, length, map, Option}
+use Rattle.std.specs.Prelude.{◌≡◌, ℕ, ◌<◌, Bool, true, false, List, ◌∷◌, length, map, Option}
 use Rattle.ports_core.specs.{
-  Slot.{Slot, is_open, slot_at},
+  Slot.{Slot, is_open},
   Source.{Content, Source},
   declared.fault.Fault.Fault,
 }
@@ -20,15 +20,6 @@ run_for told job = record {
   on_broken = job.on_broken;
   names = map (λ name. name.now) job.names.now;
 }
-
--- the slot of an output: standard error stands between standard output and the files
-abbrev pub output_slot : ℕ → ℕ
-output_slot zero = 0
-output_slot (suc n) = suc (suc n)
-
--- the output of this number
-abbrev pub output_at : List Slot → ℕ → Slot
-output_at slots n = slot_at slots (output_slot n)
 
 -- both streams are there, and standard error is open
 pub record HasStreams (slots : List Slot) (count : ℕ) : Type 0 where

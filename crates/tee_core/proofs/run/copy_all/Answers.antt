@@ -18,7 +18,7 @@ tell_broken-requires-clause-known g c = grind (arith, common_steps)
 pub copy_pieces-fault-requires-clause-started : goal.copy_pieces-fault-requires-clause-started
 copy_pieces-fault-requires-clause-started g c =
     starts (run_for g.O.Outs.told c.args.job.now) c.requires.opened (length-names _ c.requires.unknown)
-    c.tell_broken.ensures.said c.tell_broken.ensures.seen
+    c.tell_broken.ensures.said
 
 pub copy_pieces-fault-requires-clause-known : goal.copy_pieces-fault-requires-clause-known
 copy_pieces-fault-requires-clause-known g c =
@@ -30,15 +30,15 @@ tell_input-requires g c = (_, stands_streams (stands_of c.copy_pieces-fault.ensu
 pub close_all-requires-clause-ready : goal.close_all-requires-clause-ready
 close_all-requires-clause-ready g c =
     rw c.copy_pieces-fault.ensures.same (stands_ready (stands_said (stands_of c.copy_pieces-fault.ensures.copies.2.0.copied)
-    c.tell_input.ensures.told) c.requires.tee)
+    c.tell_input.ensures) c.requires.tee)
 
 pub close_all-requires-clause-streams : goal.close_all-requires-clause-streams
 close_all-requires-clause-streams g c =
-    stands_streams (stands_said (stands_of c.copy_pieces-fault.ensures.copies.2.0.copied) c.tell_input.ensures.told)
+    stands_streams (stands_said (stands_of c.copy_pieces-fault.ensures.copies.2.0.copied) c.tell_input.ensures)
 
 pub close_all-requires-clause-known : goal.close_all-requires-clause-known
 close_all-requires-clause-known g c =
-    c.copy_pieces-fault.ensures.known ∙ sym (standings_said c.tell_input.ensures.told
+    c.copy_pieces-fault.ensures.known ∙ sym (standings_said c.tell_input.ensures
     (stands_streams (stands_of c.copy_pieces-fault.ensures.copies.2.0.copied)))
 
 pub returns-clause-copied : goal.returns-clause-copied
@@ -47,7 +47,7 @@ returns-clause-copied g c =
       content,
       is,
       (
-        ends_copied c.status_for.ensures c.close_all.ensures.known read c.tell_input.ensures.told
+        ends_copied c.status_for.ensures c.close_all.ensures.known read c.tell_input.ensures
             c.close_all.ensures.closes,
         breaks,
       ),
