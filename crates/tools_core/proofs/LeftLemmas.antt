@@ -127,7 +127,7 @@ live_begin [] wholes begins live = no_live
 live_begin (file ∷ files) [] begins live = absurd begins
 live_begin (file ∷ files) (whole ∷ wholes) begins live =
     let first = All-head IsLive whole wholes live in
-    All-cons IsLive file files (begins.2 ∙ first.0, kept_there begins.3 ∙ first.1)
+    All-cons IsLive file files (begins.2 ∙ first.0, kept_there (λ (file : Slot). file.state) begins.3 ∙ first.1)
     (live_begin files wholes begins.5 (All-tail IsLive whole wholes live))
 
 -- What is true of the file of each share is true of all files.
