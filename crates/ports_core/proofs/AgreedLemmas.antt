@@ -340,7 +340,7 @@ there_begin : (low high : List Slot) → FilesBegin low high → map (λ (file :
     ≡ take (length low) (map (λ (file : Slot). has_file file.state) high)
 there_begin [] high begins = refl
 there_begin (file ∷ low) [] begins = absurd begins
-there_begin (file ∷ low) (whole ∷ high) begins = cc (kept_there begins.3, there_begin low high begins.5)
+there_begin (file ∷ low) (whole ∷ high) begins = cc (kept_there (λ (file : Slot). file.state) begins.3, there_begin low high begins.5)
 
 -- a file is there in one of two agreed lists just if it is there in the other
 pub same_there : (work : Work) (x : List ℕ) (one other : Part) → IsAgreed work x one → IsAgreed work x other

@@ -50,11 +50,11 @@ kept_trans state_of low middle high (inl is) (inr same) = search rules
 kept_trans state_of low middle high (inr same) (inl is) = search rules
 kept_trans state_of low middle high (inr same) (inr also) = inr (same ∙ also)
 
--- a file is there, open or closed, just if the file that it begins is there
-pub kept_there : {file whole : Slot} → MayBecome file.state whole.state ⊎ (file ≡ whole)
-    → has_file file.state ≡ has_file whole.state
-kept_there (inl (is, may)) = ap has_file is ∙ sym may
-kept_there (inr same) = ap (λ (slot : Slot). has_file slot.state) same
+-- a file is there, open or closed, just if it is there later
+pub kept_there : {X : Type 0} (state_of : X → State) {low high : X}
+    → MayBecome (state_of low) (state_of high) ⊎ (low ≡ high) → has_file (state_of low) ≡ has_file (state_of high)
+kept_there state_of (inl (is, may)) = ap has_file is ∙ sym may
+kept_there state_of (inr same) = ap (λ one. has_file (state_of one)) same
 
 pub files_begin_themselves : (files : List Slot) → FilesBegin files files
 files_begin_themselves [] = tt

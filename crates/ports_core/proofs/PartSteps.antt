@@ -17,7 +17,7 @@ use Rattle.ports_core.specs.{
 }
 use Rattle.ports_core.proofs.{
   SlotLemmas.length-changed_at,
-  FileLemmas.{file_more, last_changes, write_makes, close_makes},
+  FileLemmas.{file_more, last_changes, write_makes},
   PartLemmas.{begins_itself, begins_more, take_begins_after, files_begin_themselves, part_begins_itself, IsNoOpen},
   PartLemmas.{none_due, openings-append, out_more, outputs_count, turn_between, turn_last},
 }
@@ -171,7 +171,7 @@ module _ (output : Output) (told : Bool) (out : List ℕ) (front : List Slot) wh
       (with_last out front (file_of name bytes state.Closed)) old new None
   closes_last name bytes {slot} old {new} last closed = record {
     gets = λ before at.
-        last_changes told closes closes (close_makes _) before
+        last_changes told closes closes (λ file. refl) before
         (with_last out front (file_of name bytes state.Open)) front (file_of name bytes state.Open) old new slot refl last at closed;
   }
 

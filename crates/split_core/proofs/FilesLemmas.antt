@@ -34,7 +34,7 @@ use Rattle.ports_core.proofs.{
   FileWriterLemmas.{breaks_later, can_tell, make_breaks},
   SlotLemmas.length-changed_at,
   WriteLemmas.writable-written,
-  FileLemmas.{file_more, file_changes, write_makes, close_makes},
+  FileLemmas.{file_more, file_changes, write_makes},
 }
 use Rattle.split_core.specs.{
   Split.{Filing, Share, is_verbose, output_by},
@@ -473,19 +473,18 @@ pub record Closing (told : Bool) (files : FilesState) (place : ℕ) (old now : L
 module _ (told : Bool) {files : FilesState} {place : ℕ} {old now : List Slot} (ready : AreReady files old)
     (within : place < length files.outputs) (so_far : Closing told files place old now) where
   closes_next : {new : List Slot} → new ≡ changed_at (output_at files place) closes now
-      → {before : List Slot} {had : ℕ → List ℕ} → StandAt told files before had old
-      → OutputsAt told before (part_by (filing_in files) (closed_first (place + 1) had) (length files.outputs)) new
-  closes_next is {before} {had} at =
+      → HaveClosed told files (place + 1) old new
+  closes_next is before had at =
       rw (changed_files (filing_in files) closes (closed_first place had) (closed_first (place + 1) had) within
       (λ i differs. grind (arith, nat_tests, differs)) (grind (arith, nat_tests))) at
-      (file_changes told _ closes (close_makes told) _ _ _ _ place (so_far.closed before had at) (rw (at.owns.stand place within) at is))
+      (file_changes told _ closes (λ file. refl) _ _ _ _ place (so_far.closed before had at) (rw (at.owns.stand place within) at is))
 
   pub one_closed : {new : List Slot} → new ≡ changed_at (output_at files place) closes now
       → Closing told files (place + 1) old new
   one_closed {new} is = record {
     size = grind (arith, length-changed_at);
     left = grind (arith, common_steps, writable_elsewhere);
-    closed = λ before had at. closes_next is at;
+    closed = closes_next is;
     output = grind (arith, common_steps, can_tell, writable_elsewhere);
     sound = keeps_again _ _ _ so_far.sound (keeps_close _ _ _ is);
   }
@@ -505,7 +504,7 @@ module _ (told : Bool) {files : FilesState} {place : ℕ} {old now : List Slot} 
       subst (λ those. ClosesAll told files old new (Err those)) (sym (failed.0 ∙ ap fault.Write slot_is)) (record {
         closed = tt;
         output = tt;
-        cut = λ before had at. (halts {filing = filing_in files} {part = closed_first (place + 1) had} tt (omega arith) (closes_next refl at)
+        cut = λ before had at. (halts {filing = filing_in files} {part = closed_first (place + 1) had} tt (omega arith) (closes_next refl before had at)
             (there, breaks) (inr (at.owns.stand place within))).stops
             (all_open had) (closed_first (length files.outputs) had) _ _ (length files.outputs)
             (grind (arith, nat_tests, begins_itself))
@@ -524,8 +523,8 @@ module _ (told : Bool) {files : FilesState} {place : ℕ} {old now : List Slot} 
 
 pub all_closed : {told : Bool} {files : FilesState} {place : ℕ} {old now : List Slot} → place ≡ length files.outputs
     → Closing told files place old now → ClosesAll told files old now (Ok tt)
-all_closed {told} {files} {old = old} {now} is so_far = record {
-  closed = subst (λ n. HaveClosed told files n old now) is so_far.closed;
+all_closed is so_far = record {
+  closed = rw is at so_far.closed;
   output = so_far.output;
   cut = tt;
   caused = tt;

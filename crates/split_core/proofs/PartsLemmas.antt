@@ -2,7 +2,7 @@
 use Rattle.std.proofs.{
   lemmas.{Grind.common_steps, List.{append-nil, drop-take, take-append-drop, length-map, map-append}},
   Common.{◌≡◌, ℕ, ◌+◌, ◌-◌, ◌<◌, ◌≤◌, suc, List, [], ◌∷◌, ◌++◌, length, map, Bool, true, false, Option, Some},
-  Common.{None, IfSome, IsTrue, Result, Ok, Err, OnOk, IfErr, IfOk, ◌⊎◌, inl, inr, refl, sym, ◌∙◌, ap, arith},
+  Common.{None, IfSome, IsTrue, Result, Ok, Err, OnOk, IfErr, IfOk, inl, refl, sym, ◌∙◌, ap, arith},
   Common.{take, drop, append_assoc, not, cond, rules},
   Math.Seq.take-length,
 }
@@ -12,7 +12,7 @@ use Rattle.ports_core.specs.{
   FileWriter.{Leaves, At, Breaks, CanCount, CanTell, Goes, IsWrite, is_file, manner_in},
   Name.has_name,
   Part.writes,
-  Slot.{Slot, MayBecome, has_file, is_writable},
+  Slot.{Slot, is_writable},
   InTurn.fault_in,
   inner.Shares.SharesBegin,
   declared.fault.Fault.{Fault, TheVariants.{Memory, Write, Open}},
@@ -24,7 +24,7 @@ use Rattle.ports_core.proofs.{
   FileWriterLemmas.{goes_still, made_count, leaves_again, reaches_again, reaches_as},
   FileWriterLemmas.{stops_wider, where_short, where_well},
   WriterSteps.{goes_again, goes_lacking},
-  PartLemmas.{stopped_in_turn},
+  PartLemmas.{kept_there, stopped_in_turn},
   ShareLemmas.{has_told, bytes_begin},
 }
 use Rattle.seg_core.specs.{Cut.most}
@@ -102,18 +102,14 @@ told_writable Openings slots can is_told = can
 
 -- Shares that begin others
 
-closed_there : {one : List ℕ} {whole : Share} → MayBecome file_state.Closed whole.state ⊎ (share file_state.Closed one ≡ whole)
-    → has_file whole.state ≡ true
-closed_there (inl (is, may)) = may
-closed_there (inr same) = ap (λ (one : Share). has_file one.state) (sym same)
-
 -- what begins a part that may be closed by then
 still_begins : (ended : List Share) (made : List (List ℕ)) (more high : List Share)
     → SharesBegin (ended ++ (map (share file_state.Closed) made ++ more)) high
     → SharesBegin (ended ++ map (share file_state.Open) made) high
 still_begins [] [] more high begins = tt
 still_begins [] (one ∷ made) more [] begins = absurd begins
-still_begins [] (one ∷ made) more (whole ∷ high) begins = (inl (refl, closed_there begins.0), begins.1, still_begins [] made more high begins.2)
+still_begins [] (one ∷ made) more (whole ∷ high) begins =
+    (inl (refl, sym (kept_there (λ (one : Share). one.state) begins.0)), begins.1, still_begins [] made more high begins.2)
 still_begins (one ∷ ended) made more [] begins = absurd begins
 still_begins (one ∷ ended) made more (whole ∷ high) begins =
     (begins.0, begins.1, still_begins ended made more high begins.2)

@@ -5,13 +5,13 @@ use Rattle.std.proofs.{
   Common.{◌∙◌, ap, arith},
 }
 use Rattle.ports_core.{
-  specs.Agreed.{IsAgreed, IsUndecided, Spot, spot, output_at, GoesTo, ArePlaced},
+  specs.Agreed.{file_bytes, IsAgreed, IsUndecided, Spot, spot, output_at, GoesTo, ArePlaced},
   specs.Part.{FilesBegin, OutputsAt},
-  specs.Slot.{Slot, streams, opened, adds, closes, told_of, told_slot},
+  specs.Slot.{streams, opened, adds, closes, told_of, told_slot},
   specs.declared.slot.{Mode.Mode, State.{State, TheVariants.{Open, Closed}}},
   proofs.AgreedLemmas.{agreed_now, same_spots},
 }
-use Rattle.tee_core.specs.{Copy.{copy_in, tee_work, spots_each, tee_spots}, Run.all_copied}
+use Rattle.tee_core.specs.{Copy.{copies, copy_in, tee_work, spots_each, tee_spots}, Run.all_copied}
 
 copies_begin : (mode : Mode) (names : List (List ℕ)) (x y : List ℕ)
     → FilesBegin (map (copy_in mode Open x) names) (map (copy_in mode Closed (x ++ y)) names)
@@ -19,8 +19,7 @@ copies_begin mode [] x y = tt
 copies_begin mode (name ∷ names) x y = grind (arith, common_steps, copies_begin mode names x y)
 
 same_bytes : (mode : Mode) (one other : State) (names : List (List ℕ)) (x : List ℕ)
-    → map (λ (file : Slot). file.written) (map (copy_in mode one x) names)
-    ≡ map (λ (file : Slot). file.written) (map (copy_in mode other x) names)
+    → file_bytes (copies mode names one x) ≡ file_bytes (copies mode names other x)
 same_bytes mode one other [] x = refl
 same_bytes mode one other (name ∷ names) x = cc (same_bytes mode one other names x)
 
@@ -51,7 +50,7 @@ tee_goes : (names : List (List ℕ)) (x : List ℕ) {i : ℕ} (at : Spot) → Go
 tee_goes names x at goes = grind (arith, common_steps, cond_both, each_goes)
 
 file_has : (mode : Mode) (names : List (List ℕ)) {x : List ℕ} (place : ℕ) → place < length names
-    → get_or (map (λ (file : Slot). file.written) (map (copy_in mode Closed x) names)) place [] ≡ x
+    → get_or (file_bytes (copies mode names Closed x)) place [] ≡ x
 file_has mode [] place less = absurd (omega arith)
 file_has mode (name ∷ names) zero less = refl
 file_has mode (name ∷ names) (suc place) less = file_has mode names place (omega arith)
@@ -62,7 +61,7 @@ output_has mode names zero less = refl
 output_has mode names (suc place) less = file_has mode names place (omega arith)
 
 no_output : (mode : Mode) (names : List (List ℕ)) (x : List ℕ) (place offset : ℕ)
-    → offset < length (get_or (map (λ (file : Slot). file.written) (map (copy_in mode Closed x) names)) place [])
+    → offset < length (get_or (file_bytes (copies mode names Closed x)) place [])
     → place < length names
 no_output mode [] x place offset less = absurd (omega arith)
 no_output mode (name ∷ names) x zero offset less = omega arith

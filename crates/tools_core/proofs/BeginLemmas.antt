@@ -10,7 +10,7 @@ use Rattle.ports_core.specs.{
   Slot.{Slot, breaks, slot_at, unopened},
   Source.{Content, Source, unshown},
   Streams.{streams_with},
-  Part.{Begins, File, FilesBegin, Marks, OutputsAt, Part, only_out},
+  Part.{Begins, FilesBegin, Marks, OutputsAt, Part, only_out},
   Swept.Swept,
   Work.{IsLawful, Needs, Work},
   Inputs.largest_piece,
@@ -31,7 +31,7 @@ use Rattle.split_core.{
 use Rattle.words_core.specs.{SplitWords.{SplitAsked, AreNamed, CanSplit, IsInLimits, first_number}}
 use Rattle.tools_core.{
   specs.{Tasks.{naming_of}, Promises.{BeginsAs}, About.{TellsText, no_text, text_cut, text_whole}},
-  proofs.LeftLemmas.{Kept, slots_at, swept_kept, outputs_of, slot_of, slots_of, text_made},
+  proofs.LeftLemmas.{Kept, slots_at, swept_kept, outputs_of, slots_of, text_made},
 }
 use Rattle.run_core.specs.{
   Feeding.{HasAll, IsCall, Step, enough, is_enough, made_of, to_end, opens, feeds, closes},
@@ -99,8 +99,8 @@ mark_begins fault place before marked begins = absurd marked
 
 -- The outputs of a part that begins another part.
 
-files_at : (files others : List File) → FilesBegin files others → (place : ℕ)
-    → BeginsAs (slot_at (map slot_of files) place) (slot_at (map slot_of others) place)
+files_at : (files others : List Slot) → FilesBegin files others → (place : ℕ)
+    → BeginsAs (slot_at files place) (slot_at others place)
 files_at [] others begins place = empty_begins refl
 files_at (file ∷ files) [] begins place = absurd begins
 files_at (file ∷ files) (other ∷ others) begins zero = grind (arith, common_steps)

@@ -10,7 +10,7 @@ use Rattle.std.{
 use Rattle.ports_core.specs.{
   Inputs.{CameFrom, largest_piece},
   Message.{Report, SaysEach, whole},
-  Part.{File, OutputsAt, Part, file_of, told_file},
+  Part.{OutputsAt, Part},
   Slot.{Slot, adds, closes, has_file, is_open, no_slot, opened, slot_at},
   Source.{Content, Source, missing, source_at, source_of},
   Streams.{standard_error, standard_output, streams_with},
@@ -53,7 +53,7 @@ use Rattle.tools_core.{
     Promises.{Completes, FindAlike, HasLong, IsUnstopped, Ran, Run, Unstopped},
     Tasks.{csplit_task, head_task, names_of, split_task, tail_task},
   },
-  proofs.{SameLemmas.all_alike, LeftLemmas.{gone, met_by, outputs_of, slot_of}},
+  proofs.{SameLemmas.all_alike, LeftLemmas.{gone, met_by, outputs_of, told_again}},
 }
 use Rattle.ports_core.proofs.MessageLemmas.{each_state}
 use Rattle.ports_core.specs.Swept as swept_so
@@ -171,12 +171,8 @@ took_messages task sources (input ∷ inputs) old sound =
     (of_input task true input).messages) old sound in
     let (error, says) = took_messages task sources inputs mid still in (error, (mid, one, says))
 
-files_are : (files : List File) → map file_of (map slot_of files) ≡ map (told_file true) files
-files_are [] = refl
-files_are (file ∷ files) = rw (files_are files)
-
 at_part : (part : Part) (error : Slot) → OutputsAt true (streams_with error) part (outputs_of part error)
-at_part part error = record { standard = lit< tt; since = map slot_of part.files; slots = refl; files = files_are part.files }
+at_part part error = record { standard = lit< tt; slots = rw (told_again part.files) }
 
 cleared_one : (slot : Slot) → Cleared slot (gone slot)
 cleared_one slot = elim (cases_Bool (has_file slot.state)) [ inl has ↦ rw has (swept_so.removed has) | inr lacks ↦ rw lacks (swept_so.none lacks) ]
@@ -220,7 +216,7 @@ ends_well task world names =
     let (rest, done) = all_done task.work world names false 1 [] refl in
     let sources = (left_for task.work (Some world.standard)).source ∷ rest in
     let (error, says) = took_messages task sources (inputs_at world names) standard_error refl in
-    let left = cleans made.sweeps (adds made.part.out standard_output) error (map slot_of made.part.files) in record {
+    let left = cleans made.sweeps (adds made.part.out standard_output) error made.part.files in record {
       sources = sources;
       new = left.0;
       status = status_of made;

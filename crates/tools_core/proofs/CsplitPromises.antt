@@ -25,14 +25,14 @@ use Rattle.tools_core.{
     Tasks.csplit_task,
   },
   proofs.{
-    SplitPromises.{are_made, bytes_written, order_by},
-    LeftLemmas.{each_section, slot_of},
+    SplitPromises.{are_made, order_by},
+    LeftLemmas.each_section,
     PromiseLemmas.{did_one, one_made},
   },
 }
 use Rattle.seg_core.{specs.Line.{joined, lines_of}, proofs.{FirstLines.joined-append, LinesOf.joined-lines_of}}
 use Rattle.ports_core.specs.{
-  Part.File,
+  Slot.Slot,
   declared.{
     slot.State.TheVariants.Closed,
     file_writer.Opening.TheVariants.{Never, Late, AtOnce},
@@ -171,7 +171,7 @@ shares_have style [] = refl
 shares_have style (section ∷ sections) = grind (arith, common_steps, bytes_of_shares, (shares_have style sections))
 
 files_have : (style : Style) (place : ℕ) (shares : List Share)
-    → map (λ (file : File). file.bytes) (files_from (manner_of style) place shares)
+    → map (λ (file : Slot). file.written) (files_from (manner_of style) place shares)
     ≡ map (λ (one : Share). one.bytes) shares
 files_have style place [] = refl
 files_have style place (one ∷ shares) = rw (files_have style (place + 1) shares)
@@ -201,10 +201,9 @@ pub record IsCsplit (run : Run) (asked : CsplitAsked) (input : List ℕ) : Type 
   pub operands : List Operand
   pub asks : Asks asked.calling asked.operands operands
   pub well : is_final (plan asked.style operands (all_lines input)).ending ≡ false
-  pub files : files_of run ≡ map slot_of
-      (files_from (manner_of asked.style) 0
+  pub files : files_of run ≡ files_from (manner_of asked.style) 0
       (shares_in asked.style
-      (whole_sections (all_lines input) (plan asked.style operands (all_lines input)))))
+      (whole_sections (all_lines input) (plan asked.style operands (all_lines input))))
   pub contents : contents_of run ≡ flat_map (file_in asked.style)
       (whole_sections (all_lines input) (plan asked.style operands (all_lines input)))
 
@@ -215,13 +214,13 @@ is_csplit {run} {asked} {input} does has =
     let (task, (operands, asks, is), made_is) = one.makes in
     let made = one_made one (csplit_task Cutters asked operands) (operands, asks, refl) in
     let sections = whole_sections (all_lines input) (plan asked.style operands (all_lines input)) in
-    let files : files_of run ≡ map slot_of (files_from (manner_of asked.style) 0 (shares_in asked.style sections)) = ap (drop 2) made.slots in
+    let files : files_of run ≡ files_from (manner_of asked.style) 0 (shares_in asked.style sections) = ap (drop 2) made.slots in
     record {
       operands = operands;
       asks = asks;
       well = ends_well _ made.unjudged;
       files = files;
-      contents = rw files (bytes_written _ ∙ files_have asked.style 0 (shares_in asked.style sections) ∙ shares_have
+      contents = rw files (files_have asked.style 0 (shares_in asked.style sections) ∙ shares_have
           asked.style sections);
     }
 

@@ -11,12 +11,12 @@ use Rattle.std.proofs.{
   Common.{Ok, codes},
 }
 use Rattle.ports_core.specs.{
-  Slot.{Slot, adds, has_file, slot_at, closes, opened, removes},
+  Slot.{Slot, adds, has_file, slot_at, closes, opened, removes, told_slot},
   Source.{Content, Source, no_source},
   Streams.{standard_error, standard_output, streams_with},
   Inputs.largest_piece,
   Draft.{Draft, Manner, shares_of},
-  Part.{File, FilesBegin, Part, nothing, only_out, OutputsAt, file_of, told_file},
+  Part.{FilesBegin, Part, nothing, only_out, OutputsAt},
   Text.{Message, is_quiet, message_of, status_after},
   declared.calling.{Calling.{Calling, TheVariants.Cutters}, Speaker.Speaker},
   declared.reason.Reason.Reason,
@@ -27,6 +27,7 @@ use Rattle.ports_core.specs.{
   Message.SaysAll,
   Swept.{Cleared, Swept},
 }
+use Rattle.ports_core.proofs.PartLemmas.{kept_there}
 use Rattle.seg_core.specs.declared.{cut.{Cut.{Cut, TheVariants.{Parts, Round}}, Way.Way}, unit.Unit.Unit as Counted}
 use Rattle.split_core.specs.{
   ChunkWork.{draft_by, way_work},
@@ -108,46 +109,31 @@ tells_one run asked fault name met says = ([], [], grind (arith, common_steps, o
 
 -- Files that are open or closed, and not broken.
 
-abbrev pub slot_of : File → Slot
-slot_of file = record {
-  name = file.name;
-  mode = file.mode;
-  written = file.bytes;
-  state = file.state;
-  is_broken = file.is_broken;
-  reason = file.reason;
-}
-
 abbrev pub IsLive : Slot → Type 0
 IsLive slot = (slot.is_broken ≡ false) × (has_file slot.state ≡ true)
 
-abbrev pub AreLive : List File → Type 0
-AreLive files = All (λ (file : File). IsLive (slot_of file)) files
+abbrev pub AreLive : List Slot → Type 0
+AreLive files = All IsLive files
 
 no_live : AreLive []
 no_live = grind (arith, common_steps)
 
-live_both : (front back : List File) → AreLive front → AreLive back → AreLive (front ++ back)
+live_both : (front back : List Slot) → AreLive front → AreLive back → AreLive (front ++ back)
 live_both front back one other = grind (arith, common_steps)
 
 -- The files of a part that begins a part with live files are live.
 
-live_state : {file whole : File} → (file.state ≡ Open) ⊎ (file ≡ whole) → has_file whole.state ≡ true
-    → has_file file.state ≡ true
-live_state (inl is) has = ap has_file is
-live_state (inr same) has = grind (arith, common_steps)
-
-pub live_begin : (files wholes : List File) → FilesBegin files wholes → AreLive wholes → AreLive files
+pub live_begin : (files wholes : List Slot) → FilesBegin files wholes → AreLive wholes → AreLive files
 live_begin [] wholes begins live = no_live
 live_begin (file ∷ files) [] begins live = absurd begins
 live_begin (file ∷ files) (whole ∷ wholes) begins live =
-    let P = λ (file : File). IsLive (slot_of file) in
-    let first = All-head P whole wholes live in
-    All-cons P file files (begins.2 ∙ first.0, live_state begins.3 first.1) (live_begin files wholes begins.5 (All-tail P whole wholes live))
+    let first = All-head IsLive whole wholes live in
+    All-cons IsLive file files (begins.2 ∙ first.0, kept_there (λ (file : Slot). file.state) begins.3 ∙ first.1)
+    (live_begin files wholes begins.5 (All-tail IsLive whole wholes live))
 
 -- What is true of the file of each share is true of all files.
 
-pub each_made : (P : File → Type 0) (manner : Manner) (place : ℕ) (shares : List Share)
+pub each_made : (P : Slot → Type 0) (manner : Manner) (place : ℕ) (shares : List Share)
     → All (λ one. (place : ℕ) → P (made.file_at manner place one)) shares → All P (made.files_from manner place shares)
 each_made P manner place [] all = All-nil P
 each_made P manner place (one ∷ shares) all = cond_both (manner.has_name place) _ _ (All P)
@@ -191,7 +177,7 @@ settled_there (Round n delim) elide x = shares_there Open refl (dealt_files deli
 
 files_there : (manner : Manner) (shares : List Share) → All IsThere shares → AreLive (made.files_from manner 0 shares)
 files_there manner shares all =
-    each_made (λ file. IsLive (slot_of file)) manner 0 shares (λ k one within place. (refl, all k one within))
+    each_made IsLive manner 0 shares (λ k one within place. (refl, all k one within))
 
 drafts_there : (draft : Draft) → All IsThere (shares_of draft)
 drafts_there draft = grind (arith, common_steps, All-append, shares_there)
@@ -361,7 +347,7 @@ step_live {before} living live (call_step content call is leaves) =
 -- The outputs of a part, with any standard error.
 
 abbrev pub outputs_of : Part → Slot → List Slot
-outputs_of part error = adds part.out standard_output ∷ error ∷ map slot_of part.files
+outputs_of part error = adds part.out standard_output ∷ error ∷ part.files
 
 abbrev pub slots_of : Part → List Slot
 slots_of part = outputs_of part standard_error
@@ -377,21 +363,17 @@ pub outputs_live : (part : Part) (error : Slot) (place : ℕ) → AreLive part.f
 outputs_live part error zero live differs = (refl, λ within. refl)
 outputs_live part error (suc zero) live differs = absurd (differs refl)
 outputs_live part error (suc (suc place)) live differs =
-    let one = live_at (map slot_of part.files) place (All-map IsLive slot_of part.files live) in (one.0, λ within. one.1 (omega (arith, within)))
+    let one = live_at part.files place live in (one.0, λ within. one.1 (omega (arith, within)))
 
 -- Outputs that have a part.
 
-slots_again : (since : List Slot) → map slot_of (map file_of since) ≡ since
-slots_again [] = refl
-slots_again (slot ∷ since) = rw (slots_again since)
-
-told_again : (files : List File) → map (told_file true) files ≡ files
+pub told_again : (files : List Slot) → map (told_slot true) files ≡ files
 told_again [] = refl
 told_again (file ∷ files) = rw (told_again files)
 
 pub slots_at : {part : Part} {error : Slot} {now : List Slot} → OutputsAt true (streams_with error) part now
     → now ≡ outputs_of part error
-slots_at {part} at = grind (arith, common_steps, slots_again, told_again)
+slots_at {part} at = grind (arith, common_steps, told_again)
 
 -- What becomes of an output if files are removed, or stay.
 
@@ -488,21 +470,16 @@ met_by false = None
 
 abbrev pub tee_made : TeeAsked → Content → Outcome
 tee_made asked content = record {
-  part = record { out = content.bytes; files = map (λ name. file_of (copy asked.mode content.bytes name)) asked.names };
+  part = record { out = content.bytes; files = map (copy asked.mode content.bytes) asked.names };
   messages = messages_in (said_of_input no_source (met_by content.breaks_off));
   failed = content.breaks_off;
   sweeps = false;
 }
 
-pub copies_are : (mode : Mode) (bytes : List ℕ) (names : List (List ℕ))
-    → map slot_of (map (λ name. file_of (copy mode bytes name)) names) ≡ map (copy mode bytes) names
-copies_are mode bytes [] = refl
-copies_are mode bytes (name ∷ names) = rw (copies_are mode bytes names)
-
 copies_live : (mode : Mode) (bytes : List ℕ) (names : List (List ℕ))
-    → AreLive (map (λ name. file_of (copy mode bytes name)) names)
+    → AreLive (map (copy mode bytes) names)
 copies_live mode bytes names =
-    All-map (λ (file : File). IsLive (slot_of file)) (λ name. file_of (copy mode bytes name)) names
+    All-map IsLive (copy mode bytes) names
     (λ k name within. (refl, refl))
 
 tee_fits : {Line : Message → Type 0} (asked : TeeAsked) (bytes : List ℕ) (breaks_off : Bool) (shown : Option (List ℕ))
@@ -538,7 +515,7 @@ tee_left {asked} {content} {source} (tee.copied pieces fault old mid comes so_fa
       error = says.error;
       says = rw (input_messages no_source source (met_by content.breaks_off))
           (rw met at (each_all _ _ _ _ _ (sound_says so_far says closes sound)));
-      swept = rw (all_sound so_far says closes sound, all, copies_are asked.mode content.bytes asked.names);
+      swept = rw (all_sound so_far says closes sound, all);
       is = is ∙ sound_status asked.on_broken fault (end_streams so_far says closes) sound ∙ rw met (met_status content.breaks_off);
     }
 tee_left (tee.no_room error says unread slots is) copied = absurd copied

@@ -31,7 +31,7 @@ use Rattle.tools_core.proofs.{
   BeginLemmas.{all_have_names, ending, is_way, part_of, bare_begins, begins_kept, begins_whole, lawful_grows},
   BeginLemmas.{way_grows, text_begins},
   TeePromises.tee_begins,
-  LeftLemmas.{Did, Makes, completes_left, left_whole, same_made, slots_of, copies_are, copy, tee_made, left_at},
+  LeftLemmas.{Did, Makes, completes_left, left_whole, same_made, slots_of, copy, tee_made, left_at},
   LeftLemmas.{given_content, makes_task, ran_over, task_knows},
   StoppedPromises.{completes_or, silent_completes},
   RunLemmas.by_words,
@@ -183,7 +183,7 @@ is_copied {asked} {input} does has =
     ∙ ap (λ those. slots_of (tee_made asked (record { bytes = those; breaks_off = content.breaks_off; shown = content.shown })).part) bytes in
     record {
       output = rw whole;
-      files = rw (ap (drop 2) whole ∙ copies_are asked.mode input asked.names)
+      files = rw (ap (drop 2) whole)
           (record {
             named = copies_named asked.mode input asked.names;
             each = All-map

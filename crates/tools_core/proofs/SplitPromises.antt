@@ -23,7 +23,7 @@ use Rattle.ports_core.specs.{
   declared.slot.{Mode.TheVariants.Fresh, State.TheVariants.Closed},
   declared.calling.Calling.TheVariants.Cutters,
   Draft.{Manner, file_at, files_from, part_of, told_of_files},
-  Part.{File, Part, only_out},
+  Part.{Part, only_out},
   Slot.{Slot},
 }
 use Rattle.ports_core.proofs.OrderLemmas.{in_order}
@@ -35,7 +35,7 @@ use Rattle.tools_core.{
   proofs.{
     BeginLemmas.all_have_names,
     RunLemmas.by_words,
-    LeftLemmas.{Fits, IsLeft, LeftBy, completes_left, each_made, left_says, makes_task, slot_of, slots_of},
+    LeftLemmas.{Fits, IsLeft, LeftBy, completes_left, each_made, left_says, makes_task, slots_of},
     PromiseLemmas.{DidOne, IsMade, did_one, one_made},
   },
 }
@@ -104,16 +104,10 @@ pub not_short : (has : Bool) → cond (not has) (Some Suffixes) None ≡ None �
 not_short true well = refl
 not_short false well = absurd (cc)
 
-pub bytes_written : (files : List File)
-    → map (λ (file : Slot). file.written) (map slot_of files) ≡ map (λ (file : File). file.bytes) files
-bytes_written [] = refl
-bytes_written (file ∷ files) = rw (bytes_written files)
-
 all_named : (filing : Filing) {pieces : List (List ℕ)}
     → are_named filing.names (length (map (share Closed) pieces)) ≡ true
-    → map (λ (file : Slot). file.written) (map slot_of (named filing 0 (map (share Closed) pieces))) ≡ pieces
+    → map (λ (file : Slot). file.written) (named filing 0 (map (share Closed) pieces)) ≡ pieces
 all_named filing {pieces} are = rw (
-  bytes_written (named filing 0 (map (share Closed) pieces)),
   bytes_named filing 0 (map (share Closed) pieces),
   bytes_of_shares Closed pieces,
   each_named filing.names pieces (ap (are_named filing.names) (sym (length-map pieces (share Closed))) ∙ are),
@@ -122,11 +116,11 @@ all_named filing {pieces} are = rw (
 -- The names of the files.
 
 -- the files have the names of the numbers from `start` on
-abbrev pub AreNamed : (ℕ → List ℕ) → ℕ → List File → Type 0
-AreNamed name start files = (k : ℕ) → k < length (map slot_of files) → text_at
-    (map (λ (file : Slot). file.name) (map slot_of files)) k ≡ name (start + k)
+abbrev pub AreNamed : (ℕ → List ℕ) → ℕ → List Slot → Type 0
+AreNamed name start files = (k : ℕ) → k < length files
+    → text_at (map (λ (file : Slot). file.name) files) k ≡ name (start + k)
 
-named_step : (name : ℕ → List ℕ) (start : ℕ) (file : File) (made : List File) → file.name ≡ name start
+named_step : (name : ℕ → List ℕ) (start : ℕ) (file : Slot) (made : List Slot) → file.name ≡ name start
     → AreNamed name (start + 1) made → AreNamed name start (file ∷ made)
 named_step name start file made is are zero within = search rules
 named_step name start file made is are (suc k) within = are k (omega (arith, within)) ∙ ap name (omega arith)
@@ -146,17 +140,16 @@ pub record AreMade (manner : Manner) (files : List Slot) : Type 0 where
   pub sound : All (IsSound Fresh) files
 
 pub are_made : (manner : Manner) (shares : List Share) → All (λ (one : Share). one.state ≡ Closed) shares
-    → AreMade manner (map slot_of (files_from manner 0 shares))
+    → AreMade manner (files_from manner 0 shares)
 are_made manner shares ended = record {
   named = λ place within. named_from manner 0 shares place within ∙ ap manner.name (omega arith);
-  sound = All-map (IsSound Fresh) slot_of _
-      (each_made (λ (file : File). IsSound Fresh (slot_of file)) manner 0 shares (λ k one within place. (refl, ended k one within, refl)));
+  sound = each_made (IsSound Fresh) manner 0 shares (λ k one within place. (refl, ended k one within, refl));
 }
 
 -- The lines about files on standard output.
 
-told_lines : (verbose : Bool) (files : List File)
-    → told_of_files (output_by verbose) files ≡ cond verbose (lines_telling (map slot_of files)) []
+told_lines : (verbose : Bool) (files : List Slot)
+    → told_of_files (output_by verbose) files ≡ cond verbose (lines_telling files) []
 told_lines false files = refl
 told_lines true [] = refl
 told_lines true (file ∷ files) = rw (told_lines true files)
@@ -251,8 +244,8 @@ is_split {run} {asked} {input} does has = by (makes_files asked.way) refl where
       let left : run.outputs ≡ slots_of (after_part (only_out []) (part_of (manner_of filing) shares)) = made.slots
       ∙ rw (whole_is asked input asked.way can.way makes) in
       let are = named_all asked input asked.way can.way can.named made.unjudged in
-      let files : files_of run ≡ map slot_of (named filing 0 shares) = ap (drop 2) left in
-      let slots = map slot_of (named filing 0 shares) in
+      let files : files_of run ≡ named filing 0 shares = ap (drop 2) left in
+      let slots = named filing 0 shares in
       let count : length slots ≡ length shares = sym (length-map slots (λ (file : Slot). file.written)) ∙ ap length
       (all_named filing are) ∙ sym (length-map pieces (share Closed)) in
       let ended = are_made (manner_of filing) shares (All-map (λ (one : Share). one.state ≡ Closed) (share Closed) pieces (λ k bytes within. refl)) in
@@ -705,8 +698,8 @@ module _ {split : Run} {asked : SplitAsked} {input : Input} {shown bytes : List 
     left : LeftSo (made_at task input.name ((chunks_work plan (Some size)).whole bytes) (Some Changed))
     left = left_so (chunks_work plan (Some size)) (Some Changed) (way_is is) refl (changed_told plan size bytes gives.other)
 
-    written : contents_of split ≡ map (λ file. file.bytes) ((chunks_work plan (Some size)).whole bytes).files
-    written = rw left.1.swept (bytes_written ((chunks_work plan (Some size)).whole bytes).files)
+    written : contents_of split ≡ map (λ file. file.written) ((chunks_work plan (Some size)).whole bytes).files
+    written = rw left.1.swept
 
   pub chunk_as_shown : {place : ℕ} {chunks : Chunks} → asked.way ≡ way.Chunk place chunks
       → IsChunkAsShown split asked place chunks input.name shown bytes

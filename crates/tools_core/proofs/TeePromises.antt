@@ -61,7 +61,7 @@ use Rattle.tools_core.{
     Promises.{SaysWhy, StopsRun, Tells, TellsMet, failing, message_by},
   },
   proofs.BeginLemmas.{bare_begins, empty_begins},
-  proofs.LeftLemmas.{HasLine, copies_are, copy, has_after, has_before, one_line, ran_over, same_content, says_line},
+  proofs.LeftLemmas.{HasLine, copy, has_after, has_before, one_line, ran_over, same_content, says_line},
   proofs.LeftLemmas.{slots_of, tee_made, tells_one},
 }
 use Rattle.ports_core.specs.declared.slot.State.TheVariants as state
@@ -606,8 +606,7 @@ tee_begins run {asked} {content} place differs (tee.copied pieces fault old mid 
       by zero = begins 0 (omega arith) refl refl
       by (suc n) = elim (cases_lt n (length asked.names)) [
         | inl within ↦
-            let made = ap (λ those. slot_at those n) (copies_are asked.mode content.bytes asked.names)
-            ∙ mapped_at (copy asked.mode content.bytes) asked.names n within in
+            let made = mapped_at (copy asked.mode content.bytes) asked.names n within in
             rw made (begins (suc n) within refl refl)
         | inr past ↦ rw (get_or_past run.outputs (suc (suc n)) no_slot (omega (arith, past, streams_count (has run asked so_far says ends))))
             (empty_begins refl)
