@@ -1,17 +1,16 @@
 -- Lemmas on what words mean by both ways to call the program.
 use Rattle.std.proofs.{
-  Common.{◌≡◌, refl, ap, ◌∙◌, sym, map, bytes_eq, ℕ, ◌==◌, ◌&&◌, ◌||◌},
+  Common.{◌≡◌, refl, ap, ◌∙◌, ℕ, ◌==◌, ◌&&◌, ◌||◌},
   Common.{Bool, true, false, if◌then◌else◌, List, [], ◌∷◌},
   Common.{arith, rules, Option, Some, None, Result, Ok, Err, option_map, ◌⊎◌, inl, inr},
   Math.Bool.and-false,
-  lemmas.{Grind.common_steps, Bool.Decides.nat_tests},
+  lemmas.Bool.Decides.nat_tests,
 }
 use Rattle.operand_core.specs.Style.{Style}
 use Rattle.ports_core.specs.declared.{
   calling.Calling.{Calling, TheVariants.{Cutters, OwnName}},
   fault.{Fault.{Fault, TheVariants.Usage}, UsageKind.TheVariants.BadFollow},
   on_broken.OnBroken.{OnBroken, TheVariants.Signal},
-  tool.Tool.Tool,
 }
 use Rattle.words_core.specs.{
   declared.{
@@ -66,19 +65,11 @@ begins_head rows words = search rules
 
 -- a name is that of the same tool
 
-abbrev tool_among : List (List ℕ × Tool) → List ℕ → Option Tool
-tool_among [] name = None
-tool_among (row ∷ rows) name = if bytes_eq row.0 name then Some row.1 else tool_among rows name
-
-by_name : (rows : List ToolRow) (name : List ℕ) → option_map (λ row. row.tool) (row_named rows name)
-    ≡ tool_among (map (λ row. (row.name, row.tool)) rows) name
-by_name [] name = refl
-by_name (row ∷ rows) name = grind (arith, common_steps, by_name rows name)
-
 pub row_named-tool : (calling : Calling) (name : List ℕ)
     → option_map (λ row. row.tool) (row_named (tools calling) name) ≡ tool_named name
 unfolding tools
-row_named-tool calling name = by_name (tools calling) name ∙ sym (by_name (tools Cutters) name)
+row_named-tool Cutters name = refl
+row_named-tool OwnName name = search rules
 
 pub same_unknown : (name : List ℕ) (words : List (List ℕ)) (own cutters : Option ToolRow)
     → option_map (λ row. row.tool) own ≡ None → option_map (λ row. row.tool) cutters ≡ None

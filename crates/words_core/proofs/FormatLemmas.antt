@@ -54,13 +54,8 @@ pub letter_clipped : (flags : List ℕ) (width : ℕ) (precision : Option ℕ) (
     → with_letter flags (min width (2 ^ 64 - 1)) (option_map (λ digits. min digits (2 ^ 64 - 1)) precision) text
     ≡ with_letter flags width precision text
 letter_clipped flags width precision [] = refl
-letter_clipped flags width precision (letter ∷ rest) = by (base_of letter) where
-  by : (base : Option Base)
-      → option_map {U = Form × List ℕ} (λ form. (form, rest)) (option_and_then (form_of flags (min width (2 ^ 64 - 1))
-      (option_map (λ digits. min digits (2 ^ 64 - 1)) precision)) base)
-      ≡ option_map (λ form. (form, rest)) (option_and_then (form_of flags width precision) base)
-  by None = refl
-  by (Some base) = ap (option_map {U = Form × List ℕ} (λ form. (form, rest))) (form_clipped flags width precision base)
+letter_clipped flags width precision (letter ∷ rest) = λ i.
+    option_map (λ form. (form, rest)) (option_and_then (λ base. form_clipped flags width precision base i) (base_of letter))
 
 -- What follows a letter.
 

@@ -84,16 +84,18 @@ tail_has_no_digit : (calling : Calling) (byte : ℕ) → 48 ≤ byte → byte �
     → option_lettered (tail_table calling) byte ≡ None
 tail_has_no_digit calling byte least most =
     let no : (letter : ℕ) → 57 < letter → (letter == byte) ≡ false = λ letter above. ne_eqb letter byte (omega arith) in
-    let n = no 110 (omega arith) in
-    let c = no 99 (omega arith) in
-    let q = no 113 (omega arith) in
-    let v = no 118 (omega arith) in
-    let z = no 122 (omega arith) in
-    let f = no 102 (omega arith) in
-    let by_name = no 70 (omega arith) in
-    let s = no 115 (omega arith) in
-    let hyphen = ne_eqb 45 byte (omega arith) in
-    rw (lt-ltb byte 128 (omega arith), n, c, q, v, z, f, by_name, s, hyphen) refl
+    rw (
+      lt-ltb byte 128 (omega arith),
+      ne_eqb 45 byte (omega arith),
+      no 110 (omega arith),
+      no 99 (omega arith),
+      no 113 (omega arith),
+      no 118 (omega arith),
+      no 122 (omega arith),
+      no 102 (omega arith),
+      no 70 (omega arith),
+      no 115 (omega arith),
+    ) refl
 
 pub head_letters : (text : List ℕ) (place : ℕ) → is_lettered head_table OfHead text ≡ true
     → mixed head_table place (45 ∷ text) ≡ Err (Usage UnknownOption place)

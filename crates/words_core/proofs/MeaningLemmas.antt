@@ -86,7 +86,7 @@ only-safe : (rows : List OptionRow) → AreSafe rows → IfOk (only_one rows) Is
 only-safe rows safe = search rules
 
 full-safe : (found : Option Takes) (short : Result Takes UsageKind) → IfSome found IsSafe → IfOk short IsSafe
-    → IfOk (option_map_or (λ takes. Ok takes) found short) IsSafe
+    → IfOk (option_map_or Ok found short) IsSafe
 full-safe found short safe other = search rules
 
 called-safe : (rows : List OptionRow) (name : List ℕ) → AreSafe rows → IfOk (option_called rows name) IsSafe
@@ -140,11 +140,11 @@ as-sound : {A : Type 0} (make : A → Choice) (value : Result A UsageKind) → I
 as-sound make value is = search rules
 
 choice-sound : (kind : Kind) (text : List ℕ) → IfOk (choice_in kind text) IsSound
-choice-sound kind.Divided text = as-sound (λ division. choice.Divided division) (division_in text) (division-sound text)
+choice-sound kind.Divided text = as-sound choice.Divided (division_in text) (division-sound text)
 choice-sound (kind.Follow calling) text =
-    as-sound (λ followed. choice.Follow followed) (followed_in calling text) (anything (followed_in calling text))
+    as-sound choice.Follow (followed_in calling text) (anything (followed_in calling text))
 choice-sound (kind.OnBroken calling) text =
-    as-sound (λ on_broken. choice.OnBroken on_broken) (on_broken_in calling text)
+    as-sound choice.OnBroken (on_broken_in calling text)
     (anything (on_broken_in calling text))
 choice-sound which text = search rules
 

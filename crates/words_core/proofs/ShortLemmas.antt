@@ -72,11 +72,11 @@ alike : {A : Type 0} (make : A → Choice) (bad : UsageKind) (found short : Opti
 alike make bad found short = search rules
 
 pub follow_alike : (kind : Kind) (text : List ℕ) → Alike follow_values BadFollow own_follow kind text
-follow_alike (kind.Follow Cutters) text = alike (λ followed. choice.Follow followed) BadFollow _ _
+follow_alike (kind.Follow Cutters) text = alike choice.Follow BadFollow _ _
 follow_alike other text = search rules
 
 pub on_broken_alike : (kind : Kind) (text : List ℕ) → Alike on_broken_values BadMode own_on_broken kind text
-on_broken_alike (kind.OnBroken Cutters) text = alike (λ on_broken. choice.OnBroken on_broken) BadMode _ _
+on_broken_alike (kind.OnBroken Cutters) text = alike choice.OnBroken BadMode _ _
 on_broken_alike other text = search rules
 
 -- what is true of both pairs is true of the pair that a test picks
@@ -121,8 +121,8 @@ module _ {A : Type 0} (values : List (List ℕ × A)) (own : Kind → Kind) (bad
       (ap (λ rows. own_row row ∷ rows) (begun_so rows start)) (begun_so rows start)
 
   full_so : (found : Option Takes) (begun : List OptionRow)
-      → option_map_or (λ takes. Ok takes) (option_map own_takes found) (only_one (own_rows begun))
-      ≡ own_found (option_map_or (λ takes. Ok takes) found (only_one begun))
+      → option_map_or Ok (option_map own_takes found) (only_one (own_rows begun))
+      ≡ own_found (option_map_or Ok found (only_one begun))
   full_so found begun = search rules
 
   module _ (alike : (kind : Kind) (text : List ℕ) → Alike values bad own kind text) (rows : List OptionRow) where

@@ -8,8 +8,7 @@ use Rattle.ports_core.specs.declared.{
 use Rattle.words_core.specs.{
   Division.division_in,
   Format.{format_in, format_seen, text},
-  Value.{byte_in, counted, ending_in, followed_in, hex_in, not_zero, on_broken_in, pause_in, process_in, size_in},
-  Value.{then_check, up_to},
+  Value.{byte_in, counted, ending_in, followed_in, hex_in, on_broken_in, pause_in, positive_in, size_in, up_to},
   declared.choice.{Choice.Choice, Kind.Kind},
 }
 use Rattle.words_core.specs.declared.choice.Choice.TheVariants as choice
@@ -31,22 +30,21 @@ asking make (Err fault) = Err fault
 -- what an option of this kind asks for with this value
 abbrev pub choice_in : Kind → List ℕ → Result Choice UsageKind
 choice_in (kind.Amount unit) value = asking (λ count. choice.Amount unit count) (counted (count_of value))
-choice_in (kind.Follow calling) value = asking (λ followed. choice.Follow followed) (followed_in calling value)
-choice_in kind.Looks value =
-    asking (λ looks. choice.Looks looks) (then_check (up_to (2 ^ 63 - 1) (digits_of value)) not_zero)
-choice_in kind.Pause value = asking (λ pause. choice.Pause pause) (pause_in value)
-choice_in kind.Process value = asking (λ process. choice.Process process) (process_in value)
-choice_in kind.LinesEach value = asking (λ size. choice.LinesEach size) (size_in value)
-choice_in kind.BytesEach value = asking (λ size. choice.BytesEach size) (size_in value)
-choice_in kind.LineBytesEach value = asking (λ size. choice.LineBytesEach size) (size_in value)
-choice_in kind.Divided value = asking (λ division. choice.Divided division) (division_in value)
-choice_in kind.Width value = asking (λ width. choice.Width width) (up_to 255 (digits_of value))
+choice_in (kind.Follow calling) value = asking choice.Follow (followed_in calling value)
+choice_in kind.Looks value = asking choice.Looks (positive_in (2 ^ 63 - 1) value)
+choice_in kind.Pause value = asking choice.Pause (pause_in value)
+choice_in kind.Process value = asking choice.Process (positive_in (2 ^ 31 - 1) value)
+choice_in kind.LinesEach value = asking choice.LinesEach (size_in value)
+choice_in kind.BytesEach value = asking choice.BytesEach (size_in value)
+choice_in kind.LineBytesEach value = asking choice.LineBytesEach (size_in value)
+choice_in kind.Divided value = asking choice.Divided (division_in value)
+choice_in kind.Width value = asking choice.Width (up_to 255 (digits_of value))
 choice_in kind.NumericSuffixes value =
     asking (λ from. choice.Suffixes Digits (Some from)) (up_to (2 ^ 63 - 1) (digits_of value))
 choice_in kind.HexSuffixes value = asking (λ from. choice.Suffixes Hex (Some from)) (hex_in value)
-choice_in kind.Separator value = asking (λ byte. choice.Separator byte) (byte_in value)
+choice_in kind.Separator value = asking choice.Separator (byte_in value)
 choice_in kind.Ending value = asking (λ ending. choice.Ending (text ending)) (ending_in value)
 choice_in kind.Prefix value = Ok (choice.Prefix (text value))
-choice_in kind.Format value = asking (λ format. choice.Format format) (ok_or (format_in value) BadFormat)
-choice_in (kind.OnBroken calling) value = asking (λ on_broken. choice.OnBroken on_broken) (on_broken_in calling value)
+choice_in kind.Format value = asking choice.Format (ok_or (format_in value) BadFormat)
+choice_in (kind.OnBroken calling) value = asking choice.OnBroken (on_broken_in calling value)
 choice_in kind.NoEffect value = asking (λ _. choice.NoEffect) (up_to (2 ^ 63 - 1) (digits_of value))

@@ -9,20 +9,19 @@ use Rattle.seg_core.specs.{
 use Rattle.ports_core.specs.declared.fault.UsageKind.{UsageKind, TheVariants.BadNumber}
 use Rattle.words_core.specs.{
   declared.division.{Dealing.{Dealing, TheVariants.{Bytes, Lines, Turns}}, Division.Division},
-  Number.{not_zero, then_check, up_to},
+  Number.{positive_in, then_check, up_to},
 }
 use Rattle.seg_core.specs.declared.cut.Way.TheVariants as way
 use Rattle.seg_core.specs.declared.unit.Unit.TheVariants as unit
 
 -- a division among all files, 1 to 65,535 of them
 abbrev pub all_in : Dealing → List ℕ → Result Division UsageKind
-all_in dealing files = then_check (then_check (up_to 65535 (digits_of files)) not_zero) (λ n.
+all_in dealing files = then_check (positive_in 65535 files) (λ n.
     Ok (record { dealing = dealing; files = n; only = None }))
 
 -- one file of a division, counted from 1; a number that is greater than that of all files is reported before 0
 abbrev pub one_in : Dealing → (number files : List ℕ) → Result Division UsageKind
-one_in dealing number files = then_check (up_to 65535 (digits_of files)) (λ n.
-    then_check (then_check (up_to n (digits_of number)) not_zero) (λ k.
+one_in dealing number files = then_check (up_to 65535 (digits_of files)) (λ n. then_check (positive_in n number) (λ k.
     Ok (record { dealing = dealing; files = n; only = Some (k - 1) })))
 
 -- what `N` or `K/N` says: `front` has the leading digits, and the other list what follows them; 47 is `/`

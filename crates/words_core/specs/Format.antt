@@ -74,20 +74,17 @@ abbrev pub filling_by : (flags : List ℕ) → (precision : Option ℕ) → Fill
 filling_by flags precision = if has_flag 45 flags then BlanksAfter
     else (if is_none precision && has_flag 48 flags then Zeros else BlanksBefore)
 
--- the least number of digits: the precision, or 1 without a precision
-abbrev pub digits_by : Option ℕ → ℕ
-digits_by precision = unwrap_or precision 1
-
--- the form that flags, width, precision and base give together; the width and the precision are at most 255
+-- the form that flags, width, precision and base give together; the width and the precision, which is 1 if it isn't
+-- given, are at most 255
 abbrev pub form_of : (flags : List ℕ) → (width : ℕ) → (precision : Option ℕ) → Base → Option Form
 form_of flags width precision base =
-    if go_with base flags && (nat_le width 255 && nat_le (digits_by precision) 255)
+    if go_with base flags && (nat_le width 255 && nat_le (unwrap_or precision 1) 255)
     then Some (record {
       base = base;
       is_marked = has_flag 35 flags;
       width = width;
       filling = filling_by flags precision;
-      precision = digits_by precision;
+      precision = unwrap_or precision 1;
     }) else None
 
 -- the precision after a `.` (46), and what follows it

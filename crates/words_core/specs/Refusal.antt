@@ -3,7 +3,7 @@
 use Rattle.std.specs.{
   Char.is_ascii_digit,
   Option.option_map_or,
-  Prelude.{ℕ, ◌-◌, ◌==◌, ◌||◌, nat_lt, Bool, true, false, List, [], ◌∷◌, ◌++◌, codes, find, is_none, take},
+  Prelude.{ℕ, ◌-◌, ◌==◌, ◌||◌, nat_lt, Bool, true, false, List, [], ◌∷◌, ◌++◌, codes, drop, find, is_none, take},
   Prelude.{Option, None, Result, Err, if◌then◌else◌, slice_index_or},
 }
 use Rattle.ports_core.specs.{
@@ -56,9 +56,8 @@ lacks_value (Err (Usage MissingValue word)) = true
 lacks_value given = false
 
 abbrev pub end_with_option : List (List ℕ) → Bool
-end_with_option [] = false
-end_with_option (name ∷ words) =
-    option_map_or (λ row. lacks_value (given_by OwnName row words)) (row_named (tools OwnName) name) false
+end_with_option words =
+    option_map_or (λ row. lacks_value (given_by OwnName row (drop 1 words))) (row_of words) false
 
 abbrev pub for_option : List (List ℕ) → ℕ → List ℕ
 for_option words place =

@@ -152,12 +152,9 @@ for_all alphabet count width =
 abbrev pub or_two : ℕ → ℕ
 or_two width = if width == 0 then 2 else width
 
-abbrev pub numbered : Alphabet → (from width : ℕ) → Result Suffix Fault
-numbered alphabet from width = wide_enough alphabet (from + 1) (or_two width)
-
 abbrev pub suffix_for : Way → Alphabet → (from : Option ℕ) → (width : ℕ) → Result Suffix Fault
 suffix_for (Cut (Round files delim)) alphabet from width = for_all alphabet (first_number from + files) width
-suffix_for (Cut (Parts limit)) alphabet (Some from) width = numbered alphabet from width
+suffix_for (Cut (Parts limit)) alphabet (Some from) width = wide_enough alphabet (from + 1) (or_two width)
 suffix_for (Cut (Parts limit)) alphabet None width = Ok (free width)
 suffix_for (Chunks chunks) alphabet from width = for_all alphabet (first_number from + chunks.count) width
 suffix_for (Chunk place chunks) alphabet from width = Ok (fixed (or_two width))

@@ -4,7 +4,7 @@
 -- `-s`, `--pid` and `--max-unchanged-stats` of `tail`, the `-p` and `--output-error` of `tee`, and the long names;
 -- `--looks` is of these tools alone.
 use Rattle.std.specs.{
-  Prelude.{ℕ, Bool, List, [], ◌∷◌, map, filter, find, codes, Option, Some, None, option_map, Result, Ok, Err},
+  Prelude.{ℕ, Bool, List, [], ◌∷◌, ◌++◌, map, filter, find, codes, Option, Some, None, option_map, Result, Ok, Err},
   Prelude.{if◌then◌else◌, eqb, bytes_eq, nat_lt},
   List.{list_any, starts_with},
   Option.option_map_or,
@@ -70,44 +70,38 @@ tool_row name tool options number operands does = record {
   does = codes does;
 }
 
--- options of each tool
-
-abbrev pub help_row : OptionRow
-help_row = option ("--help" ∷ []) (Last Help) "" "write help, and do nothing else"
-
-abbrev pub version_row : OptionRow
-version_row = option ("--version" ∷ []) (Last Version) "" "write the version, and do nothing else"
+-- the last options of each tool: they ask for a text, and nothing else
+abbrev pub about_rows : List OptionRow
+about_rows =
+    option ("--help" ∷ []) (Last Help) "" "write help, and do nothing else"
+    ∷ option ("--version" ∷ []) (Last Version) "" "write the version, and do nothing else" ∷ []
 
 -- what stands in the place of a tool's name, and asks for a text of the program
 unfoldable pub program_table : List OptionRow
-program_table = help_row ∷ version_row ∷ []
+program_table = about_rows
 
--- options of several tools
-
-abbrev pub quiet_row : OptionRow
-quiet_row = option ("-q" ∷ "--quiet" ∷ "--silent" ∷ []) (Nothing (asks.Headers Never)) "" "write no headers"
-
-abbrev pub verbose_row : OptionRow
-verbose_row = option ("-v" ∷ "--verbose" ∷ []) (Nothing (asks.Headers Always)) "" "write a header before each file"
-
-abbrev pub zero_row : OptionRow
-zero_row = option ("-z" ∷ "--zero-terminated" ∷ []) (Nothing asks.ZeroTerminated) ""
-    "lines end with byte 0, not with a newline"
+-- further options of `head` and `tail`
+abbrev pub ends_rows : List OptionRow
+ends_rows =
+    option ("-q" ∷ "--quiet" ∷ "--silent" ∷ []) (Nothing (asks.Headers Never)) "" "write no headers"
+    ∷ option ("-v" ∷ "--verbose" ∷ []) (Nothing (asks.Headers Always)) "" "write a header before each file"
+    ∷ option ("-z" ∷ "--zero-terminated" ∷ []) (Nothing asks.ZeroTerminated) ""
+    "lines end with byte 0, not with a newline" ∷ []
 
 -- the options of `head`
 abbrev pub head_table : List OptionRow
 head_table =
     option ("-n" ∷ "--lines" ∷ []) (Value (Amount Lines)) "COUNT" "write COUNT lines; with - all but the last COUNT"
     ∷ option ("-c" ∷ "--bytes" ∷ []) (Value (Amount Bytes)) "COUNT" "write COUNT bytes; with - all but the last COUNT"
-    ∷ quiet_row ∷ verbose_row ∷ zero_row ∷ help_row ∷ version_row ∷ []
+    ∷ ends_rows ++ about_rows
 
 -- the options of `tail`: those of `head`, and how files are followed
 abbrev pub tail_table : Calling → List OptionRow
 tail_table calling =
     option ("-n" ∷ "--lines" ∷ []) (Value (Amount Lines)) "COUNT" "write COUNT lines; with + all from line COUNT on"
     ∷ option ("-c" ∷ "--bytes" ∷ []) (Value (Amount Bytes)) "COUNT" "write COUNT bytes; with + all from byte COUNT on"
-    ∷ quiet_row ∷ verbose_row ∷ zero_row
-    ∷ option ("-f" ∷ "--follow" ∷ []) (Optional (asks.Follow Descriptor) (Follow calling)) "HOW"
+    ∷ ends_rows
+    ++ option ("-f" ∷ "--follow" ∷ []) (Optional (asks.Follow Descriptor) (Follow calling)) "HOW"
     "follow what is appended, by descriptor or name"
     ∷ option ("-F" ∷ []) (Nothing asks.FollowNames) "" "the same as --follow=name --retry"
     ∷ option ("--retry" ∷ []) (Nothing asks.Retry) "" "with --follow=name, wait for missing names"
@@ -115,7 +109,7 @@ tail_table calling =
     ∷ option ("-s" ∷ "--sleep-interval" ∷ []) (Value Pause) "SECONDS" "check what is followed within this time"
     ∷ option ("--pid" ∷ []) (Value Process) "PID" "end once the process PID is gone"
     ∷ option ("--max-unchanged-stats" ∷ []) (Value NoEffect) "NUMBER" "taken without effect"
-    ∷ help_row ∷ version_row ∷ []
+    ∷ about_rows
 
 -- the options of `split`
 abbrev pub split_table : List OptionRow
@@ -134,7 +128,7 @@ split_table =
     ∷ option ("--additional-suffix" ∷ []) (Value Ending) "TEXT" "names end with TEXT"
     ∷ option ("-u" ∷ "--unbuffered" ∷ []) (Nothing asks.NoEffect) "" "taken without effect"
     ∷ option ("--verbose" ∷ []) (Nothing asks.Verbose) "" "write each name before its file is opened"
-    ∷ help_row ∷ version_row ∷ []
+    ∷ about_rows
 
 -- the options of `csplit`
 abbrev pub csplit_table : List OptionRow
@@ -146,7 +140,7 @@ csplit_table =
     ∷ option ("-s" ∷ "-q" ∷ "--quiet" ∷ "--silent" ∷ []) (Nothing asks.Quiet) "" "write no sizes"
     ∷ option ("-z" ∷ "--elide-empty-files" ∷ []) (Nothing asks.ElideEmptyFiles) "" "make no empty files"
     ∷ option ("--suppress-matched" ∷ []) (Nothing asks.SuppressMatched) "" "leave out the line at each cut"
-    ∷ help_row ∷ version_row ∷ []
+    ∷ about_rows
 
 -- the options of `tee`
 abbrev pub tee_table : Calling → List OptionRow
@@ -154,7 +148,7 @@ tee_table calling =
     option ("-a" ∷ "--append" ∷ []) (Nothing asks.Append) "" "append to the files"
     ∷ option ("-p" ∷ "--output-error" ∷ []) (Optional (asks.OnBroken WarnNoPipe) (OnBroken calling)) "MODE"
     "go on (warn) or exit once an output is broken"
-    ∷ help_row ∷ version_row ∷ []
+    ∷ about_rows
 
 -- The tools. A hyphen and digits as the first word count lines for `head`, `tail` and `split`; for `head` and `tail`
 -- letters may follow the digits.
@@ -227,4 +221,4 @@ only_one (row ∷ other ∷ rows) = Err AmbiguousOption
 
 -- the option of this long name in full, or else the only one of which a name begins so
 abbrev pub option_called : List OptionRow → (name : List ℕ) → Result Takes UsageKind
-option_called rows name = option_map_or (λ takes. Ok takes) (option_named rows name) (only_one (beginning rows name))
+option_called rows name = option_map_or Ok (option_named rows name) (only_one (beginning rows name))

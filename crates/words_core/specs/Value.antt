@@ -1,21 +1,18 @@
 -- What the value of an option says, or what is wrong with it. A value that isn't of its form is told before one that is
 -- too large, and that before 0.
-use Rattle.std.specs.{Prelude.{ℕ, ◌+◌, ◌-◌, ◌*◌, ◌/◌, ◌^◌, ◌==◌, ◌&&◌, Bool, nat_lt, min, codes, length, List, [], ◌∷◌}, Prelude.{Option, Some, None, Result, Ok, Err, if◌then◌else◌, bytes_eq, eqb, filter, find, ok_or, option_map}, Char.{is_ascii_digit, is_digit}, List.{list_all, list_any, starts_with}, Option.option_or, Str.Parse.digits_value}
-use Rattle.seg_core.specs.Count.{after_digits, count_of, digits_of, leading_digits, value_of}
+use Rattle.std.specs.{Prelude.{ℕ, ◌+◌, ◌-◌, ◌*◌, ◌/◌, ◌^◌, ◌==◌, ◌&&◌, nat_lt, min, codes, length, List, [], ◌∷◌}, Prelude.{Option, Some, None, Result, Ok, Err, if◌then◌else◌, bytes_eq, eqb, filter, find, ok_or, option_map}, Char.{is_ascii_digit, is_digit}, List.{list_all, list_any, starts_with}, Option.option_or, Str.Parse.digits_value}
+use Rattle.seg_core.specs.Count.{after_digits, count_of, leading_digits, value_of}
 use Rattle.ports_core.specs.declared.{calling.Calling.{Calling, TheVariants.{Cutters, OwnName}}, on_broken.OnBroken.OnBroken, fault.UsageKind.{UsageKind, TheVariants.{BadNumber, BadSeparator, BadSuffix, BadFollow, BadMode}}}
-pub use Rattle.words_core.specs.Number.{counted, not_zero, number_fault, then_check, up_to}
+pub use Rattle.words_core.specs.Number.{counted, not_zero, number_fault, positive_in, then_check, up_to}
 use Rattle.words_core.specs.declared.value.Followed.{Followed}
 use Rattle.ports_core.specs.declared.on_broken.OnBroken.TheVariants as on_broken
 use Rattle.words_core.specs.declared.value.Followed.TheVariants as followed
 
 -- a number in hexadecimal: one or more digits, `A` to `F` as `a` to `f`, and nothing else; 2^63-1 at most
 
-abbrev pub is_hex : ℕ → Bool
-is_hex byte = is_digit byte 16
-
 abbrev pub hex_in : List ℕ → Result ℕ UsageKind
-hex_in text = if nat_lt 0 (length text) && list_all is_hex text then up_to (2 ^ 63 - 1) (Ok (digits_value 16 text))
-    else Err BadNumber
+hex_in text = if nat_lt 0 (length text) && list_all (λ byte. is_digit byte 16) text
+    then up_to (2 ^ 63 - 1) (Ok (digits_value 16 text)) else Err BadNumber
 
 abbrev pub some_amount : List ℕ → Result ℕ UsageKind
 some_amount text = then_check (counted (count_of text)) (λ count. not_zero count.amount)
@@ -72,10 +69,6 @@ on_broken_values =
 abbrev pub on_broken_in : Calling → List ℕ → Result OnBroken UsageKind
 on_broken_in calling text = ok_or (value_by calling on_broken_values text) BadMode
 
--- the number of a process
-abbrev pub process_in : List ℕ → Result ℕ UsageKind
-process_in text = then_check (up_to (2 ^ 31 - 1) (digits_of text)) not_zero
-
 -- A pause in seconds: digits, which may have a `.` (46) before, among or after them. It is taken in milliseconds, rounded
 -- up, 2^63-1 at most.
 
@@ -84,13 +77,11 @@ abbrev pub fraction_in : List ℕ → Option (List ℕ)
 fraction_in [] = Some []
 fraction_in (byte ∷ digits) = if byte == 46 && list_all is_ascii_digit digits then Some digits else None
 
-abbrev pub is_zero : ℕ → Bool
-is_zero digit = digit == 48
-
 -- what digits write where the first counts `unit` and each next one a tenth of the one before it, rounded up
 abbrev pub fraction_of : ℕ → List ℕ → ℕ
 fraction_of unit [] = 0
-fraction_of unit (digit ∷ digits) = if unit == 0 then (if list_all is_zero (digit ∷ digits) then 0 else 1)
+fraction_of unit (digit ∷ digits) =
+    if unit == 0 then (if list_all (λ digit. digit == 48) (digit ∷ digits) then 0 else 1)
     else (digit - 48) * unit + fraction_of (unit / 10) digits
 
 abbrev pub milliseconds : ℕ → List ℕ → ℕ

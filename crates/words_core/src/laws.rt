@@ -32,15 +32,15 @@ ghost use Rattle.words_core.specs.{
   EndsWords.{ends_of, ten_lines},
   Lettered.{is_lettered, is_start, unit_in, unit_of},
   SplitWords.{SplitAsked, is_way, least_width, split_asked, split_of, way_in, way_of, separator_in},
-  Spelling.{count_and_options, given_before, mixed, onward, spelled, with_letters},
+  Spelling.{count_and_options, given_before, mixed, spelled, with_letters},
   Table.{OptionRow, alone, beginning, begins_one, head_table, option_called, option_named, tail_table, tools},
   TailWords.{retry_by, tail_of, unfollowed},
   TeeWords.{tee_asked, tee_of},
-  Value.{byte_in, counted, ending_in, follow_values, hex_in, on_broken_values, pause_in, size_in, up_to},
-  Words.{settings_for, settings_of, tool_named},
+  Value.{byte_in, ending_in, follow_values, hex_in, on_broken_values, pause_in, size_in, up_to},
+  Words.{settings_of, tool_named},
 };
 ghost use Rattle.seg_core.specs.{
-  Count.{count_of, digits_of, is_number, sized, value_of},
+  Count.{count_of, digits_of, is_number, value_of},
 };
 
 use crate::choice::{Choice, Kind};
@@ -48,10 +48,9 @@ use crate::division::Division;
 use crate::format::Format;
 use crate::settings::{Headers, Settings, Topic};
 use crate::spelled::Chosen;
-use crate::spelling::State;
-use crate::table::{Letters, Takes};
+use crate::table::Takes;
 use crate::value::Followed;
-use ports_core::{Alphabet, Base, Calling, Fault, Filling, Mode, OnBroken, Tool};
+use ports_core::{Alphabet, Calling, Fault, Mode, OnBroken, Tool};
 use seg_core::count::{Count, Sign};
 use seg_core::cut::{Cut, Limit, Way};
 use seg_core::unit::Unit;

@@ -4,7 +4,7 @@ ghost use Rattle.std.specs.Prelude.{◌≡◌, ℕ, ◌+◌, ◌^◌, ◌<◌, �
 ghost use Rattle.ports_core.specs.Name.{name_count};
 ghost use Rattle.words_core.specs.{
   Given.{operand_seen, option_seen},
-  SplitWords.{SplitAsked, files_in, first_number, fixed, for_all, free, least_width, names_all, no_options, numbered},
+  SplitWords.{SplitAsked, files_in, first_number, fixed, for_all, free, least_width, names_all, no_options},
   SplitWords.{or_two, separator_in, split_asked, split_by, split_of, suffix_for, thousand_lines, way_in, is_way},
   SplitWords.{only_way, wide_enough},
   Division.{dealt_by, way_of_division},
@@ -297,7 +297,7 @@ fn suffix_for_all(
 
 /// The suffixes of files that come one after another from this number on, of this width, or of 2 characters if it is 0.
 fn suffix_from(alphabet: Alphabet, from: u64, width: u32) -> Result<Suffix, Fault>
-    ensures { result ≡ numbered alphabet from width }
+    ensures { result ≡ wide_enough alphabet (from + 1) (or_two width) }
 {
     wide_enough(alphabet, u128::from(from) + 1, or_two(width))
 }

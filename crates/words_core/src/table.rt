@@ -162,13 +162,11 @@ const FOLLOW: OptionRow = OptionRow {
 
 /// The same, called by its own name.
 const OWN_FOLLOW: OptionRow = OptionRow {
-    names: &["-f", "--follow"],
     takes: Takes::Optional(
         Choice::Follow(Followed::Descriptor),
         Kind::Follow(Calling::OwnName),
     ),
-    value: "HOW",
-    does: "follow what is appended, by descriptor or name",
+    ..FOLLOW
 };
 
 /// Following names that are looked for, in `tail`.
@@ -405,13 +403,11 @@ const ON_BROKEN: OptionRow = OptionRow {
 
 /// The same, called by its own name.
 const OWN_ON_BROKEN: OptionRow = OptionRow {
-    names: &["-p", "--output-error"],
     takes: Takes::Optional(
         Choice::OnBroken(OnBroken::WarnNoPipe),
         Kind::OnBroken(Calling::OwnName),
     ),
-    value: "MODE",
-    does: "go on (warn) or exit once an output is broken",
+    ..ON_BROKEN
 };
 
 /// The options of `tee`.

@@ -1,14 +1,14 @@
 //! What the value of an option says (POSIX.1-2017, XBD 12.1; XCU head, tail and split; the suffixes of counts are
 //! GNU's).
 ghost use Rattle.std.specs.{
-  Prelude.{◌≡◌, ◌≤◌, ◌+◌, ◌-◌, ◌*◌, ◌^◌, [], ◌∷◌, ℕ, Ok, Err, true, IfOk, IfErr, IfNone, IfSome, map, min, option_map},
+  Prelude.{◌≡◌, ◌==◌, ◌≤◌, ◌+◌, ◌-◌, ◌*◌, ◌^◌, [], ◌∷◌, ℕ, Ok, Err, true, IfOk, IfErr, IfNone, IfSome, map, min, option_map},
   Char.is_ascii_digit,
   List.list_all,
 };
 ghost use Rattle.seg_core.specs.Count.{count_of, digits_of};
 ghost use Rattle.words_core.specs.{
-  Value.{byte_in, counted, ending_in, followed_in, fraction_in, fraction_of, hex_in, is_zero, milliseconds, not_zero},
-  Value.{number_fault, on_broken_in, only_value, process_in, pause_in, size_in, up_to, value_by, value_in, values_from},
+  Value.{byte_in, counted, ending_in, followed_in, fraction_in, fraction_of, hex_in, milliseconds, not_zero},
+  Value.{number_fault, on_broken_in, only_value, pause_in, positive_in, size_in, up_to, value_by, value_in, values_from},
   inner.Value.value_seen,
 };
 
@@ -106,7 +106,7 @@ pub(crate) fn read_hex(text: &[u8]) -> Result<u64, UsageKind>
 
 /// Reads the number of a process.
 pub(crate) fn read_process(text: &[u8]) -> Result<u32, UsageKind>
-    ensures { result ≡ process_in text.now }
+    ensures { result ≡ positive_in (2 ^ 31 - 1) text.now }
 {
     Ok(not_zero(read_number(text, LAST_PROCESS)?)? as u32)
 }
@@ -237,7 +237,7 @@ fn are_digits(text: &[u8]) -> bool
 
 /// Whether all of them are the digit 0.
 fn are_zeros(digits: &[u8]) -> bool
-    ensures { result ≡ list_all is_zero digits.now }
+    ensures { result ≡ list_all (λ digit. digit == 48) digits.now }
 {
     for digit in digits {
         if *digit != b'0' {

@@ -136,27 +136,25 @@ returns-clause-start c text is = tail_shape OwnName text (and_parts (are_known (
 some_unit : (letters : List ℕ) (letter : ℕ) → Contains letters letter → is_unit letter ≡ true
     → 1 ≤ length (filter is_unit letters)
 some_unit [] letter (place, within, is) unit = absurd (omega arith)
-some_unit (first ∷ letters) letter (zero, within, is) unit =
-    let same : is_unit first ≡ true = ap is_unit is ∙ unit in rw same (omega arith)
+some_unit (first ∷ letters) letter (zero, within, is) unit = rw (ap is_unit is ∙ unit) (omega arith)
 some_unit (first ∷ letters) letter (suc place, within, is) unit =
     let more = some_unit letters letter (place, omega arith, is) unit in
-    either (λ found. 1 ≤ length found) (is_unit first) _ _ (omega arith) more
+    either (λ units. 1 ≤ length units) (is_unit first) _ _ (omega arith) more
+
+is_later : (found : Option (Measured × ℕ)) (first : ℕ) (units : List ℕ) {rest unit : Measured × ℕ} → 1 ≤ length units
+    → length (if is_some found then first ∷ units else units) ≤ 1 → (length units ≤ 1 → rest ≡ unit)
+    → unwrap_or found rest ≡ unit
+is_later None first units some few is = is few
+is_later (Some other) first units some few is = absurd (omega arith)
 
 only_unit : (letters : List ℕ) (letter : ℕ) {unit : Measured × ℕ} → length (filter is_unit letters) ≤ 1
     → Contains letters letter → unit_of letter ≡ Some unit → unit_in letters ≡ unit
 only_unit [] letter few (place, within, is) said = absurd (omega arith)
 only_unit (first ∷ letters) letter few (zero, within, is) said = rw (ap unit_of is ∙ said) refl
-only_unit (first ∷ letters) letter {unit} few (suc place, within, is) said =
-    by (unit_of first) few (λ fewer. only_unit letters letter fewer here said) where
-      here : Contains letters letter
-      here = (place, omega arith, is)
-
-      by : (found : Option (Measured × ℕ))
-          → length (if is_some found then first ∷ filter is_unit letters else filter is_unit letters) ≤ 1
-          → (length (filter is_unit letters) ≤ 1 → unit_in letters ≡ unit) → unwrap_or found (unit_in letters) ≡ unit
-      by None few rest = rest few
-      by (Some other) few rest =
-          let more = some_unit letters letter here (ap is_some said) in absurd (omega arith)
+only_unit (first ∷ letters) letter few (suc place, within, is) said =
+    let here : Contains letters letter = (place, omega arith, is) in
+    is_later (unit_of first) first (filter is_unit letters) (some_unit letters letter here (ap is_some said)) few
+    (λ fewer. only_unit letters letter fewer here said)
 
 pub returns-clause-unit : goal.returns-clause-unit
-returns-clause-unit c rows text digits letters letter unit has among said = only_unit letters letter has.few among said
+returns-clause-unit c rows text digits letters letter unit has = only_unit letters letter has.few
