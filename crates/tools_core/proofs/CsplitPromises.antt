@@ -1,8 +1,11 @@
 -- Lemmas on what `csplit` leaves of its input.
-use Rattle.std.{proofs.lemmas.{Grind.common_steps, Bool.{cond_both, false≢true, lt-ltb}, List.{append-nil, Elements.{All-append, All-cons, All-map, All-nil}}}, proofs.Common.{suc, ◌≡◌, ℕ, ◌+◌, drop, Bool, true, false, eqb, List, [], ◌∷◌, Option, Some, None, refl, ◌∙◌, ◌-◌}, proofs.Common.{◌≤◌, ◌++◌, length, map, sym, ap, arith, cond}, specs.List.flat_map}
+use Rattle.std.{proofs.lemmas.{Grind.common_steps, Bool.{cond_both, false≢true, lt-ltb}, List.{append-nil, Elements.{All-append, All-cons, All-map, All-nil}}}, proofs.Common.{suc, ◌≡◌, ℕ, ◌+◌, drop, Bool, true, false, eqb, List, [], ◌∷◌, Option, Some, None, refl, ◌∙◌, ◌-◌}, proofs.Common.{Result, Ok, Err, ◌≤◌, ◌++◌, length, map, sym, ap, arith, cond}, specs.List.flat_map}
 use Rattle.operand_core.specs.{
-  declared.operand.{Operand.Operand, Target.{Target, TheVariants.{Number, Search}}, Times.{Times, TheVariants.Count}},
-  Reading.{Aim, line, match, Spelled, Aimed, aims, fails, Words, AreRead, Asks, IsTarget, aim_of, failed},
+  declared.{
+    operand.{Operand.Operand, Target.{Target, TheVariants.{Number, Search}}, Times.{Times, TheVariants.Count}},
+    operand_fault.OperandFaultKind.OperandFaultKind,
+  },
+  Reading.{Aim, line, match, Spelled, Words, AreRead, Asks, IsTarget, aim_of, failed},
   Reading.{least_after, times_by, with_operand, words_from, words_of},
   Word.{spelling, closed_at, repeated, numbered},
   Style.Style,
@@ -52,9 +55,9 @@ abbrev KeepsAim : Aim → Type 0
 KeepsAim (line n) = Unit {0}
 KeepsAim (match kept text offset) = kept ≡ true
 
-abbrev KeepsAimed : Aimed → Type 0
-KeepsAimed (aims aim) = KeepsAim aim
-KeepsAimed (fails what) = Unit {0}
+abbrev KeepsAimed : Result Aim OperandFaultKind → Type 0
+KeepsAimed (Ok aim) = KeepsAim aim
+KeepsAimed (Err what) = Unit {0}
 
 closed_keeps : (calling : Calling) (least delimiter : ℕ) (text : List ℕ) (place : Option ℕ) → eqb delimiter 47 ≡ true
     → KeepsAimed (aim_of calling least (closed_at delimiter text place))
@@ -79,11 +82,11 @@ abbrev KeepAims : List Spelled → Type 0
 KeepAims [] = Unit {0}
 KeepAims (spelled ∷ more) = KeepsAim spelled.aim × KeepAims more
 
-aimed_keep : (index : ℕ) (aimed : Aimed) (past : Aim → Words) → KeepsAimed aimed
+aimed_keep : (index : ℕ) (aimed : Result Aim OperandFaultKind) (past : Aim → Words) → KeepsAimed aimed
     → ((aim : Aim) → KeepsAim aim → KeepAims (past aim).operands)
-    → KeepAims (elim aimed as (λ _. Words) [ fails what ↦ failed what index | aims aim ↦ past aim ]).operands
-aimed_keep index (fails what) past keeps each = tt
-aimed_keep index (aims aim) past keeps each = each aim keeps
+    → KeepAims (elim aimed as (λ _. Words) [ Err what ↦ failed what index | Ok aim ↦ past aim ]).operands
+aimed_keep index (Err what) past keeps each = tt
+aimed_keep index (Ok aim) past keeps each = each aim keeps
 
 times_keep : (index : ℕ) (aim : Aim) (says : Option Times) (past next : Words) → KeepsAim aim
     → KeepAims past.operands → KeepAims next.operands
