@@ -136,8 +136,3 @@ pub data IsFault (calling : Calling) (words : List (List ℕ)) : OperandFault �
       → (words_of calling words).operands ≡ front ++ refused ∷ rest → AreRead front read → HasRefused refused.aim fault
       → IsFault calling words (record { kind = kind.Bre fault; index = refused.index })
   no_memory : (index : ℕ) → IsFault calling words (record { kind = kind.Memory; index = index })
-
--- the fault is something wrong with a word, and not want of memory
-abbrev pub IsOfWords : OperandFaultKind → Type 0
-IsOfWords kind.Memory = ⊥
-IsOfWords _ = Unit {0}
