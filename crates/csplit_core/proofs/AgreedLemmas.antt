@@ -9,19 +9,7 @@ use Rattle.std.proofs.{
     Grind.common_steps,
   },
 }
-use Rattle.csplit_core.specs.{
-  Agreed.{CanCome, kept_lines, whole_outputs, settled_outputs, AreFronts, IsAgreed},
-  Operand.{Minus, Target, Number, Search, Operand, Line, Plus, is_kept},
-  Plan.{State, start, Step, Ending, below, search_line, MatchesNone, CutsAt, line_after, state_after, step_of, Runs, is_below},
-  Plan.{cuts, missed, Misses, is_used_up, misses, is_above},
-  laws.PlanLaws.{line_some, past_near, runs_on, goes_on, plan_runs, plan_once, cuts_still, less_test, not_less_test},
-  laws.SectionLaws.{between_still, ends_as, are_within, closed_still, plan_grows, whole_covers, plan_goes_on},
-  inner.PlanLaws.{AreWithin, EndsAs, GoesOn},
-  Planned.{plan, Plan},
-  Section.{Section, section, section_of, lines_between, is_last_kept, whole_end, settled_end, sections_by},
-  Section.{whole_sections, is_final, waiting_lines},
-  Place.{Place, in_section, left_out, nowhere, place_from, place_of, IsUndecided, is_in, lines_into, ArePlaced},
-}
+use Rattle.csplit_core.specs.{Agreed.{CanCome, kept_lines, whole_outputs, settled_outputs, AreFronts, IsAgreed}, Operand.{Minus, Target, Number, Search, Operand, Line, Plus, is_kept}, Plan.{State, start, Step, Ending, below, missed, Plan, ended, after_steps, CutPoint, search_line, MatchesNone, Misses}, Plan.{CutsAt, IsCut, line_after, state_after, step_of, Runs, is_used_up, misses, is_above, is_below, cuts}, laws.PlanLaws.{line_some, past_near, runs_on, goes_on, plan_runs, plan_once, cut_still, less_test, not_less_test}, laws.SectionLaws.{between_still, ends_as, are_within, closed_still, plan_grows, whole_covers, plan_goes_on}, inner.PlanLaws.{AreWithin, EndsAs, GoesOn}, Planned.plan, Section.{Section, section, section_of, lines_between, is_last_kept, whole_end, settled_end}, Section.{whole_sections, is_final, waiting_lines}, Place.{Place, in_section, left_out, nowhere, place_from, place_of, IsUndecided, is_in, lines_into, ArePlaced}}
 use Rattle.csplit_core.proofs.WholeLemmas.{between_rest, after_within, ends_after_all}
 use Rattle.ports_core.{specs.Part.IsBeginning, proofs.AgreedLemmas.{agreed_as, nothing_waits}}
 use Rattle.bre_core.specs.Pattern.{Pattern}
@@ -30,33 +18,32 @@ use Rattle.operand_core.specs.Style.{Style}
 -- One more line that each operand finds
 
 matched_within : (style : Style) (lines : List Line) (state : State) (operand : Operand) (target : Target)
-    (matched cut : ℕ) → CutsAt style lines state operand target matched cut → state.matched ≤ length lines
-    → matched ≤ length lines
-matched_within style lines state operand target matched cut at within = search rules
+    (cut : CutPoint) → CutsAt style lines state operand target cut → state.matched ≤ length lines
+    → cut.matched ≤ length lines
+matched_within style lines state operand target cut at within = search rules
 
-current_grows : {style : Style} {lines : List Line} {first : State} {steps : List Step} {last : State}
-    {ending : Ending} → Runs style lines first steps last ending → first.current ≤ last.current
-current_grows {style} (cuts state operand operands matched cut steps' last' ending' is at least within rest) =
-    omega (arith, current_grows rest, line_some style.suppress cut)
+current_grows : {style : Style} {lines : List Line} {first : State} {plan : Plan} → Runs style lines first plan
+    → first.current ≤ plan.last.current
+current_grows {style} (cuts state cut its least within plan rest) =
+    omega (arith, current_grows rest, line_some style.suppress cut.line)
 current_grows run = omega arith
 
-search_near : (suppress : Bool) (operand : Operand) (operands : List Operand) (repetition matched cut : ℕ) {total : ℕ}
-    → matched ≤ total → cut ≤ total
-    → search_line suppress (state_after suppress operand operands repetition matched cut) ≤ suc total
-search_near suppress operand operands repetition matched cut few within = search rules
+search_near : (suppress : Bool) (operand : Operand) (operands : List Operand) (repetition : ℕ) (cut : CutPoint)
+    {total : ℕ} → cut.matched ≤ total → cut.line ≤ total
+    → search_line suppress (state_after suppress operand operands repetition cut) ≤ suc total
+search_near suppress operand operands repetition cut few within = search rules
 
 first_search : (suppress : Bool) (operands : List Operand) → search_line suppress (start operands) ≤ 1
 first_search suppress operands = search rules
 
-search_within : {style : Style} {lines : List Line} {first : State} {steps : List Step} {last : State}
-    {ending : Ending} → Runs style lines first steps last ending → first.matched ≤ length lines
-    → search_line style.suppress first ≤ suc (length lines)
-    → (search_line style.suppress last ≤ suc (length lines)) ⊎ (length lines < last.current)
-search_within {style} {lines} (cuts state operand operands matched' cut steps' last' ending' is at from in_lines rest) matched within =
-    let few = matched_within style lines state operand operand.target matched' cut at matched in
-    elim (cases_lt (length lines) cut) [
-      | inl past ↦ inr (omega (arith, current_grows rest, line_some style.suppress cut))
-      | inr here ↦ search_within rest few (search_near style.suppress operand operands state.repetition matched' cut few here)
+search_within : {style : Style} {lines : List Line} {first : State} {plan : Plan} → Runs style lines first plan
+    → first.matched ≤ length lines → search_line style.suppress first ≤ suc (length lines)
+    → (search_line style.suppress plan.last ≤ suc (length lines)) ⊎ (length lines < plan.last.current)
+search_within {style} {lines} (cuts state cut its from in_lines plan rest) matched within =
+    let few = matched_within style lines state its.operand its.operand.target cut its.cuts matched in
+    elim (cases_lt (length lines) cut.line) [
+      | inl past ↦ inr (omega (arith, current_grows rest, line_some style.suppress cut.line))
+      | inr here ↦ search_within rest few (search_near style.suppress its.operand its.operands state.repetition cut few here)
     ]
 search_within run matched within = inl within
 
@@ -73,20 +60,20 @@ matching_comes = search rules
 -- with one more line that each operand finds the operand makes this cut: the section ends there, or the cut is too low
 pub data Turned (style : Style) (x : List Line) (state : State) (operand : Operand) (cut : ℕ) : Type 0 where
   too_low : cut < state.current
-      → Runs style (x ++ matching) state [] state (below operand state.repetition)
+      → Runs style (x ++ matching) state (ended state (below operand state.repetition))
       → Turned style x state operand cut
-  turns : state.current ≤ cut → (rest : List Step) (end : State) (how : Ending)
-      → Runs style (x ++ matching) state (step_of state operand (suc (length x)) cut ∷ rest) end how
+  turns : state.current ≤ cut → (rest : Plan)
+      → Runs style (x ++ matching) state
+      (after_steps (step_of state operand (record { matched = suc (length x); line = cut }) ∷ []) rest)
       → Turned style x state operand cut
 
-turned_by : {style : Style} {x : List Line} {state : State} {operand : Operand} {operands : List Operand} (cut : ℕ)
-    → 1 ≤ state.current → state.operands ≡ operand ∷ operands
-    → CutsAt style (x ++ matching) state operand operand.target (suc (length x)) cut
-    → cut ≤ length (x ++ matching) → Turned style x state operand cut
-turned_by {style} {x} {state} {operand} {operands} cut some is at within = elim (cases_lt cut state.current) [
-  | inl low ↦ too_low low (is_below state operand operands (suc (length x)) cut is at low)
+turned_by : {style : Style} {x : List Line} {state : State} (cut : ℕ) → 1 ≤ state.current
+    → (its : IsCut style (x ++ matching) state (record { matched = suc (length x); line = cut }))
+    → cut ≤ length (x ++ matching) → Turned style x state its.operand cut
+turned_by {style} {x} {state} cut some its within = elim (cases_lt cut state.current) [
+  | inl low ↦ too_low low (is_below state _ its low)
   | inr from ↦
-      turns from _ _ _ (cuts state operand operands (suc (length x)) cut _ _ _ is at from (omega arith)
+      turns from _ (cuts state _ its from (omega arith) _
       (runs_on _ _ _ (omega (arith, line_some style.suppress cut))))
 ]
 
@@ -95,9 +82,9 @@ agrees : {style : Style} {x : List Line} {state : State} {operand : Operand} {op
     → operand.target ≡ Search pattern kept (Minus k)
     → MatchesNone operand x (search_line style.suppress state) → search_line style.suppress state ≤ suc (length x)
     → Turned style x state operand (suc (length x) - k)
-agrees {style} {x} {state} {operand} pattern kept k some is target none within =
-    turned_by (suc (length x) - k) some is
-    (grind (arith, common_steps))
+agrees {style} {x} {state} {operand} {operands} pattern kept k some is target none within =
+    turned_by (suc (length x) - k) some
+    (record { operand = operand; operands = operands; are = is; cuts = (grind (arith, common_steps)) })
     (omega (arith, length-append x matching))
 
 -- At the end of a plan either nothing waits, since no line is left or all lines are settled; or one more line makes a
@@ -117,7 +104,7 @@ waits_in {style} {x} {state} (missed operand repetition) (left, are, none, often
   by (Number n) is none = absurd none
   by (Search pattern kept (Plus k)) is none = none_waits (search rules)
   by (Search pattern kept (Minus k)) is none = some_wait k refl (search rules) (agrees pattern kept k some are is none within)
-waits_in _ ends some within = none_waits refl
+waits_in _ ends some within = none_waits (omega arith)
 
 waits_by : {style : Style} {x : List Line} {state : State} (ending : Ending) → EndsAs style x state ending
     → 1 ≤ state.current → (search_line style.suppress state ≤ suc (length x)) ⊎ (length x < state.current)
@@ -163,64 +150,57 @@ same_by : (lt le : Bool) (index : ℕ) (one other : Place) → (lt ≡ false →
 same_by lt le index one other same = search rules
 
 -- plans that go on from one plan put each line before the current line into the same place
-place_front : {style : Style} {lines : List Line} {first : State} {steps : List Step} {last : State} {ending : Ending}
-    → Runs style lines first steps last ending
-    → (total total' index line : ℕ) (more more' : List Step) (how how' : Ending) → first.current ≤ line
-    → line < last.current
-    → place_from style.suppress total index (steps ++ more) how line
-    ≡ place_from style.suppress total' index (steps ++ more') how' line
-place_front {style} (cuts state operand operands matched cut steps' last' ending' is at least within rest) total total' index line more more' how how' from before =
-    same_by (nat_lt line cut) (style.suppress && nat_le line cut) index _ _
-    (λ lt le. place_front rest total total' (index + 1) line more more' how how' (left_by style.suppress line cut lt le) before)
-place_front run total total' index line more more' how how' from before = absurd (omega arith)
+place_front : {style : Style} {lines : List Line} {first : State} {plan : Plan} → Runs style lines first plan
+    → (total total' index line : ℕ) (more more' : Plan) → first.current ≤ line → line < plan.last.current
+    → place_from style.suppress total index (plan.steps ++ more.steps) more.ending line
+    ≡ place_from style.suppress total' index (plan.steps ++ more'.steps) more'.ending line
+place_front {style} (cuts state cut its least within plan rest) total total' index line more more' from before =
+    same_by (nat_lt line cut.line) (style.suppress && nat_le line cut.line) index _ _
+    (λ lt le. place_front rest total total' (index + 1) line more more' (left_by style.suppress line cut.line lt le) before)
+place_front run total total' index line more more' from before = absurd (omega arith)
 
 -- from the current line on, the steps that follow decide where a line goes
-place_after : {style : Style} {lines : List Line} {first : State} {steps : List Step} {last : State} {ending : Ending}
-    → Runs style lines first steps last ending
-    → (total index line : ℕ) (more : List Step) (how : Ending) → last.current ≤ line
-    → place_from style.suppress total index (steps ++ more) how line
-    ≡ place_from style.suppress total (index + length steps) more how line
-place_after {style} (cuts state operand operands matched cut steps' last' ending' is at least within rest) total index line more how from =
-    search (rules, line_some, current_grows rest, not_less_test, not_left, place_after rest total (index + 1) line more how from)
-place_after {style} run total index line more how from = search rules
+place_after : {style : Style} {lines : List Line} {first : State} {plan : Plan} → Runs style lines first plan
+    → (total index line : ℕ) (more : Plan) → plan.last.current ≤ line
+    → place_from style.suppress total index (plan.steps ++ more.steps) more.ending line
+    ≡ place_from style.suppress total (index + length plan.steps) more.steps more.ending line
+place_after {style} (cuts state cut its least within plan rest) total index line more from =
+    search (rules, line_some, current_grows rest, not_less_test, not_left, place_after rest total (index + 1) line more from)
+place_after {style} run total index line more from = search rules
 
 -- what is settled of the open section is in this section whatever comes
 
 settled_place : {style : Style} (a b : List Line) {last : State} (ending : Ending) → EndsAs style a last ending
-    → (more : List Step) (end : State) {how : Ending} → Runs style (a ++ b) last more end how
-    → {index : ℕ} (line : ℕ) → last.current ≤ line → line < settled_end (length a) ending
-    → place_from style.suppress (length (a ++ b)) index more how line ≡ in_section index
-settled_place a b ending ends more end (is_used_up state none) line from before = grind (arith, common_steps)
-settled_place a b ending ends more end (misses state operand operands are none) line from before = grind (arith, common_steps)
-settled_place a b ending ends more end (is_above state operand operands matched cut are at least far) line from before = grind (arith, common_steps)
-settled_place a b ending ends more end (is_below state operand operands matched cut are at low) line from before = grind (arith, common_steps)
-settled_place a b ending ends more end
-    (cuts state operand operands matched cut steps' last' ending' are at least in_lines rest) line from before =
-    grind (arith, common_steps)
+    → {more : Plan} → Runs style (a ++ b) last more → {index : ℕ} (line : ℕ) → last.current ≤ line
+    → line < settled_end (length a) ending
+    → place_from style.suppress (length (a ++ b)) index more.steps more.ending line ≡ in_section index
+settled_place a b ending ends (is_used_up state none) line from before = grind (arith, common_steps)
+settled_place a b ending ends (misses state operand operands are none) line from before = grind (arith, common_steps)
+settled_place a b ending ends (is_above state cut its least far) line from before = grind (arith, common_steps)
+settled_place a b ending ends (is_below state cut its low) line from before = grind (arith, common_steps)
+settled_place a b ending ends (cuts state cut its least in_lines plan rest) line from before = grind (arith, common_steps)
 
 -- if the cut is below the current line, all lines go nowhere
 
-nowhere_by : {style : Style} {lines : List Line} {first : State} {operand : Operand} {operands : List Operand}
-    (matched cut : ℕ) → first.operands ≡ operand ∷ operands
-    → CutsAt style lines first operand operand.target matched cut → cut < first.current
-    → (more : List Step) (end : State) {how : Ending} → Runs style lines first more end how → (index line : ℕ)
-    → place_from style.suppress (length lines) index more how line ≡ nowhere
-nowhere_by matched cut is at low more end run index line = search rules
+nowhere_by : {style : Style} {lines : List Line} {first : State} (cut : CutPoint) → IsCut style lines first cut
+    → cut.line < first.current → {more : Plan} → Runs style lines first more → (index line : ℕ)
+    → place_from style.suppress (length lines) index more.steps more.ending line ≡ nowhere
+nowhere_by cut its low run index line = search rules
 
 -- A line that doesn't wait has one place
 
 decided_by : (style : Style) (a b : List Line) {last : State} (ending : Ending) → 1 ≤ last.current
     → EndsAs style a last ending → (line : ℕ) → last.current ≤ line → line ≤ length a
     → ((is_final ending ≡ false) → settled_end (length a) ending ≤ line → ⊥)
-    → (index : ℕ) (more : List Step) (end : State) {how : Ending} → Runs style (a ++ b) last more end how
-    → place_from style.suppress (length (a ++ b)) index more how line ≡ cond (is_final ending) nowhere (in_section
-    index)
-decided_by style a b (missed operand repetition) some is line from within not index more end rest =
-    settled_place a b (missed operand repetition) is more end rest line from
+    → (index : ℕ) {more : Plan} → Runs style (a ++ b) last more
+    → place_from style.suppress (length (a ++ b)) index more.steps more.ending line ≡ cond (is_final ending) nowhere
+    (in_section index)
+decided_by style a b (missed operand repetition) some is line from within not index rest =
+    settled_place a b (missed operand repetition) is rest line from
     (search (rules, cases_lt))
-decided_by style a b {last} (below operand repetition) some (operands, matched, cut, is, at, low, often) line from within not index more end rest =
-    nowhere_by matched cut is (search (rules, cuts_still)) low more end rest index line
-decided_by style a b ending some is line from within not index more end rest = settled_place a b ending is more end rest line from (omega arith)
+decided_by style a b {last} (below operand repetition) some (operands, cut, is, at, low, often) line from within not index rest =
+    nowhere_by cut (cut_still b (record { operand = operand; operands = operands; are = is; cuts = at })) low rest index line
+decided_by style a b ending some is line from within not index rest = settled_place a b ending is rest line from (omega arith)
 
 -- A line that waits has two places
 
@@ -240,8 +220,9 @@ in_later suppress total other line (step ∷ steps) how less is =
 
 turned_away : {style : Style} {x : List Line} {state : State} {operand : Operand} (k line : ℕ)
     → Turned style x state operand (suc (length x) - k) → suc (length x) - k ≤ line
-    → (steps : List Step) × (end : State) × (how : Ending) × Runs style (x ++ matching) state steps end how
-    × ((index : ℕ) → place_from style.suppress (length (x ++ matching)) index steps how line ≡ in_section index → ⊥)
+    → (plan : Plan) × Runs style (x ++ matching) state plan
+    × ((index : ℕ) → place_from style.suppress (length (x ++ matching)) index plan.steps plan.ending line
+    ≡ in_section index → ⊥)
 turned_away k line fact from = search (rules, not_less_test, in_later)
 
 -- Places are right: each section has the lines that go into it.
@@ -353,35 +334,32 @@ step_before : (suppress : Bool) (lines : List Line) (current cut : ℕ) {index :
     → places_with suppress index cut later line ≡ in_section index
 step_before suppress lines current cut later line some least before = grind (arith, common_steps)
 
-placed_from : {style : Style} {lines : List Line} {first : State} {steps : List Step} {last : State} {ending : Ending}
-    → Runs style lines first steps last ending → 1 ≤ first.current → (index k : ℕ) {s : ℕ} → s ≡ index + k
-    → get_or
-    (map (λ
-    (one : Section). one.lines)
-    (sections_by true whole_end lines (record { steps = steps; last = last; ending = ending }))) k []
-    ≡ lines_into s (place_from style.suppress (length lines) index steps ending) first.current
+placed_from : {style : Style} {lines : List Line} {first : State} {plan : Plan} → Runs style lines first plan
+    → 1 ≤ first.current → (index k : ℕ) {s : ℕ} → s ≡ index + k
+    → get_or (map (λ (one : Section). one.lines) (whole_sections lines plan)) k []
+    ≡ lines_into s (place_from style.suppress (length lines) index plan.steps plan.ending) first.current
     (drop (first.current - 1) lines)
-placed_from {style} {lines} (cuts state operand operands matched cut steps' last' ending' is cuts_at least within rest) some index zero {s} at =
-    let later = place_from style.suppress (length lines) (index + 1) steps' ending' in
-    sym (step_parts style.suppress lines state.current cut index s later some least (omega (arith, within, past_near style operand.target)) ∙ (grind (
+placed_from {style} {lines} (cuts state cut its least within plan rest) some index zero {s} at =
+    let later = place_from style.suppress (length lines) (index + 1) plan.steps plan.ending in
+    sym (step_parts style.suppress lines state.current cut.line index s later some least (omega (arith, within, past_near style its.operand.target)) ∙ (grind (
       arith,
       common_steps,
-      (into_none s later (line_after style.suppress cut) (drop (line_after style.suppress cut - 1) lines)
+      (into_none s later (line_after style.suppress cut.line) (drop (line_after style.suppress cut.line - 1) lines)
           (search (rules, in_later))),
     ))
-    ∙ into_all (place_from style.suppress (length lines) index (step_of state operand matched cut ∷ steps') ending') state.current
-    (lines_between state.current cut lines)
-    (λ line from before. step_before style.suppress lines state.current cut later line some least before
+    ∙ into_all (place_from style.suppress (length lines) index (step_of state its.operand cut ∷ plan.steps) plan.ending) state.current
+    (lines_between state.current cut.line lines)
+    (λ line from before. step_before style.suppress lines state.current cut.line later line some least before
     ∙ ap in_section (let e : index ≡ s = omega arith in e)))
-placed_from {style} {lines} (cuts state operand operands matched cut steps' last' ending' is cuts_at least within rest) some index (suc k) {s} at =
-    let later = place_from style.suppress (length lines) (index + 1) steps' ending' in
-    placed_from rest (omega (arith, line_some style.suppress cut)) (index + 1) k (omega arith)
-    ∙ sym (step_parts style.suppress lines state.current cut index s later some least (omega (arith, within, past_near style operand.target))
-    ∙ ap (λ those. those ++ lines_into s later (line_after style.suppress cut) (drop (line_after style.suppress cut - 1) lines))
-    (into_none s (place_from style.suppress (length lines) index (step_of state operand matched cut ∷ steps') ending') state.current
-    (lines_between state.current cut lines)
+placed_from {style} {lines} (cuts state cut its least within plan rest) some index (suc k) {s} at =
+    let later = place_from style.suppress (length lines) (index + 1) plan.steps plan.ending in
+    placed_from rest (omega (arith, line_some style.suppress cut.line)) (index + 1) k (omega arith)
+    ∙ sym (step_parts style.suppress lines state.current cut.line index s later some least (omega (arith, within, past_near style its.operand.target))
+    ∙ ap (λ those. those ++ lines_into s later (line_after style.suppress cut.line) (drop (line_after style.suppress cut.line - 1) lines))
+    (into_none s (place_from style.suppress (length lines) index (step_of state its.operand cut ∷ plan.steps) plan.ending) state.current
+    (lines_between state.current cut.line lines)
     (search (rules, step_before, ne_eqb))))
-placed_from {lines} {first} {ending} run some index k at = grind (arith, common_steps, into_all, less_test, into_none, not_less_test, end_is)
+placed_from {lines} {first} {plan} run some index k at = grind (arith, common_steps, into_all, less_test, into_none, not_less_test, end_is)
 
 -- Lines in no section
 
@@ -414,14 +392,14 @@ nowhere_by_step : (lt le : Bool) (index : ℕ) {later : Place} (A : Type 0)
     → cond lt (in_section index) (cond le (left_out index) later) ≡ nowhere → A
 nowhere_by_step lt le index A rest same = search rules
 
-nowhere_at : {style : Style} {lines : List Line} {first : State} {steps : List Step} {last : State} {ending : Ending}
-    → Runs style lines first steps last ending → (index line : ℕ) → first.current ≤ line → line ≤ length lines
-    → place_from style.suppress (length lines) index steps ending line ≡ nowhere
-    → (is_final ending ≡ true) × (last.current ≤ line)
-nowhere_at (is_below state operand operands matched cut is cuts_at low) index line from within same = (refl, from)
-nowhere_at {style} (cuts state operand operands matched cut steps' last' ending' is cuts_at least in_lines rest) index line from within same =
-    nowhere_by_step (nat_lt line cut) (style.suppress && nat_le line cut) index ((is_final ending' ≡ true) × (last'.current ≤ line))
-    (λ lt le later. nowhere_at rest (index + 1) line (left_by style.suppress line cut lt le) within later) same
+nowhere_at : {style : Style} {lines : List Line} {first : State} {plan : Plan} → Runs style lines first plan
+    → (index line : ℕ) → first.current ≤ line → line ≤ length lines
+    → place_from style.suppress (length lines) index plan.steps plan.ending line ≡ nowhere
+    → (is_final plan.ending ≡ true) × (plan.last.current ≤ line)
+nowhere_at (is_below state cut its low) index line from within same = (refl, from)
+nowhere_at {style} (cuts state cut its least in_lines plan rest) index line from within same =
+    nowhere_by_step (nat_lt line cut.line) (style.suppress && nat_le line cut.line) index ((is_final plan.ending ≡ true) × (plan.last.current ≤ line))
+    (λ lt le later. nowhere_at rest (index + 1) line (left_by style.suppress line cut.line lt le) within later) same
 nowhere_at run index line from within same = absurd (search rules)
 
 -- The plan over the lines that came in
@@ -430,7 +408,7 @@ module _ (style : Style) (operands : List Operand) (x : List Line) where
   abbrev made : Plan
   made = plan style operands x
 
-  here : Runs style x (start operands) made.steps made.last made.ending
+  here : Runs style x (start operands) made
   here = plan_runs style operands x
 
   inside : AreWithin (length x) made.steps × (1 ≤ made.last.current)
@@ -460,16 +438,15 @@ module _ (style : Style) (operands : List Operand) (x : List Line) where
 
   -- Such a continuation exists: no line, or, with an offset that goes back, one line that the operand finds
 
-  decides_by : (y : List Line) (more : List Step) (end : State) {how : Ending} → CanCome y
-      → Runs style (x ++ y) made.last more end how → {next : Section} {rest' : List Section}
-      → sections_by true whole_end (x ++ y) (record { steps = more; last = end; ending = how }) ≡ next ∷ rest'
-      → is_last_kept made.ending ≡ next.is_kept → length next.lines ≤ length open_lines → Decides
-  decides_by y more end {how} comes rest {next} {rest'} are kept short = record {
+  decides_by : (y : List Line) {more : Plan} → CanCome y → Runs style (x ++ y) made.last more → {next : Section}
+      {rest' : List Section} → whole_sections (x ++ y) more ≡ next ∷ rest' → is_last_kept made.ending ≡ next.is_kept
+      → length next.lines ≤ length open_lines → Decides
+  decides_by y comes rest {next} {rest'} are kept short = record {
     y = y;
     comes = comes;
     next = next;
     more = rest';
-    are = rw (plan_once (goes_on y _ _ here rest)) (search (rules, map-append, closed_still, inside, append_assoc));
+    are = rw (plan_once (goes_on y here rest)) (search (rules, map-append, closed_still, inside, append_assoc));
     kept = kept;
     short = short;
   }
@@ -494,17 +471,17 @@ module _ (style : Style) (operands : List Operand) (x : List Line) where
     short = search (rules, drop_all);
   }
   decides (some_wait k kept past (too_low low rest)) =
-      decides_by matching _ _ matching_comes rest refl kept
+      decides_by matching matching_comes rest refl kept
       (let e : length (lines_between made.last.current 0 (x ++ matching)) ≡ 0 = (search rules) in omega arith)
-  decides (some_wait k kept past (turns from steps end how rest)) =
-      decides_by matching _ _ matching_comes rest refl kept
+  decides (some_wait k kept past (turns from plan rest)) =
+      decides_by matching matching_comes rest refl kept
       (let e : length (lines_between made.last.current (suc (length x) - k) (x ++ matching)) ≡ length open_lines
       = search (rules, between_still, inside) in omega arith)
 
   pub settled_is_agreed : IsAgreed (whole_outputs style operands) x (settled_outputs style operands x)
   settled_is_agreed =
       let decides = decides end_waits in
-      agreed_as [] decides.y (λ y comes. (search (rules, kept_grow, (plan_grows style true whole_end whole_covers operands x y))))
+      agreed_as [] decides.y (λ y comes. (search (rules, kept_grow, (plan_grows style true operands x y _ (whole_covers (length (x ++ y)) _)))))
       none_comes decides.comes fewest
       (λ place less. search (rules, decides, no_longer))
 
@@ -521,9 +498,9 @@ module _ (style : Style) (operands : List Operand) (x : List Line) where
   place_there : (y : List Line) (line : ℕ) → made.last.current ≤ line → line ≤ length x → (WaitsAt line → ⊥)
       → place_of style operands (x ++ y) line
       ≡ cond (is_final made.ending) nowhere (in_section (0 + length made.steps))
-  place_there y line from within not = rw (goes y).is (place_after here (length (x ++ y)) 0 line (goes y).more (goes y).how from
+  place_there y line from within not = rw (goes y).is (place_after here (length (x ++ y)) 0 line (goes y).more from
       ∙ decided_by style x y _ inside.1 (ends_as here) line from within
-      (λ live past. not (live, from, past, within)) _ (goes y).more (goes y).end (goes y).rest)
+      (λ live past. not (live, from, past, within)) _ (goes y).rest)
 
   same_line : (y z : List Line) (line : ℕ) → 1 ≤ line → line ≤ length x → (WaitsAt line → ⊥)
       → place_of style operands (x ++ y) line ≡ place_of style operands (x ++ z) line
@@ -544,13 +521,13 @@ module _ (style : Style) (operands : List Operand) (x : List Line) where
         matching,
         none_comes,
         matching_comes,
-        λ same. away.4 (0 + length made.steps)
+        λ same. away.2 (0 + length made.steps)
             (sym (ap (λ (p : Plan). place_from style.suppress (length (x ++ matching)) 0 p.steps p.ending line)
-            (plan_once (goes_on matching _ _ here away.3))
-            ∙ place_after here (length (x ++ matching)) 0 line away.0 away.2 from)
+            (plan_once (goes_on matching here away.1))
+            ∙ place_after here (length (x ++ matching)) 0 line away.0 from)
             ∙ rw (append-nil x) at (sym same)
             ∙ (ap (λ those. place_from style.suppress (length x) 0 those made.ending line) (sym (append-nil made.steps))
-            ∙ place_after here (length x) 0 line [] made.ending from ∙ (search rules))),
+            ∙ place_after here (length x) 0 line (ended made.last made.ending) from ∙ (search rules))),
       )
 
   undecided_by : (final : Bool) → is_final made.ending ≡ final → IsUndecided (place_of style operands) x

@@ -24,30 +24,7 @@ use Rattle.seg_core.{
     Carried.{but_last_lines-last, last_lines-is_drop, over-le-length},
   },
 }
-use Rattle.csplit_core.specs.{
-  Csplit.{settled_of, whole_of},
-  Input.{newline, all_lines},
-  Operand.{Operand, Line},
-  Output.{Style, manner_of, opening_of, file_in, shares_in, part_of, sizes_wanted},
-  Plan.{State, start, Step, Ending, Runs, search_line, line_after, state_after, step_of, is_used_up, misses},
-  Plan.{is_above, is_below, cuts},
-  Planned.plan,
-  Section.{lines_between, is_last_kept, settled_end, whole_end, is_final, most_waiting, bytes_of, Section, section},
-  Section.section_of,
-  Progress.state_of,
-  declared.{progress.Attempt.{Attempt, TheVariants.Below}, line_cutter.CutPoint.CutPoint},
-  laws.{
-    PlanLaws.{plan_once, goes_on, line_some, runs_on},
-    SectionLaws.{ends_as, closed_still, are_within, shares-append, section_grows},
-  },
-  inner.{
-    PlanLaws.EndsAs,
-    Cutter.{Joins, settled_part, Keeps, KeepsBy, part_at, draft_at, bare, Puts, CutsIn, Arrives, HoldsLines},
-    Cutter.{suppress_in, search_after, CutsNow, WentOn, IsAfter, CutAt, CutsAll, WillCut, WillSkip, IsEnd},
-  },
-  Cutter.{kept_by, most_by, text_from, draft_by, settled_draft, CutterState, state_in, IsAt, EndsNow},
-  Cutter.{IsLive, IsFit, Leads},
-}
+use Rattle.csplit_core.specs.{Csplit.{settled_of, whole_of}, Input.{newline, all_lines}, Operand.{Operand, Line}, Output.{Style, manner_of, opening_of, file_in, shares_in, part_of, sizes_wanted}, Plan.{State, start, Step, Ending, Plan, after_steps, CutPoint, Runs, search_line, line_after, state_after}, Plan.{step_of, is_used_up, misses, is_above, is_below, cuts}, Planned.plan, Section.{lines_between, is_last_kept, settled_end, whole_end, is_final, most_waiting, bytes_of, Section, section}, Section.section_of, Progress.state_of, declared.progress.Attempt.{Attempt, TheVariants.Below}, laws.{PlanLaws.{plan_once, goes_on, line_some, runs_on}, SectionLaws.{ends_as, closed_still, are_within, shares-append, section_grows}}, inner.{PlanLaws.EndsAs, Cutter.{Joins, settled_part, Keeps, KeepsBy, part_at, draft_at, bare, Puts, CutsIn, Arrives, HoldsLines}, Cutter.{suppress_in, search_after, Due, CutsNow, WentOn, IsAfter, CutAt, CutsAll, WillCut, WillSkip, IsEnd}}, Cutter.{kept_by, most_by, text_from, draft_by, settled_draft, CutterState, state_in, IsAt, EndsNow}, Cutter.{IsLive, IsFit, Leads}}
 use Rattle.csplit_core.proofs.{LineLemmas.{all_lines-append, bytes_between, length-all_lines, count-append, count_from, first_still, rest_more}, LineLemmas.{from_further, first_further}}
 use Rattle.ports_core.specs.{
   Draft.{Draft, share, made_of, shares_of, draft_part, with_bytes, with_next, told_of_files, size_of_file},
@@ -73,12 +50,12 @@ draft_to past style operands lines =
     draft_by style lines p.steps (is_last_kept p.ending) (bytes_of (lines_between p.last.current (past (length lines) p.ending) lines))
 
 -- these steps' draft is the plan's, if the plan ends after these steps
-pub draft_is : (past : ℕ → Ending → ℕ) (style : Style) (operands : List Operand) (x : List ℕ) {steps : List Step}
-    {state : State} {ending : Ending} (taken : ℕ) {written : List ℕ}
-    → Runs style (all_lines x) (start operands) steps state ending
-    → taken ≡ past (line_count newline x) ending - state.current
-    → written ≡ first_lines newline taken (text_from state.current x)
-    → draft_by style (all_lines x) steps (kept_by state.operands) written ≡ draft_to past style operands (all_lines x)
+pub draft_is : (past : ℕ → Ending → ℕ) (style : Style) (operands : List Operand) (x : List ℕ) {plan : Plan}
+    (taken : ℕ) {written : List ℕ} → Runs style (all_lines x) (start operands) plan
+    → taken ≡ past (line_count newline x) plan.ending - plan.last.current
+    → written ≡ first_lines newline taken (text_from plan.last.current x)
+    → draft_by style (all_lines x) plan.steps (kept_by plan.last.operands) written
+    ≡ draft_to past style operands (all_lines x)
 draft_is past style operands x taken runs taken_is written_is = search (rules, ends_as, length-all_lines, bytes_between, plan_once)
 
 -- what standard output has for sections is the sizes of the files that are closed
@@ -123,10 +100,9 @@ pub final_count : (total current : ℕ) (ending : Ending) → is_final ending �
 final_count total current ending past = search rules
 
 -- the sections that ended stay, whatever comes
-pub ended_still : (style : Style) (operands : List Operand) {x : List ℕ} (t : List ℕ) {steps : List Step}
-    {state : State} {ending : Ending} (kept : Bool) (written : List ℕ) → Joins x t
-    → Runs style (all_lines x) (start operands) steps state ending
-    → draft_by style (all_lines x) steps kept written ≡ draft_by style (all_lines (x ++ t)) steps kept written
+pub ended_still : (style : Style) (operands : List Operand) {x : List ℕ} (t : List ℕ) {plan : Plan} (kept : Bool)
+    (written : List ℕ) → Joins x t → Runs style (all_lines x) (start operands) plan
+    → draft_by style (all_lines x) plan.steps kept written ≡ draft_by style (all_lines (x ++ t)) plan.steps kept written
 ended_still style operands t kept written whole runs = search (rules, are_within, all_lines-append, closed_still)
 
 -- as many lines may wait as the next operand says
@@ -162,8 +138,9 @@ settled_same x keeps = search rules
 -- the plan runs up to the cutter's state
 pub runs_to : {cutter : CutterState} {x left : List ℕ} (at : IsAt cutter x left) {aim : Attempt}
     (ends : EndsNow (record cutter { aim = aim }) x)
-    → Runs cutter.style (all_lines x) (start cutter.operands) at.steps (state_in cutter) ends.ending
-runs_to at ends = search rules
+    → Runs cutter.style (all_lines x) (start cutter.operands)
+    (record { steps = at.steps; last = state_in cutter; ending = ends.ending })
+runs_to at ends = rw (append-nil at.steps) at (at.leads _ ends.runs)
 
 -- more lines came in, and nothing was done with them yet: they are left, except a line that is left out
 unfoldable pub at_more : {cutter : CutterState} {lines : ℕ} {x : List ℕ} (t more : List ℕ) {left : List ℕ} → Joins x t
@@ -174,14 +151,14 @@ unfoldable pub at_more : {cutter : CutterState} {lines : ℕ} {x : List ℕ} (t 
 at_more {cutter} t more whole some at ends count left_is =
     let e = all_lines-append t whole in record {
       steps = at.steps;
-      leads = search (rules, goes_on, runs_to);
+      leads = λ rest run. rw e (goes_on (all_lines t) (runs_to at ends) (rw e at run));
       counted = count;
       taken = at.taken;
       written = at.written;
       few = omega (arith, at.few, count-append t whole);
       written_is = at.written_is ∙ sym (first_still at.taken cutter.progress.current t whole some at.few);
       left_is = left_is;
-      writes = subst (Writes (manner_of cutter.style) cutter.writer) (search (rules, ended_still, runs_to)) at.writes;
+      writes = subst (Writes (manner_of cutter.style) cutter.writer) (ended_still cutter.style cutter.operands t _ at.written whole (runs_to at ends)) at.writes;
     }
 
 pub part_more : {cutter : CutterState} {lines : ℕ} {x : List ℕ} (t more : List ℕ) {left : List ℕ} (whole : Joins x t)
@@ -191,7 +168,8 @@ pub part_more : {cutter : CutterState} {lines : ℕ} {x : List ℕ} (t more : Li
     (left_is : left ++ more ≡ text_from (cutter.progress.current + at.taken) (x ++ t))
     → part_at at ≡ part_at (at_more t more whole some at ends count left_is)
 unfolding at_more
-part_more {cutter} t more whole some at ends count left_is = search (rules, ended_still, runs_to)
+part_more {cutter} t more whole some at ends count left_is = ap (draft_part (manner_of cutter.style))
+    (ended_still cutter.style cutter.operands t _ at.written whole (runs_to at ends))
 
 -- all further lines are left, unless the first of them is left out
 pub all_left : {cutter : CutterState} {x : List ℕ} (t : List ℕ) {left : List ℕ} → Joins x t
@@ -439,39 +417,39 @@ begins_with : (style : Style) (lines : List Line) (steps : List Step) (one : Sec
     (part_of style (map (section_of lines) steps ++ one ∷ more))
 begins_with style lines steps one more kept same =
     rw (← draft_shares style lines steps kept []) at
-    (section_grows style (map (section_of lines) steps) (section kept false []) one more refl same (bytes_of one.lines) refl)
+    (section_grows style (map (section_of lines) steps) (section kept false []) one more refl same (bytes_of one.lines, refl))
 
 -- the open section, if the plan ends at this state
 abbrev open_at : List Line → State → Ending → Section
 open_at lines last ending = section (is_last_kept ending) false
     (lines_between last.current (settled_end (length lines) ending) lines)
 
-settled_by_plan : (style : Style) (operands : List Operand) {lines : List Line} {steps : List Step} {last : State}
-    {ending : Ending} → Runs style lines (start operands) steps last ending
-    → settled_of style operands lines ≡ part_of style (map (section_of lines) steps ++ open_at lines last ending ∷ [])
+settled_by_plan : (style : Style) (operands : List Operand) {lines : List Line} {plan : Plan}
+    → Runs style lines (start operands) plan
+    → settled_of style operands lines
+    ≡ part_of style (map (section_of lines) plan.steps ++ open_at lines plan.last plan.ending ∷ [])
 settled_by_plan style operands runs = search (rules, plan_once, runs)
 
 -- the next section is kept if the next operand says so
-head_kept : {style : Style} {lines : List Line} {state : State} {more : List Step} {last : State} {ending : Ending}
-    → Runs style lines state more last ending → (one : Section) × (rest : List Section)
-    × (map (section_of lines) more ++ open_at lines last ending ∷ [] ≡ one ∷ rest)
+head_kept : {style : Style} {lines : List Line} {state : State} {plan : Plan} → Runs style lines state plan
+    → (one : Section) × (rest : List Section)
+    × (map (section_of lines) plan.steps ++ open_at lines plan.last plan.ending ∷ [] ≡ one ∷ rest)
     × (kept_by state.operands ≡ one.is_kept)
 head_kept (is_used_up state none) = (_, _, refl, ap kept_by none)
 head_kept (misses state operand those is none) = (_, _, refl, ap kept_by is)
-head_kept (is_above state operand those matched cut is at from far) = (_, _, refl, ap kept_by is)
-head_kept (is_below state operand those matched cut is at low) = (_, _, refl, ap kept_by is)
-head_kept (cuts state operand those matched cut steps last ending is at from within rest) = (_, _, refl, ap kept_by is)
+head_kept (is_above state cut its from far) = (_, _, refl, ap kept_by its.are)
+head_kept (is_below state cut its low) = (_, _, refl, ap kept_by its.are)
+head_kept (cuts state cut its from within plan rest) = (_, _, refl, ap kept_by its.are)
 
 begun_by : (style : Style) (operands : List Operand) {lines : List Line} (steps : List Step) {state : State}
-    (more : List Step) {last : State} {ending : Ending} → Runs style lines state more last ending
-    → Runs style lines (start operands) (steps ++ more) last ending
+    {more : Plan} → Runs style lines state more → Runs style lines (start operands) (after_steps steps more)
     → Begins (draft_part (manner_of style) (draft_by style lines steps (kept_by state.operands) []))
     (settled_of style operands lines)
-begun_by style operands {lines} steps {state} more {last} {ending} rest all =
+begun_by style operands {lines} steps {state} {more} rest all =
     let head = head_kept rest in rw (
       settled_by_plan style operands all,
-      map-append (section_of lines) steps more,
-      append_assoc (map (section_of lines) steps) (map (section_of lines) more) (open_at lines last ending ∷ []),
+      map-append (section_of lines) steps more.steps,
+      append_assoc (map (section_of lines) steps) (map (section_of lines) more.steps) (open_at lines more.last more.ending ∷ []),
       head.2,
     ) (search (rules, begins_with))
 
@@ -479,33 +457,32 @@ begun_by style operands {lines} steps {state} more {last} {ending} rest all =
 
 -- the step that makes a cut
 abbrev step_at : CutterState → Operand → CutPoint → Step
-step_at cutter operand cut = step_of (state_in cutter) operand cut.matched cut.line
+step_at cutter operand cut = step_of (state_in cutter) operand cut
 
 leads_on : {cutter : CutterState} {x left : List ℕ} (at : IsAt cutter x left) (cut : CutPoint)
     (goes : CutsIn cutter x cut)
-    → Leads cutter.style (all_lines x) cutter.operands (at.steps ++ step_at cutter goes.operand cut ∷ [])
-    (state_after (suppress_in cutter) goes.operand goes.operands cutter.progress.repetition cut.matched cut.line)
-leads_on {cutter} at cut goes more last ending run =
-    rw (← append_assoc at.steps (step_at cutter goes.operand cut ∷ []) more)
-    at (at.leads _ last ending (cuts _ goes.operand goes.operands cut.matched cut.line more last ending goes.are
-    goes.cuts goes.from goes.within run))
+    → Leads cutter.style (all_lines x) cutter.operands (at.steps ++ step_at cutter goes.its.operand cut ∷ [])
+    (state_after (suppress_in cutter) goes.its.operand goes.its.operands cutter.progress.repetition cut)
+leads_on {cutter} at cut goes rest run =
+    rw (← append_assoc at.steps (step_at cutter goes.its.operand cut ∷ []) rest.steps)
+    at (at.leads _ (cuts _ cut goes.its goes.from goes.within rest run))
 
 -- The contract of `cut_at`, by how far it came. First the lines before the cut are written, then the run goes on, and
 -- then the next section begins.
 
-pub cut_stopped : {told : Bool} {cutter next : CutterState} {cut : CutPoint} {place : ℕ} {left line : List ℕ}
-    {old new : List Slot} {fault : Fault} → next.operands ≡ cutter.operands → next.style ≡ cutter.style
-    → Leaves cutter.writer next.writer old new (Some fault)
-    → ((x : List ℕ) (at : IsAt (bare cutter) x left) → CutsNow line cut place at
-    → Puts told cutter next (part_at at) (settled_part cutter x) old new (Some fault))
-    → CutsAll told cutter cut place left line [] old new next (Some fault)
+pub cut_stopped : {told : Bool} {due : Due} {next : CutterState} {old new : List Slot} {fault : Fault}
+    → next.operands ≡ due.cutter.operands → next.style ≡ due.cutter.style
+    → Leaves due.cutter.writer next.writer old new (Some fault)
+    → ((x : List ℕ) (at : IsAt (bare due.cutter) x due.left) → CutsNow due x at
+    → Puts told due.cutter next (part_at at) (settled_part due.cutter x) old new (Some fault))
+    → CutsAll told due [] old new next (Some fault)
 cut_stopped operands style leaves reaches = search rules
 
 -- where the run stands after the cut
 passed_state : (cutter : CutterState) {mid : CutterState} {writer : WriterState} {cut : CutPoint}
     → WentOn (record cutter { writer = writer }) cut mid → {operand : Operand} {operands : List Operand}
     → (state_in cutter).operands ≡ operand ∷ operands → state_of cutter.operands mid.progress
-    ≡ state_after (suppress_in cutter) operand operands cutter.progress.repetition cut.matched cut.line
+    ≡ state_after (suppress_in cutter) operand operands cutter.progress.repetition cut
 passed_state cutter passed are = rw passed.same at (passed.state _ _ are)
 
 -- the lines before the cut are written, and then the next section begins
@@ -520,60 +497,63 @@ next_goes : {told : Bool} {cutter mid : CutterState} {writer next : WriterState}
 next_goes {before = before} passed went opening_is began = goes_again _ (λ draft. refl)
     (λ manner. bytes_begin manner before) went (rw passed.same at (rw opening_is at began))
 
--- a cut of this cutter is due; `before` are the lines that are left and stand before the cut
-module _ {cutter : CutterState} {cut : CutPoint} {place n : ℕ} {left before : List ℕ} (fit : IsFit cutter)
-    (will : WillCut cutter cut) (n_is : n ≡ cut.line - place) (first : before ≡ first_lines newline n left) where
+-- `before` are the lines that are left and stand before the cut
+module _ {due : Due} {n : ℕ} {before : List ℕ} (fit : IsFit due.cutter) (will : WillCut due.cutter due.cut)
+    (n_is : n ≡ due.cut.line - due.place) (first : before ≡ first_lines newline n due.left) where
   -- the sections up to the cut, and the next section
-  cut_draft : {x line : List ℕ} {at : IsAt (bare cutter) x left} (now : CutsNow line cut place at) (kept : Bool)
-      → with_next (opening_of cutter.style kept) (with_bytes before (draft_at at))
-      ≡ draft_by cutter.style (all_lines x) (at.steps ++ step_at cutter now.goes.operand cut ∷ []) kept []
+  cut_draft : {x : List ℕ} {at : IsAt (bare due.cutter) x due.left} (now : CutsNow due x at) (kept : Bool)
+      → with_next (opening_of due.cutter.style kept) (with_bytes before (draft_at at))
+      ≡ draft_by due.cutter.style (all_lines x) (at.steps ++ step_at due.cutter now.goes.its.operand due.cut ∷ []) kept
+      []
   cut_draft {x} {at = at} now kept =
-      let count : at.taken + n ≡ cut.line - cutter.progress.current =
+      let cutter = due.cutter in
+      let count : at.taken + n ≡ due.cut.line - cutter.progress.current =
       (search rules) in
-      let are = now.goes.are in
-      let bytes : at.written ++ before ≡ bytes_of (lines_between cutter.progress.current cut.line (all_lines x)) =
+      let are = now.goes.its.are in
+      let bytes : at.written ++ before ≡ bytes_of (lines_between cutter.progress.current due.cut.line (all_lines x)) =
       written_on n fit.fits.some at first ∙ ap (λ n. first_lines newline n (text_from cutter.progress.current x)) count
-      ∙ sym (bytes_between cutter.progress.current cut.line x) in
+      ∙ sym (bytes_between cutter.progress.current due.cut.line x) in
       let ended = flat_map (file_in cutter.style) (map (section_of (all_lines x)) at.steps) in
       let one : made_of (opening_of cutter.style (kept_by (state_in cutter).operands)) (at.written ++ before)
-      ≡ file_in cutter.style (section_of (all_lines x) (step_at cutter now.goes.operand cut)) = search rules in
+      ≡ file_in cutter.style (section_of (all_lines x) (step_at cutter now.goes.its.operand due.cut)) = search rules in
       ap (λ one. record { ended = ended ++ one; opening = opening_of cutter.style kept; bytes = [] }) one
       ∙ ap (λ those. record { ended = those; opening = opening_of cutter.style kept; bytes = [] })
       (search (rules, map-append, flat_map-append, append-nil))
 
   -- what is settled begins with the sections up to the cut
-  cut_begins : {x line : List ℕ} {at : IsAt (bare cutter) x left} (now : CutsNow line cut place at)
-      → Begins (draft_part (manner_of cutter.style) (with_next (opening_of cutter.style (kept_by (state_after
-      (suppress_in cutter) now.goes.operand now.goes.operands cutter.progress.repetition cut.matched
-      cut.line).operands)) (with_bytes before (draft_at at)))) (settled_part cutter x)
+  cut_begins : {x : List ℕ} {at : IsAt (bare due.cutter) x due.left} (now : CutsNow due x at)
+      → Begins (draft_part (manner_of due.cutter.style) (with_next (opening_of due.cutter.style (kept_by (state_after
+      (suppress_in due.cutter) now.goes.its.operand now.goes.its.operands due.cutter.progress.repetition
+      due.cut).operands)) (with_bytes before (draft_at at)))) (settled_part due.cutter x)
   cut_begins {x} {at = at} now =
-      let state = state_after (suppress_in cutter) now.goes.operand now.goes.operands cutter.progress.repetition cut.matched cut.line in
+      let cutter = due.cutter in
+      let state = state_after (suppress_in cutter) now.goes.its.operand now.goes.its.operands cutter.progress.repetition due.cut in
       let some : 1 ≤ state.current = (search (rules, line_some)) in
       let rest = runs_on cutter.style (all_lines x) state some in
       subst (λ draft. Begins (draft_part (manner_of cutter.style) draft) (settled_part cutter x))
       (sym (cut_draft now (kept_by state.operands)))
-      (begun_by cutter.style cutter.operands _ _ rest (leads_on at cut now.goes _ _ _ rest))
+      (begun_by cutter.style cutter.operands _ rest (leads_on at due.cut now.goes _ rest))
 
-  pub cut_put_stopped : {told : Bool} {next : CutterState} {old new : List Slot} {fault : Fault} (line : List ℕ)
-      → next.operands ≡ cutter.operands → next.style ≡ cutter.style
-      → Goes told cutter.writer (with_bytes before) old new next.writer (Some fault)
-      → CutsAll told cutter cut place left line [] old new next (Some fault)
-  cut_put_stopped line operands style goes = cut_stopped operands style goes.leaves
-      (λ x at now. stops_wider (goes.reaches (manner_of cutter.style) (draft_at at) at.writes)
+  pub cut_put_stopped : {told : Bool} {next : CutterState} {old new : List Slot} {fault : Fault}
+      → next.operands ≡ due.cutter.operands → next.style ≡ due.cutter.style
+      → Goes told due.cutter.writer (with_bytes before) old new next.writer (Some fault)
+      → CutsAll told due [] old new next (Some fault)
+  cut_put_stopped operands style goes = cut_stopped operands style goes.leaves
+      (λ x at now. stops_wider (goes.reaches (manner_of due.cutter.style) (draft_at at) at.writes)
       (part_trans _ _ _ (search (rules, next_begins)) (cut_begins now)))
 
   pub cut_next_stopped : {told : Bool} {mid : CutterState} {writer next : WriterState} {opening : Opening}
-      {old between new : List Slot} {fault : Fault} (line : List ℕ)
-      → Goes told cutter.writer (with_bytes before) old between writer None
-      → WentOn (record cutter { writer = writer }) cut mid
+      {old between new : List Slot} {fault : Fault}
+      → Goes told due.cutter.writer (with_bytes before) old between writer None
+      → WentOn (record due.cutter { writer = writer }) due.cut mid
       → opening ≡ opening_of mid.style (kept_by (state_in mid).operands)
       → Goes told mid.writer (with_next opening) between new next (Some fault)
-      → CutsAll told cutter cut place left line [] old new (record mid { writer = next }) (Some fault)
-  cut_next_stopped line went passed opening_is stops =
+      → CutsAll told due [] old new (record mid { writer = next }) (Some fault)
+  cut_next_stopped went passed opening_is stops =
       let stopped = next_goes passed went opening_is stops in
       cut_stopped (ap (λ (c : CutterState). c.operands) passed.same) (ap (λ (c : CutterState). c.style) passed.same)
-      stopped.leaves (λ x at now. stops_wider (stopped.reaches (manner_of cutter.style) (draft_at at) at.writes)
-      (rw (← (ap (λ (s : State). kept_by s.operands) (passed_state cutter passed now.goes.are))) at (cut_begins now)))
+      stopped.leaves (λ x at now. stops_wider (stopped.reaches (manner_of due.cutter.style) (draft_at at) at.writes)
+      (rw (← (ap (λ (s : State). kept_by s.operands) (passed_state due.cutter passed now.goes.its.are))) at (cut_begins now)))
 
 -- the next section began
 
@@ -596,23 +576,26 @@ end_of true left {rest} all n all_is skipped whole = (
 )
 end_of false left all n all_is skipped whole = (first_lines newline n left, rw (whole refl, all_is) (sym (first_lines_then_rest newline n left)))
 
-module _ {told : Bool} {cutter mid : CutterState} {writer next : WriterState} {cut : CutPoint} {place n : ℕ}
-    {left before rest : List ℕ} (all : List ℕ) {opening : Opening} {old between new : List Slot} (fit : IsFit cutter)
-    (will : WillCut cutter cut) (n_is : n ≡ cut.line - place) (first : before ≡ first_lines newline n left)
-    (all_is : all ≡ after_lines newline n left) (skipped : suppress_in cutter ≡ true → rest ≡ after_lines newline 1 all)
-    (whole : suppress_in cutter ≡ false → rest ≡ all)
-    (went : Goes told cutter.writer (with_bytes before) old between writer None)
-    (passed : WentOn (record cutter { writer = writer }) cut mid)
+module _ {told : Bool} {due : Due} {mid : CutterState} {writer next : WriterState} {n : ℕ} {before rest : List ℕ}
+    (all : List ℕ) {opening : Opening} {old between new : List Slot} (fit : IsFit due.cutter)
+    (will : WillCut due.cutter due.cut) (n_is : n ≡ due.cut.line - due.place)
+    (first : before ≡ first_lines newline n due.left) (all_is : all ≡ after_lines newline n due.left)
+    (skipped : suppress_in due.cutter ≡ true → rest ≡ after_lines newline 1 all)
+    (whole : suppress_in due.cutter ≡ false → rest ≡ all)
+    (went : Goes told due.cutter.writer (with_bytes before) old between writer None)
+    (passed : WentOn (record due.cutter { writer = writer }) due.cut mid)
     (opening_is : opening ≡ opening_of mid.style (kept_by (state_in mid).operands))
     (began : Goes told mid.writer (with_next opening) between new next None) where
-  after_at : {x : List ℕ} (line : List ℕ) {at : IsAt (bare cutter) x left} (now : CutsNow line cut place at)
-      → IsAfter told cutter x line (record mid { writer = next }) rest (part_at at) old new
-  after_at {x} line {at} now =
+  after_at : {x : List ℕ} {at : IsAt (bare due.cutter) x due.left} (now : CutsNow due x at)
+      → IsAfter told due x (part_at at) old new (record mid { writer = next }) rest
+  after_at {x} {at} now =
+      let cutter = due.cutter in
+      let cut = due.cut in
       let both = next_goes passed went opening_is began in
       let manner = manner_of cutter.style in
       let draft = draft_at at in
       let kept = kept_by (drop mid.progress.done cutter.operands) in
-      let state = passed_state cutter passed now.goes.are in
+      let state = passed_state cutter passed now.goes.its.are in
       let current : mid.progress.current ≡ line_after (suppress_in cutter) cut.line = ap (λ (s : State). s.current) state in
       let left_after : all ≡ text_from cut.line x = grind (arith, common_steps, (left_on n fit.fits.some at), now.place_is, now.before) in
       let drafts = cut_draft fit will n_is first now kept in
@@ -620,7 +603,7 @@ module _ {told : Bool} {cutter mid : CutterState} {writer next : WriterState} {c
       (let e : search_line (suppress_in cutter) (state_of cutter.operands mid.progress) ≡ search_after (suppress_in cutter) cut =
       (search rules) in let n = now.near in omega arith) in rw passed.same (record {
         now = record {
-          steps = at.steps ++ step_at cutter now.goes.operand cut ∷ [];
+          steps = at.steps ++ step_at cutter now.goes.its.operand cut ∷ [];
           leads = search (rules, state, (leads_on at cut now.goes));
           counted = at.counted;
           taken = 0;
@@ -639,11 +622,11 @@ module _ {told : Bool} {cutter mid : CutterState} {writer next : WriterState} {c
         reaches = reaches_as refl (sym (ap (draft_part manner) drafts)) (both.reaches manner draft at.writes);
       })
 
-  pub cut_done : size_of next.current ≡ 0 → length rest ≤ length left
-      → CutAt told cutter cut place left old new (record mid { writer = next }) rest
+  pub cut_done : size_of next.current ≡ 0 → length rest ≤ length due.left
+      → CutAt told due old new (record mid { writer = next }) rest
   cut_done empty shorter = record {
     fewer = passed.fewer;
-    spreading = λ line. record {
+    spreading = record {
       keeps = record {
         operands = search rules;
         style = search rules;
@@ -652,8 +635,8 @@ module _ {told : Bool} {cutter mid : CutterState} {writer next : WriterState} {c
       lines = search rules;
       fit = search rules;
       held = passed.held;
-      after = λ x at now. after_at line now;
+      after = λ x at now. after_at now;
       size = omega arith;
-      end = end_of (suppress_in cutter) left all n all_is skipped whole;
+      end = end_of (suppress_in due.cutter) due.left all n all_is skipped whole;
     };
   }

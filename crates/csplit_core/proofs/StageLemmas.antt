@@ -48,9 +48,9 @@ use Rattle.csplit_core.specs.{
   Input.{newline, all_lines, open_line},
   Operand.{Operand, Line, Target, Number, Search},
   Output.{Style, manner_of, opening_of, sizes_wanted},
-  Plan.{start, below, missed, above, past_last},
+  Plan.{start, below, missed, above, Plan, CutPoint, past_last},
   Measure.Moves,
-  Planned.{plan, Plan},
+  Planned.plan,
   laws.{PlanLaws.{plan_runs, plan_once}, SectionLaws.{ends_as, are_within, closed_still, ends_with as whole_grows}},
   Progress.EndsHere,
   inner.Cutter.{BegunNot, draft_at, plan_in, new_for, writer_for, AreSeen, AgreesWithPlan, MovesOn, Opened},
@@ -104,10 +104,10 @@ abbrev SaysFirst : Style → List Operand → Attempt → Type 0
 SaysFirst style operands attempt = (lines : List Line) → AreSeen style.suppress lines 0 (start operands) false →
     AgreesWithPlan style lines (start operands) attempt
 
-no_first_cut : (style : Style) (operands : List Operand) (target : Target) (matched cut : ℕ)
-    → Moves 0 (start operands) target matched cut → 1 ≤ cut → cut ≤ past_last style target → ⊥
-no_first_cut style operands (Number n) matched cut moves some within = omega arith
-no_first_cut style operands (Search pattern kept offset) matched cut moves some within = omega arith
+no_first_cut : (style : Style) (operands : List Operand) (target : Target) (cut : CutPoint)
+    → Moves 0 (start operands) target cut → 1 ≤ cut.line → cut.line ≤ past_last style target → ⊥
+no_first_cut style operands (Number n) cut moves some within = omega arith
+no_first_cut style operands (Search pattern kept offset) cut moves some within = omega arith
 
 first_ends : {style : Style} (operands : List Operand) {attempt : Attempt} → SaysFirst style operands attempt
     → MovesOn style operands 0 first_progress attempt → EndsHere style [] (start operands) attempt
@@ -134,7 +134,7 @@ first_stands : (operands : List Operand) (style : Style) {writer : WriterState} 
 first_stands operands style writes ends false live = inl (record {
   at = record {
     steps = [];
-    leads = λ more last ending run. run;
+    leads = λ rest run. run;
     counted = refl;
     taken = 0;
     written = [];
@@ -270,7 +270,7 @@ of_it {cutter} {x} judged =
 -- the verdict on the next operand, by its last attempt
 abbrev pub verdict_at : Attempt → Operand → ℕ → Option Verdict
 verdict_at Missed operand repetition = verdict_of (missed operand repetition)
-verdict_at (Above matched line) operand repetition = verdict_of (above operand repetition 0 0)
+verdict_at (Above cut) operand repetition = verdict_of (above operand repetition cut)
 verdict_at Below operand repetition = verdict_of (below operand repetition)
 verdict_at attempt operand repetition = None
 
@@ -431,10 +431,11 @@ module _ {told : Bool} {before stage : CsplitState} {lines text : List ℕ} (end
 
 -- A piece
 
-pub past_passes : {told : Bool} {view stage : CsplitState} {piece : List ℕ} {slots : List Slot} → view ≡ stage
+pub past_passes : {told : Bool} {view stage : CsplitState} {taken : ℕ} {piece : List ℕ} {slots : List Slot}
+    → view ≡ stage
     → view.cutter.aim ≡ Below → CanWrite stage.cutter.writer slots → IsSound stage.cutter
     → delimiters newline stage.rest ≡ 0
-    → Passes told stage piece slots slots view (Ok tt)
+    → Passes told stage piece slots slots (record view { taken = taken }) (Ok tt)
 past_passes {stage = stage} is aim ready sound unbroken =
     let aimed : stage.cutter.aim ≡ Below = search rules in
     rw is (record {

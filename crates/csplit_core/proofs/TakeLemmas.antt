@@ -22,16 +22,17 @@ use Rattle.ports_core.{
 use Rattle.csplit_core.specs.{
   Input.{newline, all_lines, without_newline},
   Operand.{Line, Number, Operand, Search, Target},
-  Plan.{State, Ending, used_up, missed, above, below, CutsAt, search_line, past_last},
+  Plan.{State, Ending, used_up, missed, above, below, Plan, CutPoint, CutsAt, search_line, past_last},
   inner.PlanLaws.EndsAs,
   Output.{Style, manner_of},
-  Planned.{Plan, plan},
+  Planned.plan,
   laws.{PlanLaws.plan_runs, SectionLaws.{ends_as, cuts_from, grows}},
   inner.Cutter.{CutsIn, bare, IsFound, settled_part, part_at, IsWhole, IsLine, Joins, Arrives, Held, HoldsLines},
-  inner.Cutter.{CutsNow, CutsAll, WillCut, TriesNext, Takes, IsNextFound, Stretches, IsEnd, Tries, IsAfter, CutAt},
-  inner.Cutter.{Spreading, Spread, WillSkip, PassesOver, Starts, StopsAt, CutsOn, PassesThenHolds},
+  inner.Cutter.{Due, due, waits_with, CutsNow, CutsAll, WillCut, TriesNext, Takes, IsNextFound, IsEnd, Tries, IsAfter, CutAt},
+  inner.Cutter.{Spreading, Spread, WillSkip, PassesOver, Stretch, stretch_of, first_in, others_in, Starts, StopsAt, Stretches},
+  inner.Cutter.{CutsOn, PassesThenHolds},
   Section.{is_final, most_waiting, settled_end},
-  declared.{line_cutter.{CutPoint.CutPoint, Passed.Passed}, progress.Attempt.{Attempt, TheVariants.Below}},
+  declared.{line_cutter.Passed.Passed, progress.Attempt.{Attempt, TheVariants.Below}},
   Cutter.{CutterState, state_in, text_from, settled_draft, draft_by, IsFit, IsSound, IsAt, IsLive, IsPast, Stands},
   Cutter.{EndsNow, kept_by},
 }
@@ -46,12 +47,12 @@ use Rattle.csplit_core.proofs.{
 -- A cut doesn't stand before the lines that are left.
 
 live_before : {cutter : CutterState} {x : List ℕ} (t : List ℕ) (live : IsLive cutter x) {operand : Operand}
-    {operands : List Operand} (matched cut : ℕ) → (state_in cutter).operands ≡ operand ∷ operands
-    → CutsAt cutter.style (all_lines x ++ all_lines t) (state_in cutter) operand operand.target matched cut
-    → settled_end (line_count newline x) live.ends.ending ≤ cut
-live_before {cutter} {x} t live matched cut are at =
+    {operands : List Operand} (cut : CutPoint) → (state_in cutter).operands ≡ operand ∷ operands
+    → CutsAt cutter.style (all_lines x ++ all_lines t) (state_in cutter) operand operand.target cut
+    → settled_end (line_count newline x) live.ends.ending ≤ cut.line
+live_before {cutter} {x} t live cut are at =
     let so = cuts_from cutter.style (all_lines x) (all_lines t) (state_in cutter) live.ends.ending (ends_as live.ends.runs) are in
-    rw (length-all_lines x) at (so.1 matched cut at)
+    rw (length-all_lines x) at (so.1 cut at)
 
 place_before : {cutter : CutterState} {x : List ℕ} (t : List ℕ) (cut : CutPoint) (live : IsLive cutter x) → IsWhole x
     → CutsIn cutter (x ++ t) cut → cutter.progress.current ≤ cut.line
@@ -59,8 +60,7 @@ place_before : {cutter : CutterState} {x : List ℕ} (t : List ℕ) (cut : CutPo
 place_before t cut live whole goes from = omega (
   arith,
   live_taken live,
-  live_before t live cut.matched cut.line
-      goes.are (rw (all_lines-append t (inl whole)) at goes.cuts),
+  live_before t live cut goes.its.are (rw (all_lines-append t (inl whole)) at goes.its.cuts),
 )
 
 -- the same cutter after more lines came
@@ -87,9 +87,9 @@ low_taken : {cutter : CutterState} {x : List ℕ} (t : List ℕ) (live : IsLive 
     → EndsAs cutter.style (all_lines (x ++ t)) (state_in cutter) ending → is_final ending ≡ true → live.at.taken ≡ 0
 low_taken t live whole used_up ends final = absurd (false≢true final)
 low_taken t live whole (missed operand repetition) ends final = absurd (false≢true final)
-low_taken t live whole (above operand repetition matched cut) ends final = absurd (false≢true final)
-low_taken t live whole (below operand repetition) (operands, matched, cut, are, at, low, often) final =
-    omega (arith, live_taken live, live_before t live matched cut are (rw (all_lines-append t (inl whole)) at at))
+low_taken t live whole (above operand repetition cut) ends final = absurd (false≢true final)
+low_taken t live whole (below operand repetition) (operands, cut, are, at, low, often) final =
+    omega (arith, live_taken live, live_before t live cut are (rw (all_lines-append t (inl whole)) at at))
 
 pub took_held : {told : Bool} {cutter next : CutterState} {lines : ℕ} {aim : Attempt} {t : List ℕ} (more : List ℕ)
     {old new : List Slot} {fault : Option Fault} → IsSound (more_lines cutter lines aim) → IsFit cutter
@@ -139,11 +139,11 @@ took_held {cutter = cutter} {next} {lines} {aim} {t} more {fault = fault} sound 
 search_from : (suppress : Bool) (state : State) → state.current ≤ search_line suppress state
 search_from suppress state = search rules
 
-cut_near : (style : Style) (lines : List Line) (state : State) (operand : Operand) (target : Target) (matched cut : ℕ)
-    → CutsAt style lines state operand target matched cut → state.current ≤ cut
-    → cut ≤ length lines + past_last style target → state.current ≤ length lines
-cut_near style lines state operand (Number n) matched cut at from within = omega arith
-cut_near style lines state operand (Search pattern kept offset) matched cut at from within =
+cut_near : (style : Style) (lines : List Line) (state : State) (operand : Operand) (target : Target) (cut : CutPoint)
+    → CutsAt style lines state operand target cut
+    → (state.current ≤ cut.line) × (cut.line ≤ length lines + past_last style target) → state.current ≤ length lines
+cut_near style lines state operand (Number n) cut at within = omega (arith, within.0, within.1)
+cut_near style lines state operand (Search pattern kept offset) cut at within =
     let first = at.0 in omega (arith, first.not_before, first.within, search_from style.suppress state)
 
 line_has : (line : List ℕ) → IsLine line → 1 ≤ length line
@@ -153,8 +153,8 @@ line_has line one = grind (arith, common_steps)
 take_cut : {told : Bool} {cutter mid next : CutterState} (line more : List ℕ) {cut : CutPoint} {old new : List Slot}
     {fault : Option Fault} → IsFit cutter → (cutter.aim ≡ Below → ⊥) → IsLine line
     → mid ≡ more_lines cutter (cutter.lines + 1) mid.aim → WillCut mid cut → TriesNext cutter line mid (Some cut)
-    → CutsAll told mid cut (mid.lines - delimiters newline mid.window.held) (mid.window.held ++ line) line more old new
-    next fault → Takes told cutter (line ++ more) old new next fault
+    → CutsAll told (waits_with mid cut line) more old new next fault
+    → Takes told cutter (line ++ more) old new next fault
 unfolding at_more
 take_cut {told} {cutter} {mid} {next} line more {cut} {old} {new} {fault} fit differs one is will tries cuts = record {
   keeps = all.keeps;
@@ -166,21 +166,21 @@ take_cut {told} {cutter} {mid} {next} line more {cut} {old} {new} {fault} fit di
     size = grind (arith, common_steps, length-append, line_has);
   });
 } where
-  all : CutsAll told (more_lines cutter (cutter.lines + 1) mid.aim) cut
-      (cutter.lines + 1 - delimiters newline cutter.window.held) (cutter.window.held ++ line) line more old new next
-      fault
+  now : Due
+  now = waits_with (more_lines cutter (cutter.lines + 1) mid.aim) cut line
+
+  all : CutsAll told now more old new next fault
   all = rw is at cuts
 
   reached : (x : List ℕ) → IsWhole x → Stands cutter x
       → (at : IsAt (bare (more_lines cutter (cutter.lines + 1) mid.aim)) (x ++ line) (cutter.window.held ++ line))
-      × CutsNow line cut (cutter.lines + 1 - delimiters newline cutter.window.held) at
-      × (settled_part cutter x ≡ part_at at)
+      × CutsNow now (x ++ line) at × (settled_part cutter x ≡ part_at at)
   reached x whole stands =
       let live = live_of differs stands in
       let cuts = tries x whole live in
       let count : cutter.lines + 1 ≡ line_count newline (x ++ line) = search (rules, count-line) in
       let near : cutter.progress.current ≤ cutter.lines + 1 =
-      (let e = cut_near cutter.style (all_lines (x ++ line)) (state_in cutter) cuts.0.operand cuts.0.operand.target cut.matched cut.line cuts.0.cuts cuts.0.from cuts.0.within in
+      (let e = cut_near cutter.style (all_lines (x ++ line)) (state_in cutter) cuts.0.its.operand cuts.0.its.operand.target cut cuts.0.its.cuts (cuts.0.from, cuts.0.within) in
       omega (arith, length-all_lines (x ++ line))) in
       let left_is = all_left line (inl whole) fit.fits.some live.at (λ skips. absurd (omega arith)) in
       let place : cutter.lines + 1 - delimiters newline cutter.window.held ≡ cutter.progress.current + live.at.taken =
@@ -296,7 +296,7 @@ takes_none sound ready = search rules
 module _ {told : Bool} {cutter now : CutterState} {text left : List ℕ} {old mid : List Slot}
     (so_far : Taking told cutter now text left old mid) where
   pub takes_more : {next : CutterState} {size : ℕ} (passed : Passed) {new : List Slot} → IsWhole (take size left)
-      → Stretches told now left size mid new next (Ok passed)
+      → Stretches told now (stretch_of left size) mid new next (Ok passed)
       → Taking told cutter next text (take (length left - passed.size) (drop passed.size left)) old new
   takes_more {size = size} passed first more =
       let front = take size left ++ take more.on.n (drop size left) in
@@ -311,7 +311,8 @@ module _ {told : Bool} {cutter now : CutterState} {text left : List ℕ} {old mi
       }
 
   pub takes_stopped : {next : CutterState} {size : ℕ} {new : List Slot} {fault : Fault} → IsWhole (take size left)
-      → Stretches told now left size mid new next (Err fault) → Takes told cutter text old new next (Some fault)
+      → Stretches told now (stretch_of left size) mid new next (Err fault)
+      → Takes told cutter text old new next (Some fault)
   takes_stopped {size = size} first more =
       let all : (take size left ++ take more.on.n (drop size left)) ++ drop more.on.n (drop size left) ≡ left = (grind (arith, common_steps)) in
       rw (← so_far.whole) at (takes_again so_far.complete so_far.took
@@ -330,27 +331,35 @@ spread_ready now is ready = search rules
 
 -- the next operand cuts, too
 
-cuts_again : {told : Bool} {cutter now : CutterState} (cut : CutPoint) {x : List ℕ} (line : List ℕ)
-    {left : List ℕ} {low : Part} {old new : List Slot} (after : IsAfter told cutter x line now left low old new)
-    → Tries now line now (Some cut) → WillCut now cut
-    → CutsNow line cut now.progress.current after.now
-cuts_again cut line after tries will = search rules
+-- the cut that is due after a cut
+abbrev pub due_on : CutterState → CutPoint → (left line : List ℕ) → Due
+due_on cutter cut = due cutter cut cutter.progress.current
 
-module _ {told : Bool} {cutter now mid : CutterState} {cut cut' : CutPoint} {place : ℕ} {waiting line left : List ℕ}
-    {old between : List Slot} (so_far : Spreading told cutter cut place waiting line old between now left)
-    (is : mid ≡ record now { aim = mid.aim }) (tries : Tries now line mid (Some cut')) (will : WillCut now cut') where
+cuts_again : {told : Bool} {due : Due} {now : CutterState} (cut : CutPoint) {x left : List ℕ} {low : Part}
+    {old new : List Slot} (after : IsAfter told due x low old new now left) → Tries now due.line now (Some cut)
+    → WillCut now cut → {aim : Attempt} → CutsNow (due_on (record now { aim = aim }) cut left due.line) x after.now
+cuts_again cut after tries will = let both = tries _ after.looked in record {
+  last = after.looked.last;
+  near = both.1 (inl after.near);
+  place_is = omega (arith, after.none);
+  before = will.from;
+  goes = both.0;
+}
+
+module _ {told : Bool} {due : Due} {now mid : CutterState} {cut : CutPoint} {left : List ℕ}
+    {old between : List Slot} (so_far : Spreading told due old between now left)
+    (is : mid ≡ record now { aim = mid.aim }) (tries : Tries now due.line mid (Some cut)) (will : WillCut now cut) where
   pub spread_more : {next : CutterState} {rest : List ℕ} {new : List Slot}
-      → CutAt told mid cut' mid.progress.current left between new next rest
-      → Spreading told cutter cut place waiting line old new next rest
+      → CutAt told (due_on mid cut left due.line) between new next rest → Spreading told due old new next rest
   spread_more {next} {rest} at_cut =
-      let once = (rw is at at_cut).spreading line in record {
+      let once = (rw is at at_cut).spreading in record {
         keeps = keeps_on so_far.keeps once.keeps;
         lines = once.lines ∙ so_far.lines;
         fit = once.fit;
         held = once.held;
         after = λ x at here.
             let after = so_far.after x at here in
-            let again = once.after x after.now (cuts_again cut' line after tries will) in record {
+            let again = once.after x after.now (cuts_again cut after tries will) in record {
               now = again.now;
               looked = again.looked;
               near = again.near;
@@ -366,13 +375,13 @@ module _ {told : Bool} {cutter now mid : CutterState} {cut cut' : CutPoint} {pla
       }
 
   pub spread_stopped : {next : CutterState} {new : List Slot} {fault : Fault}
-      → CutsAll told mid cut' mid.progress.current left line [] between new next (Some fault)
-      → CutsAll told cutter cut place waiting line [] old new next (Some fault)
+      → CutsAll told (due_on mid cut left due.line) [] between new next (Some fault)
+      → CutsAll told due [] old new next (Some fault)
   spread_stopped stops =
       let stopped = rw is at stops in record {
         keeps = keeps_on so_far.keeps stopped.keeps;
         reaches = λ x at here. let after = so_far.after x at here in reaches_then so_far.keeps.style after.grows after.reaches
-            (reaches_as refl (sym (settled_same (x ++ []) so_far.keeps)) (stopped.reaches x after.now (cuts_again cut' line after tries will)));
+            (reaches_as refl (sym (settled_same (x ++ []) so_far.keeps)) (stopped.reaches x after.now (cuts_again cut after tries will)));
         went = tt;
       }
 
@@ -399,14 +408,18 @@ pub cut_drained : {told : Bool} {cutter next : CutterState} {window : Window} {c
     {items waiting line : List ℕ} {old new : List Slot} {fault : Option Fault} → waiting ≡ cutter.window.held ++ line
     → items ≡ cutter.window.held ++ line → n ≡ length items → count ≡ delimiters newline (take (n - length line) items)
     → place ≡ cutter.lines - count
-    → CutsAll told (record cutter { window = window }) cut place waiting line [] old new next fault
-    → CutsAll told cutter cut (cutter.lines - delimiters newline cutter.window.held)
-    (cutter.window.held ++ line) line [] old new next fault
+    → CutsAll told (due (record cutter { window = window }) cut place waiting line) [] old new next fault
+    → CutsAll told (waits_with cutter cut line) [] old new next fault
 cut_drained {cutter = cutter} {window = window} {line = line} {fault = fault} waiting_is items_is long count_is place_is cuts =
     let all = rw (waiting_is, drained_place cutter.lines cutter.window.held line items_is long count_is place_is) at cuts in record {
       keeps = all.keeps;
-      reaches = all.reaches;
-      went = where_well fault all.went (λ went. search rules);
+      reaches = λ x at here. all.reaches x at (record { last = here.last; near = here.near; place_is = here.place_is; before = here.before; goes = here.goes });
+      went = where_well fault all.went (λ went. record {
+        lines = went.lines;
+        sound = went.sound;
+        stands = λ x at here. went.stands x at (record { last = here.last; near = here.near; place_is = here.place_is; before = here.before; goes = here.goes });
+        size = went.size;
+      });
     }
 
 -- A line is cut, or it isn't; what is left of it is held with the lines after it that aren't cut.
@@ -445,7 +458,7 @@ pub gone_on : {told : Bool} {cutter mid next : CutterState} (text : List ℕ) {r
     → rest ≡ drop size text → StopsAt cutter rest mid passed
     → HoldsLines told mid (mid.window.held ++ take (size + passed.size - first) (drop first text)) old new next
     (fault_in result) → IfOk result (λ all. (all.size ≡ size + passed.size) × (all.found ≡ passed.found))
-    → PassesThenHolds told cutter (drop first (take size text)) text size old new next result
+    → PassesThenHolds told cutter (drop first (take size text)) (stretch_of text size) old new next result
 gone_on text first size {passed} result low within rest_is stops held are =
     let stops_there = rw rest_is at stops in
     record {
@@ -470,14 +483,13 @@ joins_by n fact ends = search rules
 
 -- No operand cuts any more, and the lines that are left are held, perhaps with further lines.
 
-pub spread_passes : {told : Bool} {cutter mid end next : CutterState} {cut : CutPoint} {place : ℕ}
-    {waiting line left rest : List ℕ} {n : ℕ} {old between new : List Slot} {fault : Option Fault}
-    → Spread told cutter cut place waiting line old between mid left
-    → (rest ≡ []) ⊎ (ends_with newline line ≡ true) → PassesOver mid rest end n
+pub spread_passes : {told : Bool} {due : Due} {mid end next : CutterState} {left rest : List ℕ} {n : ℕ}
+    {old between new : List Slot} {fault : Option Fault} → Spread told due old between mid left
+    → (rest ≡ []) ⊎ (ends_with newline due.line ≡ true) → PassesOver mid rest end n
     → HoldsLines told end (end.window.held ++ (left ++ take n rest)) between new next fault
-    → CutsAll told cutter cut place waiting line (take n rest) old new next fault
+    → CutsAll told due (take n rest) old new next fault
 unfolding at_more
-spread_passes {told} {cutter} {mid} {end} {next} {cut} {place} {waiting} {line} {left} {rest} {n} {between = between}
+spread_passes {told} {due} {mid} {end} {next} {left} {rest} {n} {between = between}
     {new} {fault} spread complete over held = record {
       keeps = keeps_on spread.so_far.keeps held_now.keeps;
       reaches = λ x at here. let after = spread.so_far.after x at here in let there = reached x at here in
@@ -497,7 +509,7 @@ spread_passes {told} {cutter} {mid} {end} {next} {cut} {place} {waiting} {line} 
       held_now : HoldsLines told (more_lines spread.now end.lines mid.aim) (left ++ take n rest) between new next fault
       held_now = search (rules, over_now)
 
-      reached : (x : List ℕ) (at : IsAt (bare cutter) x waiting) (here : CutsNow line cut place at)
+      reached : (x : List ℕ) (at : IsAt (bare due.cutter) x due.left) (here : CutsNow due x at)
           → Reached (part_at (spread.so_far.after x at here).now) (more_lines spread.now end.lines mid.aim)
           (x ++ take n rest) (left ++ take n rest)
       reached x at here =
@@ -513,11 +525,9 @@ spread_passes {told} {cutter} {mid} {end} {next} {cut} {place} {waiting} {line} 
           }
 
 -- the lines that are left are held alone
-pub spread_held : {told : Bool} {cutter mid next : CutterState} {cut : CutPoint} {place : ℕ}
-    {waiting line left : List ℕ} {old between new : List Slot} {fault : Option Fault}
-    → Spread told cutter cut place waiting line old between mid left
-    → HoldsLines told mid (mid.window.held ++ left) between new next fault
-    → CutsAll told cutter cut place waiting line [] old new next fault
+pub spread_held : {told : Bool} {due : Due} {mid next : CutterState} {left : List ℕ} {old between new : List Slot}
+    {fault : Option Fault} → Spread told due old between mid left
+    → HoldsLines told mid (mid.window.held ++ left) between new next fault → CutsAll told due [] old new next fault
 spread_held {left = left} spread held = spread_passes {rest = []} {n = 0} spread (inl refl) (record {
   same = refl;
   within = omega arith;
@@ -562,17 +572,17 @@ left_after {cutter} {x} first line more fit one skips keeps joins whole live = e
 
 -- The contract of `stretch`, if the first line isn't cut.
 
-module _ {told : Bool} {cutter mid next : CutterState} {text : List ℕ} {size : ℕ} {old new : List Slot}
-    (result : Result Passed Fault) (fit : IsFit cutter) (differs : cutter.aim ≡ Below → ⊥) (start : Starts text size)
+module _ {told : Bool} {cutter mid next : CutterState} {stretch : Stretch} {old new : List Slot}
+    (result : Result Passed Fault) (fit : IsFit cutter) (differs : cutter.aim ≡ Below → ⊥) (start : Starts stretch)
     (mid_is : mid ≡ record cutter { lines = cutter.lines + 1; aim = mid.aim }) where
-  pub stretch_on : (first : ℕ) → (WillSkip cutter → first ≡ size) → ((WillSkip cutter → ⊥) → first ≡ 0)
-      → TriesNext cutter (take size text) mid None
-      → PassesThenHolds told mid (drop first (take size text)) text size old new next result
-      → Stretches told cutter text size old new next result
+  pub stretch_on : (first : ℕ) → (WillSkip cutter → first ≡ stretch.size) → ((WillSkip cutter → ⊥) → first ≡ 0)
+      → TriesNext cutter (first_in stretch) mid None
+      → PassesThenHolds told mid (drop first (first_in stretch)) stretch old new next result
+      → Stretches told cutter stretch old new next result
   stretch_on first skips keeps tries gone =
       let end = gone.mid in
-      let line = take size text in
-      let more = take gone.on.n (drop size text) in
+      let line = first_in stretch in
+      let more = take gone.on.n (others_in stretch) in
       let end_is : end ≡ more_lines cutter end.lines mid.aim = search rules in
       record {
         on = gone.on;
@@ -580,33 +590,33 @@ module _ {told : Bool} {cutter mid next : CutterState} {text : List ℕ} {size :
             (search (rules, length-append, length-take-le, line_has))
             (omega (arith, length-append (drop first line) more, length-append line more, length-drop first line))
             (λ x whole live. left_after first line more fit start.line
-            (λ skipped. skips skipped ∙ sym (length-take-le size text start.within)) keeps
+            (λ skipped. skips skipped ∙ sym (length-take-le stretch.size stretch.text start.within)) keeps
             (joins_by gone.on.n start.complete (λ ends. whole-append line whole (inr ends))) whole live)
             (λ x whole live.
             let both = gone.over.ends (x ++ line)
             (joins_by gone.on.n start.complete (λ ends. whole-append line whole (inr ends)))
             (ap (λ (c : CutterState). c.lines) mid_is ∙ ap (λ k. k + 1) live.at.counted ∙ sym (count-line line whole start.line))
             (tries x whole live) in
-            let is = append_assoc x line (take gone.on.n (drop size text)) in (search rules)) (rw end_is at gone.held);
+            let is = append_assoc x line more in (search rules)) (rw end_is at gone.held);
       }
 
   -- The first line is cut, and no line waits.
   pub stretch_cut : {cut : CutPoint} → mid.window.held ≡ [] → WillCut mid cut
-      → TriesNext cutter (take size text) mid (Some cut) → CutsOn told mid cut text size old new next result
-      → Stretches told cutter text size old new next result
-  stretch_cut {cut} none will tries on = let line = take size text in let more = take on.on.n (drop size text) in record {
-    on = on.on;
-    took = take_cut line more fit differs start.line mid_is will tries
-        (alone (λ place those. CutsAll told mid cut place those line more old new next
-        (fault_in result)) mid line none on.all);
-  }
+      → TriesNext cutter (first_in stretch) mid (Some cut) → CutsOn told mid cut stretch old new next result
+      → Stretches told cutter stretch old new next result
+  stretch_cut {cut} none will tries on =
+      let line = first_in stretch in let more = take on.on.n (others_in stretch) in record {
+        on = on.on;
+        took = take_cut line more fit differs start.line mid_is will tries
+            (alone (λ place those. CutsAll told (due mid cut place those line) more old new next (fault_in result)) mid line
+            none on.all);
+      }
 
   -- The first line is cut, and some lines wait.
-  pub stretch_first : {cut : CutPoint} → WillCut mid cut → TriesNext cutter (take size text) mid (Some cut)
-      → CutsAll told mid cut (mid.lines - delimiters newline mid.window.held) (mid.window.held ++ take size text)
-      (take size text) [] old new next (fault_in result)
-      → IfOk result (λ passed. (passed.size ≡ size) × (passed.found ≡ None))
-      → Stretches told cutter text size old new next result
+  pub stretch_first : {cut : CutPoint} → WillCut mid cut → TriesNext cutter (first_in stretch) mid (Some cut)
+      → CutsAll told (waits_with mid cut (first_in stretch)) [] old new next (fault_in result)
+      → IfOk result (λ passed. (passed.size ≡ stretch.size) × (passed.found ≡ None))
+      → Stretches told cutter stretch old new next result
   stretch_first will tries all are = record {
     on = search (rules, ok_as);
     took = search (rules, take_cut);
@@ -614,8 +624,9 @@ module _ {told : Bool} {cutter mid next : CutterState} {text : List ℕ} {size :
 
 -- All lines of the text go nowhere.
 pub stretch_past : {told : Bool} {cutter next : CutterState} {text : List ℕ} {size : ℕ} {old new : List Slot}
-    (passed : Passed) → Starts text size → Takes told cutter text old new next None → passed.size ≡ length text
-    → passed.found ≡ None → Stretches told cutter text size old new next (Ok passed)
+    (passed : Passed) → Starts (stretch_of text size) → Takes told cutter text old new next None
+    → passed.size ≡ length text → passed.found ≡ None
+    → Stretches told cutter (stretch_of text size) old new next (Ok passed)
 stretch_past {text = text} {size} passed start took size_is none =
     let rest : take (length (drop size text)) (drop size text) ≡ drop size text = search (rules, take_all) in record {
       on = search (rules, length-drop);
@@ -624,6 +635,6 @@ stretch_past {text = text} {size} passed start took size_is none =
 
 -- The text is one line.
 pub stretched_line : {told : Bool} {cutter next : CutterState} {line : List ℕ} {old new : List Slot}
-    {result : Result Passed Fault} → Stretches told cutter line (length line) old new next result
+    {result : Result Passed Fault} → Stretches told cutter (stretch_of line (length line)) old new next result
     → Takes told cutter line old new next (fault_in result)
 stretched_line stretch = grind (arith, common_steps)

@@ -10,30 +10,7 @@ use Rattle.std.proofs.{
     List.{get_or-map, drop_at, take_all, take_at, take-append-drop, length-take-le, append-nil},
   },
 }
-use Rattle.csplit_core.specs.{
-  Operand.{Target, Number, Search, Operand, Line, unmarked, is_match, Offset, moved, has_more},
-  Plan.{State, Step, Ending, used_up, missed, above, search_line, MatchesNone, line_after, Runs, is_used_up, misses, is_above},
-  Plan.{is_below, cuts, below, CutsAt, state_after, past_last},
-  Output.Style,
-  Planned.plan,
-  laws.{
-    PlanLaws.{cuts_still, goes_on, plan_runs, plan_once, line_some, past_near, fewer_left, fewer_moves},
-    SectionLaws.ends_as,
-  },
-  Progress.{state_of, EndsHere, AimsAt},
-  inner.Cutter.{AreSeen, AgreesWithPlan, FallsAt, GoesPast, WillCut, WillSkip, PassesOn, PassesCut, IsWhole, IsLine},
-  inner.Cutter.{Joins, past_in, past_by, suppress_in, search_after},
-  inner.Cutter.{Looked, IsFound, IsNoCut, StaysNear, Tries, TriesNext, AreClear, IsNextFound, Lacks, equipped},
-  inner.Cutter.{PassesClear, PassesOver, StopsAt},
-  inner.PlanLaws.{needed, EndsAs},
-  declared.{
-    progress.{Attempt.{Attempt, TheVariants.{UsedUp, Missed, Above, Below, Cuts}}, Progress.Progress},
-    line_cutter.{CutPoint.CutPoint, Passed.Passed},
-  },
-  Measure.{Moves, IsRepeatedBy, Fits},
-  Input.{newline, without_newline, marked, all_lines, is_match_of},
-  Cutter.{CutterState, state_in, IsFit, pattern_by, pattern_in, IsLive, EndsNow, IsSound},
-}
+use Rattle.csplit_core.specs.{Operand.{Target, Number, Search, Operand, Line, unmarked, is_match, Offset, moved, has_more}, Plan.{State, Ending, used_up, missed, above, search_line, MatchesNone, line_after, Runs, is_used_up, misses, is_above}, Plan.{is_below, cuts, below, Plan, ended, CutPoint, CutsAt, IsCut, state_after, past_last}, Output.Style, Planned.plan, laws.{PlanLaws.{cut_still, goes_on, plan_runs, plan_once, line_some, past_near, fewer_left, fewer}, SectionLaws.ends_as}, Progress.{state_of, EndsHere, AimsAt}, inner.Cutter.{AreSeen, AgreesWithPlan, FallsAt, GoesPast, WillCut, WillSkip, PassesOn, PassesCut, IsWhole, IsLine}, inner.Cutter.{Joins, past_in, past_by, suppress_in, search_after}, inner.Cutter.{Looked, IsFound, IsNoCut, StaysNear, Tries, TriesNext, AreClear, IsNextFound, Lacks, equipped}, inner.Cutter.{PassesClear, PassesOver, StopsAt}, inner.PlanLaws.{needed, EndsAs, MovesWithin}, declared.{progress.{Attempt.{Attempt, TheVariants.{UsedUp, Missed, Above, Below, Cuts}}, Progress.Progress}, line_cutter.Passed.Passed}, Measure.{IsRepeatedBy, Fits}, Input.{newline, without_newline, marked, all_lines, is_match_of}, Cutter.{CutterState, state_in, IsFit, pattern_by, pattern_in, IsLive, EndsNow, IsSound}}
 use Rattle.csplit_core.proofs.{
   WholeLemmas.after_within,
   LineLemmas.{all_lines-append, all_lines-line, length-all_lines, count-append, count-line, whole-append, whole_drop},
@@ -69,27 +46,25 @@ looks_past operand lines from looked none line from_on within = search rules
 abbrev pub EndsStill : Style → (count : ℕ) → List Line → (total : ℕ) → State → Ending → Type 0
 EndsStill style count b total last (missed operand repetition) =
     (operand : Operand) (operands : List Operand) → last.operands ≡ operand ∷ operands → NoneFrom operand count b (search_line style.suppress last)
-EndsStill style count b total last (above operand repetition matched cut) = total + past_last style operand.target < cut
+EndsStill style count b total last (above operand repetition cut) = total + past_last style operand.target < cut.line
 EndsStill style count b total last ending = Unit {0}
 
-pub ends_still : {style : Style} {a : List Line} (b : List Line) {first : State} {steps : List Step} {last : State}
-    {ending : Ending} → Runs style a first steps last ending
-    → EndsStill style (length a) b (length (a ++ b)) last ending
-    → Runs style (a ++ b) last [] last ending
+pub ends_still : {style : Style} {a : List Line} (b : List Line) {first : State} {plan : Plan}
+    → Runs style a first plan → EndsStill style (length a) b (length (a ++ b)) plan.last plan.ending
+    → Runs style (a ++ b) plan.last (ended plan.last plan.ending)
 ends_still b (is_used_up state none) still = is_used_up state none
 ends_still b (misses state operand operands is none) still =
     misses state operand operands is ((grind (arith, common_steps, none, (still operand operands is))))
-ends_still {style} {a} b (is_above state operand operands matched cut is at from far) still = search (rules, is_above, cuts_still)
-ends_still {style} {a} b (is_below state operand operands matched cut is at low) still =
-    is_below state operand operands matched cut is (cuts_still style a b state operand operand.target matched cut at) low
-ends_still b (cuts state operand operands matched cut steps' last' ending' is at from within rest) still = ends_still b rest still
+ends_still b (is_above state cut its from far) still = is_above state cut (cut_still b its) from still
+ends_still b (is_below state cut its low) still = is_below state cut (cut_still b its) low
+ends_still b (cuts state cut its from within plan rest) still = ends_still b rest still
 
 pub stays : (style : Style) (operands : List Operand) (a b : List Line)
     → EndsStill style (length a) b (length (a ++ b)) (plan style operands a).last
     (plan style operands a).ending → plan style operands (a ++ b) ≡ plan style operands a
 stays style operands a b so =
     let here = plan_runs style operands a in
-    search (rules, plan_once, (goes_on b _ _ here (ends_still b here so)), append-nil)
+    search (rules, plan_once, (goes_on b here (ends_still b here so)), append-nil)
 
 -- What an attempt says of the plan.
 
@@ -100,29 +75,44 @@ capped real cap most total is within low = search rules
 module _ (style : Style) (all : List Line) {total : ℕ} {state : State} {found : Bool} {operand : Operand}
     {operands : List Operand} (are : state.operands ≡ operand ∷ operands)
     (seen : AreSeen style.suppress all total state found) where
-  pub falls : (matched real : ℕ) {most last : ℕ} → CutsAt style all state operand operand.target matched real
-      → most ≡ min real (2 ^ 64 - 1) → last ≡ total + past_last style operand.target → last < 2 ^ 64 - 1
-      → state.current < 2 ^ 64 - 1 → (attempt : Attempt)
-      → FallsAt last state.current matched most attempt → AgreesWithPlan style all state attempt
-  falls matched real {most} at_cut is last_is few low (Above line most') at = record {
-    ending = above operand state.repetition matched real;
-    runs = is_above state operand operands matched real are at_cut (let c = seen.count in omega arith) (let c = seen.count in omega arith);
-    aims = (at.0, at.1 ∙ is);
-  }
-  falls matched real {most} at_cut is last_is few low Below at =
-      let same : most ≡ real = capped real (2 ^ 64 - 1) most state.current is (omega arith) low in
-      record { ending = below operand state.repetition; runs = is_below state operand operands matched real are at_cut (omega arith); aims = tt }
-  falls matched real at_cut is last_is few low (Cuts line cut) at = (search (rules, seen.count))
-  falls matched real at_cut is last_is few low attempt at = absurd at
+  -- the code's cut is the plan's, but for a line past the greatest number that there is
+  pub falls : (cut at : CutPoint) {last : ℕ} → CutsAt style all state operand operand.target cut
+      → at ≡ record cut { line = min cut.line (2 ^ 64 - 1) } → last ≡ total + past_last style operand.target
+      → last < 2 ^ 64 - 1 → state.current < 2 ^ 64 - 1 → (attempt : Attempt)
+      → FallsAt last state.current at attempt → AgreesWithPlan style all state attempt
+  falls cut at {last} cuts_at is last_is few low attempt fact = by attempt fact where
+    its : IsCut style all state cut
+    its = record { operand = operand; operands = operands; are = are; cuts = cuts_at }
+
+    line_is : at.line ≡ min cut.line (2 ^ 64 - 1)
+    line_is = ap (λ (at : CutPoint). at.line) is
+
+    count : length all ≡ total
+    count = seen.count
+
+    by : (attempt : Attempt) → FallsAt last state.current at attempt → AgreesWithPlan style all state attempt
+    by (Above most) fact = record {
+      ending = above operand state.repetition cut;
+      runs = is_above state cut its (omega (arith, line_is, fact.1)) (omega (arith, line_is, fact.2, count, last_is));
+      aims = (ap (λ (at : CutPoint). at.matched) (fact.0 ∙ is), ap (λ (at : CutPoint). at.line) (fact.0 ∙ is));
+    }
+    by Below fact =
+        let same = capped cut.line (2 ^ 64 - 1) at.line state.current line_is (omega arith) low in
+        record { ending = below operand state.repetition; runs = is_below state cut its (omega arith); aims = tt }
+    by (Cuts most) fact =
+        let same : at.line ≡ cut.line = capped cut.line (2 ^ 64 - 1) at.line last line_is fact.2 few in
+        let one : most ≡ cut = fact.0 ∙ is ∙ ap (λ k. record cut { line = k }) (sym line_is ∙ same) in
+        rw one (record { its = its; from = omega arith; within = omega (arith, last_is, count) })
+    by attempt fact = absurd fact
 
   -- if the last line has the operand's pattern, the search ends at the last line
-  pub falls_search : {pattern : Pattern} {kept : Bool} (offset : Offset) {most last : ℕ}
+  pub falls_search : {pattern : Pattern} {kept : Bool} (offset : Offset) (at : CutPoint) {last : ℕ}
       → operand.target ≡ Search pattern kept offset → search_line style.suppress state ≤ total → found ≡ true
-      → most ≡ min (moved offset total) (2 ^ 64 - 1) → last ≡ total + past_last style operand.target
-      → last < 2 ^ 64 - 1 → state.current < 2 ^ 64 - 1 → (attempt : Attempt)
-      → FallsAt last state.current total most attempt → AgreesWithPlan style all state attempt
-  falls_search offset target near is_found = falls total (moved offset total)
-      (search rules)
+      → at ≡ record { matched = total; line = min (moved offset total) (2 ^ 64 - 1) }
+      → last ≡ total + past_last style operand.target → last < 2 ^ 64 - 1 → state.current < 2 ^ 64 - 1
+      → (attempt : Attempt) → FallsAt last state.current at attempt → AgreesWithPlan style all state attempt
+  falls_search offset at target near is_found =
+      falls (record { matched = total; line = moved offset total }) at (search rules)
 
   -- if the last line lacks the pattern, or the search begins after it, no line matches
   pub misses_search : {pattern : Pattern} {kept : Bool} {offset : Offset} → operand.target ≡ Search pattern kept offset
@@ -145,29 +135,28 @@ drop_next (one ∷ operands) zero are = ap (drop 1) are
 drop_next (one ∷ operands) (suc at) are = drop_next operands at are
 
 pub passes_on : (suppress : Bool) (operands : List Operand) {rest : List Operand} {operand : Operand}
-    (at repetition matched cut : ℕ) {current next : ℕ} → drop at operands ≡ operand ∷ rest
-    → has_more operand.times repetition ≡ false → current ≡ line_after suppress cut → next ≡ at + 1
-    → state_of operands (record { done = next; repetition = 0; current = current; matched = matched })
-    ≡ state_after suppress operand rest repetition matched cut
-passes_on suppress operands at repetition matched cut are none is on = search (rules, drop_next)
+    (at repetition : ℕ) (cut : CutPoint) {current next : ℕ} → drop at operands ≡ operand ∷ rest
+    → has_more operand.times repetition ≡ false → current ≡ line_after suppress cut.line → next ≡ at + 1
+    → state_of operands (record { done = next; repetition = 0; current = current; matched = cut.matched })
+    ≡ state_after suppress operand rest repetition cut
+passes_on suppress operands at repetition cut are none is on = search (rules, drop_next)
 
 -- A cut moves on, and the numbers stay small.
 
-repeated_again : (style : Style) (total : ℕ) (state next : State) (target : Target) {matched : ℕ} (cut : ℕ)
-    → Moves total state target matched cut → 1 ≤ cut → cut ≤ total + past_last style target
-    → next.repetition ≡ state.repetition + 1 → next.matched ≡ matched
+repeated_again : (style : Style) (total : ℕ) (state next : State) (target : Target) (cut : CutPoint)
+    → MovesWithin style total state target cut
+    → (next.repetition ≡ state.repetition + 1) × (next.matched ≡ cut.matched)
     → IsRepeatedBy total state target → IsRepeatedBy total next target
-repeated_again style total state next (Number n) cut at some within again same few =
-    omega (arith, fewer_left style total state next (Number n) cut at some within again same)
-repeated_again style total state next (Search pattern kept offset) cut at some within again same few = omega arith
+repeated_again style total state next (Number n) cut at again few =
+    omega (arith, fewer_left style total state next (Number n) cut at again, again.0)
+repeated_again style total state next (Search pattern kept offset) cut at again few =
+    omega (arith, at.moves.0, again.0, again.1)
 
-fits_after : (style : Style) {total : ℕ} {state : State} {operand : Operand} {operands : List Operand}
-    (matched cut : ℕ) → Fits total state → state.operands ≡ operand ∷ operands
-    → Moves total state operand.target matched cut → matched ≤ total → state.current ≤ cut
-    → cut ≤ total + past_last style operand.target
-    → Fits total (state_after style.suppress operand operands state.repetition matched cut)
-fits_after style {total} {state} {operand} {operands} matched cut fits are at few least within = search
-    (rules, line_some, after_within, past_near, repeated_again)
+fits_after : (style : Style) {total : ℕ} {state : State} {operand : Operand} {operands : List Operand} (cut : CutPoint)
+    → Fits total state → state.operands ≡ operand ∷ operands → MovesWithin style total state operand.target cut
+    → cut.matched ≤ total → Fits total (state_after style.suppress operand operands state.repetition cut)
+fits_after style {total} {state} {operand} {operands} cut fits are at few = search
+    (rules, line_some, after_within, past_near, repeated_again, at.within, at.some)
 
 -- Going on after a cut
 
@@ -175,21 +164,22 @@ module _ {cutter : CutterState} {cut : CutPoint} {operand : Operand} (progress :
     (by : suppress ≡ suppress_in cutter) (fit : IsFit cutter) (none : cutter.window.held ≡ [])
     (will : WillCut cutter cut) (here : operand ≡ get_or cutter.operands cutter.progress.done operand)
     (next : (operands rest : List Operand) → drop cutter.progress.done operands ≡ operand ∷ rest
-    → state_of operands progress
-    ≡ state_after suppress operand rest cutter.progress.repetition cut.matched cut.line) where
+    → state_of operands progress ≡ state_after suppress operand rest cutter.progress.repetition cut) where
   are : (state_in cutter).operands ≡ operand ∷ drop (cutter.progress.done + 1) cutter.operands
-  are = search (rules, left_is)
+  are = search (rules, left_is, will.some)
 
-  at : Moves cutter.lines (state_in cutter) operand.target cut.matched cut.line
-  at = grind (arith, common_steps)
+  same : operand ≡ will.operand
+  same = grind (arith, common_steps, are, will.left)
+
+  at : MovesWithin cutter.style cutter.lines (state_in cutter) operand.target cut
+  at = rw same (record { moves = will.moves; some = omega (arith, fit.fits.some, will.from); within = will.within })
 
   fits : Fits cutter.lines (state_of cutter.operands progress)
-  fits = rw (next cutter.operands _ are, by) (fits_after cutter.style cut.matched cut.line fit.fits are at will.matched will.from
-      (search (rules, are)))
+  fits = rw (next cutter.operands _ are, by) (fits_after cutter.style cut fit.fits are at will.matched)
 
-  fewer : needed cutter.lines (state_of cutter.operands progress) < needed cutter.lines (state_in cutter)
-  fewer = subst (λ state. needed cutter.lines state < needed cutter.lines (state_in cutter)) (sym (next cutter.operands _ are))
-      (rw (← by) at (fewer_moves cutter.style cutter.lines (state_in cutter) cut.matched cut.line are at (omega arith) (search (rules, are))))
+  less_needed : needed cutter.lines (state_of cutter.operands progress) < needed cutter.lines (state_in cutter)
+  less_needed = subst (λ state. needed cutter.lines state < needed cutter.lines (state_in cutter))
+      (sym (next cutter.operands _ are)) (rw (← by) at (fewer cutter.style cutter.lines (state_in cutter) cut are at))
 
   state : PassesOn cutter cut (record cutter { progress = progress })
   state one more is = grind (arith, common_steps)
@@ -197,13 +187,13 @@ module _ {cutter : CutterState} {cut : CutPoint} {operand : Operand} (progress :
   -- the same operand is performed again
   pub passes_again : progress.done ≡ cutter.progress.done
       → PassesCut cutter cut (record cutter { progress = progress }) None
-  passes_again done = search (rules, fits, at, fewer, state)
+  passes_again done = search (rules, fits, less_needed, state)
 
   -- the next operand has got what it needs
   pub passes_next : (new : CutterState) (result : Result (Unit {0}) Fault)
       → OnOk result (new ≡ equipped (record cutter { progress = progress }))
       → IfErr result (Lacks cutter new) → PassesCut cutter cut new (fault_in result)
-  passes_next new (Ok done) is lacks = search (rules, fits, fewer, state)
+  passes_next new (Ok done) is lacks = search (rules, fits, less_needed, state)
   passes_next new (Err fault) is lacks = lacks
 
 -- What trying the next operand with the last line says.
@@ -231,8 +221,8 @@ module _ {cutter : CutterState} (line : List ℕ) {found : Bool} (attempt : Atte
   agrees : AgreesWithPlan cutter.style (all_lines x) (state_in cutter) attempt
   agrees = turns (all_lines x) (grind (arith, common_steps))
 
-  pub tries_cut : (cut : CutPoint) → attempt ≡ Cuts cut.matched cut.line
-      → GoesPast cutter.style (all_lines x) (state_in cutter) cut.matched cut.line × StaysNear cutter cut
+  pub tries_cut : (cut : CutPoint) → attempt ≡ Cuts cut
+      → GoesPast cutter.style (all_lines x) (state_in cutter) cut × StaysNear cutter cut
   tries_cut cut is = search (rules, agrees)
 
   pub tries_none : IsNoCut attempt → EndsNow (record cutter { aim = attempt }) x
@@ -244,7 +234,7 @@ module _ {cutter : CutterState} (line : List ℕ) {found : Bool} (attempt : Atte
 abbrev pub StaysOver : CutterState → (text : List ℕ) (lines : ℕ) → Attempt → Type 0
 StaysOver cutter text lines Missed = (operand : Operand) → cutter.sought ≡ pattern_in operand.target → NoneFrom operand cutter.lines
     (all_lines text) (search_line (suppress_in cutter) (state_in cutter))
-StaysOver cutter text lines (Above matched line) = lines + past_in cutter < line
+StaysOver cutter text lines (Above cut) = lines + past_in cutter < cut.line
 StaysOver cutter text lines attempt = Unit {0}
 
 still_over : {cutter : CutterState} (lines : ℕ) (text : List ℕ) → IsFit cutter → (x : List ℕ)
@@ -256,10 +246,9 @@ still_over : {cutter : CutterState} (lines : ℕ) (text : List ℕ) → IsFit cu
 still_over lines text fit x count counted UsedUp used_up ends aims stays = tt
 still_over {cutter} lines text fit x count counted Missed (missed operand repetition) ends aims stays = λ one more are.
     rw (length-all_lines x, ← counted) (stays one (fit.sought ∙ ap pattern_by are))
-still_over {cutter} lines text fit x count counted (Above last line) (above operand repetition matched cut) (operands, are, at, from, far, often) aims stays =
+still_over {cutter} lines text fit x count counted (Above at) (above operand repetition cut) (operands, are, cuts_at, from, far, often) aims stays =
     let past : past_in cutter ≡ past_last cutter.style operand.target = ap (past_by cutter.style) are in
-    let same : line ≡ min cut (2 ^ 64 - 1) = aims.1 in
-    omega (arith, length-append (all_lines x) (all_lines text), length-all_lines x, length-all_lines text)
+    omega (arith, aims.1, length-append (all_lines x) (all_lines text), length-all_lines x, length-all_lines text)
 still_over lines text fit x count counted Below (below operand repetition) ends aims stays = tt
 still_over lines text fit x count counted aim ending ends aims stays = absurd aims
 
@@ -291,21 +280,15 @@ pub lines_are : {cutter : CutterState} {x : List ℕ} (live : IsLive cutter x) �
 lines_are live = grind (arith, common_steps)
 
 -- a cut that was above the last line can be made once its line came in
-pub above_cuts : {style : Style} (lines : List Line) (line : Line) {state : State} {total matched at : ℕ}
+pub above_cuts : {style : Style} (lines : List Line) (line : Line) {state : State} {total : ℕ} {at : CutPoint}
     (ending : Ending) → length lines ≡ total → EndsAs style lines state ending
-    → AimsAt (Above matched at) ending → at ≤ total + 1 + past_by style state.operands → total + 1 < 2 ^ 64 - 2
-    → GoesPast style (lines ++ line ∷ []) state matched at × (total + 1 ≤ at)
-above_cuts {style} lines line {total = total} {at = at} (above operand repetition matched cut) count (operands, are, cuts_at, from, far, often) aims near few =
+    → AimsAt (Above at) ending → at.line ≤ total + 1 + past_by style state.operands → total + 1 < 2 ^ 64 - 2
+    → GoesPast style (lines ++ line ∷ []) state at × (total + 1 ≤ at.line)
+above_cuts {style} lines line {total = total} {at} (above operand repetition cut) count (operands, are, cuts_at, from, far, often) aims near few =
     let past : past_by style _ ≡ past_last style operand.target = ap (past_by style) are in
-    let same : at ≡ cut = search (rules, aims, past, past_near style operand.target) in (
-      record {
-        operand = operand;
-        operands = operands;
-        are = are;
-        cuts = search (rules, cuts_still);
-        from = omega arith;
-        within = omega (arith, length-append lines (line ∷ []));
-      },
+    let same : at.line ≡ cut.line = search (rules, aims, past, past_near style operand.target) in
+    let its : IsCut style (lines ++ line ∷ []) _ cut = cut_still (line ∷ []) (record { operand = operand; operands = operands; are = are; cuts = cuts_at }) in (
+      rw (aims.0, same) (record { its = its; from = from; within = omega (arith, length-append lines (line ∷ [])) }),
       omega arith,
     )
 above_cuts lines line ending count ends aims near few = absurd aims
@@ -362,28 +345,28 @@ passes_all {text = text} sound whole count stays near =
 -- Lines before the line of a cut
 
 -- the line with which the operand can cut did not come in yet
-pub not_yet : {cutter : CutterState} {matched line : ℕ} → IsSound cutter → cutter.aim ≡ Above matched line
-    → cutter.lines + past_in cutter < line
+pub not_yet : {cutter : CutterState} {cut : CutPoint} → IsSound cutter → cutter.aim ≡ Above cut
+    → cutter.lines + past_in cutter < cut.line
 not_yet {cutter} sound aim =
     let moves = rw aim at sound.aim in
     rw moves.left moves.above
 
-pub passes_below : {cutter : CutterState} {text : List ℕ} (line last past end : ℕ) → IsSound cutter
-    → (matched : ℕ) × (cutter.aim ≡ Above matched line) → (WillSkip cutter → ⊥) → past ≡ past_in cutter
-    → last ≡ line - past - 1 → EndsAt newline (last - cutter.lines) text end
+pub passes_below : {cutter : CutterState} {text : List ℕ} {cut : CutPoint} (last past end : ℕ) → IsSound cutter
+    → cutter.aim ≡ Above cut → (WillSkip cutter → ⊥) → past ≡ past_in cutter
+    → last ≡ cut.line - past - 1 → EndsAt newline (last - cutter.lines) text end
     → PassesOver cutter text (record cutter { lines = last }) end
-passes_below {cutter} {text} line last past end sound (matched, aim) near past_is last_is ends =
-    let less : cutter.lines + past_in cutter < line = not_yet sound aim in
+passes_below {cutter} {text} last past end sound aim near past_is last_is ends =
+    let less = not_yet sound aim in
     let count : line_count newline (take end text) ≡ last - cutter.lines =
     (grind (arith, common_steps, EndsAt-enough, line_count_near, lines_of-first_lines, length-take-le, ends)) in
     passes sound ends.within (whole_by (take end text) _ refl (omega arith)) (omega arith)
     (rw aim (omega arith)) near
 
-pub passes_short : {cutter : CutterState} {text : List ℕ} (line last past : ℕ) {count : ℕ} → IsSound cutter
-    → IsWhole text → (matched : ℕ) × (cutter.aim ≡ Above matched line) → (WillSkip cutter → ⊥)
-    → past ≡ past_in cutter → last ≡ line - past - 1 → FallsShort newline (last - cutter.lines) text count
+pub passes_short : {cutter : CutterState} {text : List ℕ} {cut : CutPoint} (last past : ℕ) {count : ℕ} → IsSound cutter
+    → IsWhole text → cutter.aim ≡ Above cut → (WillSkip cutter → ⊥)
+    → past ≡ past_in cutter → last ≡ cut.line - past - 1 → FallsShort newline (last - cutter.lines) text count
     → PassesOver cutter text (record cutter { lines = cutter.lines + count }) (length text)
-passes_short line last past sound whole (matched, aim) near past_is last_is short =
+passes_short last past sound whole aim near past_is last_is short =
     let less = not_yet sound aim in search (rules, passes_all, StaysOver)
 
 -- Lines without the pattern that is searched for

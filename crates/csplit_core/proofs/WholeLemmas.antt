@@ -6,7 +6,7 @@ use Rattle.std.proofs.{
 }
 use Rattle.operand_core.specs.Style.{Style}
 use Rattle.csplit_core.specs.{
-  Plan.{line_after, Ending, State, Step, Runs, cuts},
+  Plan.{line_after, Ending, State, Plan, Runs, cuts},
   Operand.{Operand, Line},
   Planned.plan,
   Section.{Section, section, section_of, lines_between, is_last_kept, whole_end, whole_sections, is_final, lines_in},
@@ -34,11 +34,11 @@ between_rest first cut lines some least =
     (drop-drop (cut - first) (first - 1) lines))
     ∙ take-append-drop (cut - first) (drop (first - 1) lines)
 
-steps_and_rest : {style : Style} {lines : List Line} {first : State} {steps : List Step} {last : State} {ending :
-    Ending}
-    → Runs style lines first steps last ending → style.suppress ≡ false → 1 ≤ first.current
-    → lines_in (map (section_of lines) steps) ++ drop (last.current - 1) lines ≡ drop (first.current - 1) lines
-steps_and_rest {lines} (cuts state operand operands matched cut steps' last' ending' is at from within rest) whole some =
+steps_and_rest : {style : Style} {lines : List Line} {first : State} {plan : Plan} → Runs style lines first plan
+    → style.suppress ≡ false → 1 ≤ first.current
+    → lines_in (map (section_of lines) plan.steps) ++ drop (plan.last.current - 1) lines
+    ≡ drop (first.current - 1) lines
+steps_and_rest (cuts state cut its from within plan rest) whole some =
     search (rules, append_assoc, between_rest, whole, steps_and_rest rest whole)
 steps_and_rest run whole some = refl
 

@@ -8,7 +8,7 @@ use Rattle.ports_core.specs.{
 use Rattle.csplit_core.specs.{
   Operand.{Operand, Line, is_endless, is_number},
   Plan.{Ending, used_up, missed, above, below},
-  Planned.{Plan, plan},
+  Planned.plan,
   Section.{settled_sections, whole_sections, bytes_of, is_final, waiting_lines},
   Output.{Style, part_of, sizes_wanted},
   Input.{all_lines, complete_lines, open_line},
@@ -33,7 +33,7 @@ abbrev pub verdict_of : Ending → Option Verdict
 verdict_of used_up = None
 verdict_of (missed operand repetition) = if is_endless operand.times then None
     else Some (NoMatch operand.index repetition)
-verdict_of (above operand repetition matched cut) = if is_endless operand.times && is_number operand.target then None
+verdict_of (above operand repetition cut) = if is_endless operand.times && is_number operand.target then None
     else Some (Range operand.index repetition)
 verdict_of (below operand repetition) = Some (Range operand.index repetition)
 
@@ -52,11 +52,9 @@ csplit_means style = record {
 }
 
 -- the bytes that wait: the lines that wait and the line that lacks its newline; none once later input goes nowhere
-abbrev pub waiting_of : List Line → Plan → List ℕ → List ℕ
-waiting_of lines plan rest = if is_final plan.ending then [] else bytes_of (waiting_lines lines plan) ++ rest
-
 abbrev pub waiting : Style → List Operand → List ℕ → List ℕ
-waiting style operands x = waiting_of (complete_lines x) (plan style operands (complete_lines x)) (open_line x)
+waiting style operands x = let lines = complete_lines x in let p = plan style operands lines in
+    if is_final p.ending then [] else bytes_of (waiting_lines lines p) ++ open_line x
 
 -- What `csplit` makes of an input. The output is never complete before the end, where the last size is written.
 abbrev pub csplit_work : Style → List Operand → Work

@@ -1,26 +1,9 @@
 -- What contracts see of the cutter of lines, and what its calls do.
-use Rattle.std.specs.{
-  Prelude.{◌≡◌, ◌⊎◌, ℕ, ◌+◌, ◌-◌, ◌≤◌, max, Bool, true, false, List, [], ◌∷◌, ◌++◌, length, map, Option, Some},
-  Prelude.None,
-  List.flat_map,
-}
+use Rattle.std.specs.{Prelude.{◌≡◌, ◌⊎◌, ℕ, ◌+◌, ◌-◌, ◌≤◌, max, Bool, true, false, List, [], ◌∷◌, length, map, Option, Some}, Prelude.None, List.flat_map}
 use Rattle.bre_core.specs.Pattern.{Pattern}
 use Rattle.seg_core.specs.{Line.{line_count, after_lines, first_lines}, Window.Window}
 use Rattle.ports_core.specs.{Draft.Draft, FileWriter.{WriterState, Writes, seen_writer, size_of}}
-use Rattle.csplit_core.specs.{
-  Input.{newline, all_lines},
-  Measure.Fits,
-  Operand.{Target, Number, Search, Operand, Line, is_kept, most_held},
-  Output.{Style, manner_of, opening_of, file_in},
-  Plan.{State, start, Step, Ending, Runs},
-  Planned.plan,
-  Progress.{state_of, EndsHere, WillMove},
-  Section.{section_of, lines_between, is_last_kept, settled_end, is_final, most_waiting, bytes_of},
-  declared.{
-    line_cutter.LineCutter.LineCutter,
-    progress.{Progress.Progress, Attempt.{Attempt, TheVariants.{UsedUp, Missed, Above, Below, Cuts}}},
-  },
-}
+use Rattle.csplit_core.specs.{Input.{newline, all_lines}, Measure.Fits, Operand.{Target, Number, Search, Operand, Line, is_kept, most_held}, Output.{Style, manner_of, opening_of, file_in}, Plan.{State, start, Step, Plan, after_steps, Runs}, Planned.plan, Progress.{state_of, EndsHere, WillMove}, Section.{section_of, lines_between, is_last_kept, settled_end, is_final, most_waiting, bytes_of}, declared.{line_cutter.LineCutter.LineCutter, progress.{Progress.Progress, Attempt.{Attempt, TheVariants.{Above, Below, Cuts}}}}}
 
 pub record CutterState : Type 0 where
   pub operands : List Operand
@@ -86,11 +69,9 @@ kept_by operands = kept_next (next_of operands)
 
 -- the last attempt was no cut; a cut that was further than it may be moves on once more lines are there
 abbrev pub AimHolds : Style → List Operand → (lines : ℕ) → Progress → Attempt → Type 0
-AimHolds style operands lines progress UsedUp = Unit {0}
-AimHolds style operands lines progress Missed = Unit {0}
-AimHolds style operands lines progress (Above matched line) = WillMove style operands lines progress matched line
-AimHolds style operands lines progress Below = Unit {0}
-AimHolds style operands lines progress (Cuts matched line) = ⊥
+AimHolds style operands lines progress (Above cut) = WillMove style operands lines progress cut
+AimHolds style operands lines progress (Cuts cut) = ⊥
+AimHolds style operands lines progress aim = Unit {0}
 
 -- the cutter's numbers are small, and it has what the next operand needs
 pub record IsFit (cutter : CutterState) : Type 0 where
@@ -113,8 +94,8 @@ text_from line x = after_lines newline (line - 1) x
 
 -- a plan from this state on is the rest of a plan from the start
 abbrev pub Leads : Style → List Line → List Operand → List Step → State → Type 0
-Leads style lines operands steps state = (more : List Step) (last : State) (ending : Ending)
-    → Runs style lines state more last ending → Runs style lines (start operands) (steps ++ more) last ending
+Leads style lines operands steps state = (rest : Plan) → Runs style lines state rest
+    → Runs style lines (start operands) (after_steps steps rest)
 
 -- the files of these steps' sections, and the open section with these bytes
 abbrev pub draft_by : Style → List Line → List Step → Bool → List ℕ → Draft

@@ -14,7 +14,7 @@ without_newline [] = []
 without_newline (byte ∷ bytes) = if byte == newline then [] else byte ∷ without_newline bytes
 
 -- whether the line contains the operand's pattern
-abbrev pub is_match_of : List ℕ → Target → Bool
+abbrev pub is_match_of : (line : List ℕ) → Target → Bool
 is_match_of line (Number n) = false
 is_match_of line (Search pattern kept offset) = contains pattern (without_newline line)
 

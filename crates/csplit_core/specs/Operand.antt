@@ -17,11 +17,11 @@ abbrev pub unmarked : Line
 unmarked = record { text = []; marks = λ operand. false }
 
 -- The line of this number, counted from 1, has the operand's mark. A number past the last line has no mark.
-abbrev pub is_match : Operand → List Line → ℕ → Bool
+abbrev pub is_match : Operand → List Line → (line : ℕ) → Bool
 is_match operand lines line = (get_or lines (line - 1) unmarked).marks operand
 
 -- the line at an offset from this line; line 0 if there are too few lines before it
-abbrev pub moved : Offset → ℕ → ℕ
+abbrev pub moved : Offset → (line : ℕ) → ℕ
 moved (Plus count) line = line + count
 moved (Minus count) line = line - count
 
@@ -37,7 +37,7 @@ most_held (Search pattern kept (Plus count)) = 0
 most_held (Search pattern kept (Minus count)) = count
 
 -- whether the operand is performed again after this repetition, counted from 0
-abbrev pub has_more : Times → ℕ → Bool
+abbrev pub has_more : Times → (repetition : ℕ) → Bool
 has_more (Count times) repetition = nat_lt repetition times
 has_more Endless repetition = true
 

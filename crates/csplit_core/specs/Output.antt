@@ -32,7 +32,7 @@ manner_of style = record {
 }
 
 -- a kept section gets its file at once, or with its first byte if empty files are left out; a skipped section gets none
-abbrev pub opening_of : Style → Bool → Opening
+abbrev pub opening_of : Style → (kept : Bool) → Opening
 opening_of style kept = if kept then (if style.elide then Late else AtOnce) else Never
 
 -- the file that a section makes, if it makes one

@@ -8,8 +8,8 @@ use Rattle.operand_core.specs.Style.{Style}
 use Rattle.csplit_core.specs.{
   Agreed.CanCome,
   Operand.{Operand, Line},
-  Plan.{Step, Ending},
-  Planned.{Plan, plan},
+  Plan.{Step, Ending, Plan},
+  Planned.plan,
   Section.{Section, whole_end, whole_sections, is_final},
 }
 
@@ -21,7 +21,7 @@ pub data Place : Type 0 where
   nowhere : Place
 
 -- the place of a line, by the steps that are left; the next section has the number `index`, and there are `total` lines
-abbrev pub place_from : Bool → (total index : ℕ) → List Step → Ending → (line : ℕ) → Place
+abbrev pub place_from : (suppress : Bool) → (total index : ℕ) → List Step → Ending → (line : ℕ) → Place
 place_from suppress total index [] ending line = if nat_lt line (whole_end total ending) then in_section index
     else nowhere
 place_from suppress total index (step ∷ steps) ending line =
@@ -30,7 +30,7 @@ place_from suppress total index (step ∷ steps) ending line =
     else place_from suppress total (index + 1) steps ending line
 
 -- the place of the line of this number, if the input ends after these lines
-abbrev pub place_of : Style → List Operand → List Line → ℕ → Place
+abbrev pub place_of : Style → List Operand → List Line → (line : ℕ) → Place
 place_of style operands lines line =
     place_from style.suppress (length lines) 0 (plan style operands lines).steps (plan style operands lines).ending line
 
@@ -39,13 +39,13 @@ place_of style operands lines line =
 abbrev pub IsUndecided : (List Line → ℕ → Place) → List Line → List Line → Type 0
 IsUndecided places = DifferOn CanCome (λ x i at. places x (i + 1) ≡ at)
 
-abbrev pub is_in : ℕ → Place → Bool
+abbrev pub is_in : (section : ℕ) → Place → Bool
 is_in section (in_section other) = eqb section other
 is_in section (left_out cut) = false
 is_in section nowhere = false
 
 -- those of the lines that go into a section; the first line of the list has the number `number`
-abbrev pub lines_into : ℕ → (ℕ → Place) → (number : ℕ) → List Line → List Line
+abbrev pub lines_into : (section : ℕ) → (ℕ → Place) → (number : ℕ) → List Line → List Line
 lines_into section places number [] = []
 lines_into section places number (line ∷ lines) = if is_in section (places number)
     then line ∷ lines_into section places (number + 1) lines else lines_into section places (number + 1) lines

@@ -6,7 +6,7 @@ ghost use Rattle.csplit_core.specs.{
   Operand.Line,
   Output.{Style, size_of_file},
   Place.{ArePlaced, IsUndecided, place_of},
-  Plan.{Ending, Runs, State, Step, start},
+  Plan.{Plan, Runs, start},
   Planned.plan,
   Section.{is_final, lines_in, most_waiting, settled_sections, waiting_lines, whole_sections},
 };
@@ -17,11 +17,9 @@ ghost use Rattle.ports_core.specs.Part.{Begins, lines_for};
 /// csplit).
 pub fn one_plan()
     ensures is { (style : Style) (operands : List Operand) (lines : List Line)
-        → Runs style lines (start operands) (plan style operands lines).steps (plan style operands lines).last
-        (plan style operands lines).ending }
-    ensures only { (style : Style) (operands : List Operand) (lines : List Line) (steps : List Step) (last : State)
-        (ending : Ending) → Runs style lines (start operands) steps last ending
-        → plan style operands lines ≡ record { steps = steps; last = last; ending = ending } }
+        → Runs style lines (start operands) (plan style operands lines) }
+    ensures only { (style : Style) (operands : List Operand) (lines : List Line) (other : Plan)
+        → Runs style lines (start operands) other → plan style operands lines ≡ other }
 {}
 
 /// What is settled only grows as more comes in, and what is written at the end begins with it.

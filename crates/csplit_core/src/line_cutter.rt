@@ -8,11 +8,11 @@ ghost use Rattle.seg_core.specs.Line.{delimiters};
 ghost use Rattle.ports_core.specs.{Slot.is_writable, Swept.AreThere, InTurn.fault_in, FileWriter.{IsReady, size_of}};
 ghost use Rattle.csplit_core.specs.{
   Csplit.verdict_of,
-  Plan.{above, missed},
+  Plan.{above, missed, CutPoint},
   Cutter.{IsFit, IsSound, load, seen},
   inner.Cutter.{AreClear, Clears, CutAt, CutsAll, CutsOn, EndsAll, PassesThenHolds, Judges, Opens, HoldsLines, IsAimed, IsFound},
   inner.Cutter.{IsLine, IsNoCut, IsWhole, Lacks, PassesClear, PassesCut, PassesOver, Spread, Starts, StopsAt},
-  inner.Cutter.{Stretches, Takes, Tries, TriesNext, WillCut, WillSkip, equipped, past_in},
+  inner.Cutter.{Stretches, Takes, Tries, TriesNext, WillCut, WillSkip, due, equipped, past_in, stretch_of, waits_with},
   Input.{newline, without_newline},
 };
 ghost use Rattle.csplit_core.specs.declared.progress.Attempt.TheVariants as attempt_is;
@@ -22,7 +22,7 @@ use crate::holding::{drain, hold_last, write_front};
 use crate::lines::{skip_line, split_lines};
 use crate::matcher::{Matcher, text_of};
 use crate::next_operand::{find_matcher, find_window, is_kept, next_operand, past_next};
-use crate::progress::{Attempt, Progress};
+use crate::progress::{Attempt, CutPoint, Progress};
 use crate::{Operand, Style, Target, Times};
 use memchr::memchr;
 use ports_core::{Fault, FileWriter, Outs, Verdict};
@@ -30,15 +30,6 @@ use seg_core::line::{NEWLINE, count_delimiters, next_line, reach};
 use seg_core::line_reach::Reach;
 use seg_core::line_window::LineWindow;
 use std::alloc::Global;
-
-/// Where an operand cuts: the line that the last pattern matched, and the line of the cut.
-#[derive(Clone, Copy)]
-pub struct CutPoint {
-    /// The line that the last pattern matched, 0 if no pattern was performed.
-    pub matched: u64,
-    /// The line of the cut.
-    pub line: u64,
-}
 
 /// How many bytes of lines were passed over.
 #[derive(Clone, Copy)]
@@ -143,9 +134,9 @@ impl<'o> LineCutter<'o> {
         let repetition = self.progress.repetition;
         match self.aim {
             Attempt::Missed => verdict_of_miss(operand, repetition),
-            Attempt::Above(_, _) => verdict_of_range(operand, repetition),
+            Attempt::Above(_) => verdict_of_range(operand, repetition),
             Attempt::Below => Some(Verdict::Range(operand.index, repetition)),
-            Attempt::UsedUp | Attempt::Cuts(_, _) => None,
+            Attempt::UsedUp | Attempt::Cuts(_) => None,
         }
     }
 
@@ -202,13 +193,13 @@ impl<'o> LineCutter<'o> {
         is_found: bool,
         outs: &mut O,
     ) -> Result<Passed, Fault>
-        requires start { Starts text.now size }
+        requires start { Starts (stretch_of text.now size) }
         requires found { is_found ≡ true
             → IsFound (seen self.old) (without_newline (take size text.now)) (self.old.lines + 1) true }
         requires fits { load (seen self.old) + length text.now < 2 ^ 63 }
         requires sound { IsSound (seen self.old) }
         requires ready { IsReady (seen self.old).writer (O.slots outs.old) }
-        ensures { Stretches O.told (seen self.old) text.now size (O.slots outs.old) (O.slots outs.new)
+        ensures { Stretches O.told (seen self.old) (stretch_of text.now size) (O.slots outs.old) (O.slots outs.new)
             (seen self.new) result }
     {
         if self.is_past() {
@@ -236,15 +227,15 @@ impl<'o> LineCutter<'o> {
         size: usize,
         outs: &mut O,
     ) -> Result<Passed, Fault>
-        requires start { Starts text.now size }
+        requires start { Starts (stretch_of text.now size) }
         requires lines { self.old.lines + (length text.now - size) < 2 ^ 63 }
         requires fits { size_of self.old.writer.current + length text.now < 2 ^ 63 }
         requires fit { IsFit (seen self.old) }
         requires none { self.old.window.held ≡ [] }
         requires cuts { WillCut (seen self.old) cut }
         requires ready { IsReady (seen self.old).writer (O.slots outs.old) }
-        ensures { CutsOn O.told (seen self.old) cut text.now size (O.slots outs.old) (O.slots outs.new) (seen self.new)
-            result }
+        ensures { CutsOn O.told (seen self.old) cut (stretch_of text.now size) (O.slots outs.old) (O.slots outs.new)
+            (seen self.new) result }
     {
         let line = &text[..size];
         let left = self.cut_often(cut, self.lines, line, line, outs)?;
@@ -270,7 +261,7 @@ impl<'o> LineCutter<'o> {
             < 2 ^ 63 }
         requires sound { IsSound (seen self.old) }
         requires ready { IsReady (seen self.old).writer (O.slots outs.old) }
-        ensures { PassesThenHolds O.told (seen self.old) (drop from (take size text.now)) text.now size
+        ensures { PassesThenHolds O.told (seen self.old) (drop from (take size text.now)) (stretch_of text.now size)
             (O.slots outs.old) (O.slots outs.new) (seen self.new) result }
     {
         let passed = self.pass_over(&text[size..]);
@@ -326,26 +317,26 @@ impl<'o> LineCutter<'o> {
             return unfound(0);
         }
         match self.aim {
-            Attempt::Above(_, line) => unfound(self.pass_below(line, text)),
+            Attempt::Above(cut) => unfound(self.pass_below(cut, text)),
             Attempt::Missed => self.pass_unmatched(text),
             Attempt::UsedUp => {
                 self.lines += count_delimiters(text, NEWLINE) as u64;
                 unfound(text.len())
             }
-            Attempt::Below | Attempt::Cuts(_, _) => unfound(0),
+            Attempt::Below | Attempt::Cuts(_) => unfound(0),
         }
     }
 
-    /// Counts the lines of a text before the line that the next operand needs to cut at the line of this number.
-    fn pass_below(&mut self, line: u64, text: &[u8]) -> usize
+    /// Counts the lines of a text before the line that the next operand needs for this cut.
+    fn pass_below(&mut self, cut: CutPoint, text: &[u8]) -> usize
         requires whole { IsWhole text.now }
         requires fits { self.old.lines + length text.now < 2 ^ 63 }
         requires sound { IsSound (seen self.old) }
-        requires aim { (matched : ℕ) × (self.old.aim ≡ attempt_is.Above matched line) }
+        requires aim { self.old.aim ≡ attempt_is.Above cut }
         requires near { WillSkip (seen self.old) → ⊥ }
         ensures { PassesOver (seen self.old) text.now (seen self.new) result }
     {
-        let last = line - self.past_last() - 1;
+        let last = cut.line - self.past_last() - 1;
         let count = match reach(text, last - self.lines, NEWLINE) {
             Reach::Ends(end) => {
                 self.lines = last;
@@ -435,15 +426,15 @@ impl<'o> LineCutter<'o> {
     {
         self.lines += 1;
         match self.aim {
-            Attempt::Above(matched, line) => {
-                if self.lines + self.past_last() < line {
+            Attempt::Above(cut) => {
+                if self.lines + self.past_last() < cut.line {
                     return None;
                 }
-                Some(CutPoint { matched, line })
+                Some(cut)
             }
             Attempt::Missed => self.try_last(line, is_found),
             Attempt::UsedUp => None,
-            Attempt::Below | Attempt::Cuts(_, _) => None,
+            Attempt::Below | Attempt::Cuts(_) => None,
         }
     }
 
@@ -514,9 +505,8 @@ impl<'o> LineCutter<'o> {
         requires fit { IsFit (seen self.old) }
         requires cuts { WillCut (seen self.old) cut }
         requires ready { IsReady (seen self.old).writer (O.slots outs.old) }
-        ensures { CutsAll O.told (seen self.old) cut (self.old.lines - delimiters newline self.old.window.held)
-            (self.old.window.held ++ line.now) line.now [] (O.slots outs.old) (O.slots outs.new) (seen self.new)
-            (fault_in result) }
+        ensures { CutsAll O.told (waits_with (seen self.old) cut line.now) [] (O.slots outs.old) (O.slots outs.new)
+            (seen self.new) (fault_in result) }
     {
         let waiting = drain(self.alloc, &mut self.window, line)?;
         let lines = count_delimiters(&waiting[..waiting.len() - line.len()], NEWLINE);
@@ -542,11 +532,10 @@ impl<'o> LineCutter<'o> {
         requires none { self.old.window.held ≡ [] }
         requires cuts { WillCut (seen self.old) cut }
         requires ready { IsReady (seen self.old).writer (O.slots outs.old) }
-        ensures ok { IfOk result (λ left. Spread O.told (seen self.old) cut place waiting.now line.now
+        ensures ok { IfOk result (λ left. Spread O.told (due (seen self.old) cut place waiting.now line.now)
             (O.slots outs.old) (O.slots outs.new) (seen self.new) left.now) }
-        ensures err { IfErr result
-            (λ fault. CutsAll O.told (seen self.old) cut place waiting.now line.now [] (O.slots outs.old)
-            (O.slots outs.new) (seen self.new) (Some fault)) }
+        ensures err { IfErr result (λ fault. CutsAll O.told (due (seen self.old) cut place waiting.now line.now) []
+            (O.slots outs.old) (O.slots outs.new) (seen self.new) (Some fault)) }
     {
         let mut left = self.cut_at(cut, place, waiting, outs)?;
         while let Some(cut) = self.try_last(line, false) {
@@ -570,11 +559,11 @@ impl<'o> LineCutter<'o> {
         requires none { self.old.window.held ≡ [] }
         requires cuts { WillCut (seen self.old) cut }
         requires ready { IsReady (seen self.old).writer (O.slots outs.old) }
-        ensures ok { IfOk result (λ rest. CutAt O.told (seen self.old) cut place waiting.now (O.slots outs.old)
-            (O.slots outs.new) (seen self.new) rest.now) }
-        ensures err { IfErr result
-            (λ fault. (line : List ℕ)
-            → CutsAll O.told (seen self.old) cut place waiting.now line [] (O.slots outs.old) (O.slots outs.new)
+        ensures ok { IfOk result (λ rest. (line : List ℕ)
+            → CutAt O.told (due (seen self.old) cut place waiting.now line) (O.slots outs.old) (O.slots outs.new)
+            (seen self.new) rest.now) }
+        ensures err { IfErr result (λ fault. (line : List ℕ)
+            → CutsAll O.told (due (seen self.old) cut place waiting.now line) [] (O.slots outs.old) (O.slots outs.new)
             (seen self.new) (Some fault)) }
     {
         let (before, rest) = split_lines(waiting, cut.line.saturating_sub(place));
@@ -598,8 +587,7 @@ impl<'o> LineCutter<'o> {
         let done = self.progress.done;
         let suppress = self.style().suppress;
         let operands = self.operands;
-        self.progress
-            .pass(suppress, &operands[done], cut.matched, cut.line);
+        self.progress.pass(suppress, &operands[done], cut);
         if self.progress.done == done {
             return Ok(());
         }
@@ -674,7 +662,7 @@ fn verdict_of_miss(operand: &Operand, repetition: u64) -> Option<Verdict>
 
 /// The verdict if an operand's cut is above the last line. None if the work ends well then.
 fn verdict_of_range(operand: &Operand, repetition: u64) -> Option<Verdict>
-    ensures { (matched cut : ℕ) → result ≡ verdict_of (above operand.now repetition matched cut) }
+    ensures { (cut : CutPoint) → result ≡ verdict_of (above operand.now repetition cut) }
 {
     match (&operand.times, &operand.target) {
         (Times::Endless, Target::Number(_)) => None,
@@ -685,14 +673,14 @@ fn verdict_of_range(operand: &Operand, repetition: u64) -> Option<Verdict>
 
 /// The cut of an attempt, if it is a cut.
 fn cut_of(attempt: Attempt) -> Option<CutPoint>
-    ensures some { IfSome result (λ cut. attempt ≡ attempt_is.Cuts cut.matched cut.line) }
+    ensures some { IfSome result (λ cut. attempt ≡ attempt_is.Cuts cut) }
     ensures none { IfNone result (IsNoCut attempt) }
 {
     match attempt {
-        Attempt::Cuts(matched, line) => Some(CutPoint { matched, line }),
+        Attempt::Cuts(cut) => Some(cut),
         Attempt::UsedUp => None,
         Attempt::Missed => None,
-        Attempt::Above(_, _) => None,
+        Attempt::Above(_) => None,
         Attempt::Below => None,
     }
 }

@@ -10,6 +10,15 @@ ghost use Rattle.operand_core.specs.declared.operand.Operand.{Operand};
 
 use crate::{Offset, Operand, Style, Target, Times};
 
+/// Where an operand cuts: the line that the last pattern matched, and the line of the cut.
+#[derive(Clone, Copy)]
+pub struct CutPoint {
+    /// The line that the last pattern matched, 0 if no pattern was performed.
+    pub matched: u64,
+    /// The line of the cut.
+    pub line: u64,
+}
+
 /// What the next operand does.
 #[derive(Clone, Copy)]
 pub enum Attempt {
@@ -17,13 +26,13 @@ pub enum Attempt {
     UsedUp,
     /// The operand's pattern matches no line.
     Missed,
-    /// The operand cuts further than it may: the line that the last pattern matched, and the line of the cut, or the
-    /// greatest number that there is if that line is further.
-    Above(u64, u64),
+    /// The operand cuts further than it may. The line of the cut is the greatest number that there is if the cut is
+    /// further than that.
+    Above(CutPoint),
     /// The operand cuts below the current line.
     Below,
-    /// The operand cuts: the line that the last pattern matched, and the line of the cut.
-    Cuts(u64, u64),
+    /// The operand cuts here.
+    Cuts(CutPoint),
 }
 
 /// Where a run stands after some steps.
@@ -85,8 +94,9 @@ impl Progress {
         let most = total + past_last(style, &operand.target);
         match &operand.target {
             Target::Number(number) => {
-                let cut = number.saturating_mul(self.repetition + 1);
-                fall(most, self.current, self.matched, cut)
+                let matched = self.matched;
+                let line = number.saturating_mul(self.repetition + 1);
+                fall(most, self.current, CutPoint { matched, line })
             }
             Target::Search { offset, .. } => {
                 if total < self.search_line(style.suppress) {
@@ -95,21 +105,23 @@ impl Progress {
                 if !found {
                     return Attempt::Missed;
                 }
-                fall(most, self.current, total, line_at(*offset, total))
+                let matched = total;
+                let line = line_at(*offset, total);
+                fall(most, self.current, CutPoint { matched, line })
             }
         }
     }
 
     /// Goes on after a cut of this operand, which is the next one.
-    pub fn pass(&mut self, suppress: bool, operand: &Operand, matched: u64, cut: u64)
-        requires cut { cut < 2 ^ 64 - 1 }
+    pub fn pass(&mut self, suppress: bool, operand: &Operand, cut: CutPoint)
+        requires cut { cut.line < 2 ^ 64 - 1 }
         requires repetition { self.old.repetition < 2 ^ 64 - 1 }
         requires done { self.old.done < 2 ^ 64 - 1 }
         ensures { (operands rest : List Operand) → drop self.old.done operands ≡ operand.now ∷ rest
-            → state_of operands self.new ≡ state_after suppress operand.now rest self.old.repetition matched cut }
+            → state_of operands self.new ≡ state_after suppress operand.now rest self.old.repetition cut }
     {
-        self.current = line_after(suppress, cut);
-        self.matched = matched;
+        self.current = line_after(suppress, cut.line);
+        self.matched = cut.matched;
         if has_more(operand.times, self.repetition) {
             self.repetition += 1;
             return;
@@ -151,15 +163,15 @@ pub(crate) fn past_last(style: &Style, target: &Target) -> u64
 }
 
 /// Where a cut falls, if it may stand at the line `most` at most.
-fn fall(most: u64, current: u64, matched: u64, cut: u64) -> Attempt
-    ensures { FallsAt most current matched cut result }
+fn fall(most: u64, current: u64, cut: CutPoint) -> Attempt
+    ensures { FallsAt most current cut result }
 {
-    if cut < current {
+    if cut.line < current {
         Attempt::Below
-    } else if most < cut {
-        Attempt::Above(matched, cut)
+    } else if most < cut.line {
+        Attempt::Above(cut)
     } else {
-        Attempt::Cuts(matched, cut)
+        Attempt::Cuts(cut)
     }
 }
 

@@ -1,4 +1,4 @@
--- What a word spells and aims at, and how deep counts go.
+-- What a word spells and Ok at, and how deep counts go.
 use Rattle.std.proofs.{
   Common.{◌≡◌, ℕ, suc, ◌+◌, ◌-◌, take, drop, add-one, ◌<◌, ◌&&◌, Bool, true, false, not, cond, List, [], ◌∷◌, ◌++◌},
   Common.{Option, Some, None, refl, sym, ◌∙◌, ap, arith, rules, ◌≤◌, subst, Result, Ok, Err, zero, inl, inr},
@@ -10,7 +10,7 @@ use Rattle.operand_core.specs.{
   Operand.{Offset, Target, Number, Search, Times},
   Word.{is_escape, closing, before_brace, closed_at, searched, offset_of, number, spelling},
   inner.{Seen.seen, Aiming.{IsAimed, IsReadAs, is_target, is_wrong, is_refused, no_memory}},
-  Reading.{line, match, Aimed, aims, fails, aim_of, IsPattern},
+  Reading.{Aim, line, match, aim_of, IsPattern},
   Aiming.refusal_of,
   declared.{word.Word.Word, operand_fault.OperandFaultKind.OperandFaultKind},
 }
@@ -75,24 +75,25 @@ search_closed delimiter text {place} is at read then =
     let after = take_rest text (place + 1) ∙ ap (λ n. drop n text) (add-one place) in
     ap (searched delimiter (take place text)) (sym then ∙ read ∙ ap offset_of after) ∙ ap (closed_at delimiter text) (sym at ∙ is)
 
--- What a word aims at.
+-- What a word Ok at.
 
 pub below_last : (calling : Calling) (least n : ℕ) → n < least
     → IsAimed (aim_of calling least (number n)) (Err kind.LineOrder)
-below_last calling least n less = is_wrong kind.LineOrder (ap (λ b. cond b (fails kind.LineOrder) (aims (line n))) (lt-ltb n least less))
+below_last calling least n less = is_wrong kind.LineOrder (ap (λ b. cond b (Err kind.LineOrder) (Ok (line n))) (lt-ltb n least less))
 
 pub not_below : (calling : Calling) (least n : ℕ) → least ≤ n
     → IsAimed (aim_of calling least (number n)) (Ok (Number n))
-not_below calling least n more = is_target (line n) (Number n) (ap (λ b. cond b (fails kind.LineOrder) (aims (line n))) (le-ltb n least more)) refl
+not_below calling least n more = is_target (line n) (Number n) (ap (λ b. cond b (Err kind.LineOrder) (Ok (line n))) (le-ltb n least more)) refl
 
 -- reading ends with a `?` for want of memory
 
-pub lacks : (aimed : Aimed) (result : Result Target OperandFaultKind) → IsErrAnd result (λ e. e ≡ kind.Memory)
-    → IsAimed aimed result
+pub lacks : (aimed : Result Aim OperandFaultKind) (result : Result Target OperandFaultKind)
+    → IsErrAnd result (λ e. e ≡ kind.Memory) → IsAimed aimed result
 lacks aimed result ends = let at = err_from_is_err_and result ends in subst (IsAimed aimed) (sym (at.1 ∙ ap Err at.2)) no_memory
 
-pub goes_wrong : (aimed : Aimed) (what : OperandFaultKind) (result : Result Target OperandFaultKind)
-    → aimed ≡ fails what → IsErrAnd result (λ e. e ≡ what) → IsAimed aimed result
+pub goes_wrong : (aimed : Result Aim OperandFaultKind) (what : OperandFaultKind)
+    (result : Result Target OperandFaultKind)
+    → aimed ≡ Err what → IsErrAnd result (λ e. e ≡ what) → IsAimed aimed result
 goes_wrong aimed what result is ends = let at = err_from_is_err_and result ends in subst (IsAimed aimed) (sym (at.1 ∙ ap Err at.2)) (is_wrong what is)
 
 pub posix_read : {text : List ℕ} (result : Result Pattern BreFault) → IfOk result (Reads text)
@@ -115,20 +116,20 @@ read_elsewhere text fault TooLarge same is = absurd (omega arith)
 read_elsewhere text fault other same is = is
 
 refused_so : {kept : Bool} {text : List ℕ} {offset : Offset} (fault : BreFault) → IsReadAs text (Err fault)
-    → IsAimed (aims (match kept text offset)) (Err (refusal_of fault))
+    → IsAimed (Ok (match kept text offset)) (Err (refusal_of fault))
 refused_so {kept} {text} {offset} TooLarge is = is_refused (match kept text offset) TooLarge refl is
 refused_so Memory is = no_memory
 refused_so {kept} {text} {offset} fault is = is_refused (match kept text offset) fault refl is
 
 pub is_refused_so : {kept : Bool} {text : List ℕ} {offset : Offset} (fault : BreFault)
     (result : Result Target OperandFaultKind) → IsReadAs text (Err fault) → IsErrAnd result (λ e. e ≡ refusal_of fault)
-    → IsAimed (aims (match kept text offset)) result
+    → IsAimed (Ok (match kept text offset)) result
 is_refused_so {kept} {text} {offset} fault result is ends =
     let at = err_from_is_err_and result ends in
-    subst (IsAimed (aims (match kept text offset))) (sym (at.1 ∙ ap Err at.2)) (refused_so fault is)
+    subst (IsAimed (Ok (match kept text offset))) (sym (at.1 ∙ ap Err at.2)) (refused_so fault is)
 
 pub is_read : (kept : Bool) (text : List ℕ) (offset : Offset) (pattern : Pattern) → IsReadAs text (Ok pattern)
-    → IsAimed (aims (match kept text offset)) (Ok (Search pattern kept offset))
+    → IsAimed (Ok (match kept text offset)) (Ok (Search pattern kept offset))
 is_read kept text offset pattern is = is_target (match kept text offset) (Search pattern kept offset) refl (is, refl, refl)
 
 pub no_target : (calling : Calling) (least : ℕ) (word : Word) (text : List ℕ) (times : Times)

@@ -2,14 +2,14 @@
 use Rattle.std.proofs.{
   lemmas.{Grind.common_steps, List.{append-nil, drop-map}},
   Common.{◌≡◌, ℕ, ◌+◌, ◌-◌, ◌<◌, ◌≤◌, Bor, get_or, List, [], ◌∷◌, ◌++◌, map, length, drop, Option, Some, None},
-  Common.{Result, Ok, Err, refl, sym, ◌∙◌, ap, subst, arith, append_assoc, rules, ◌==◌, true},
+  Common.{Result, Ok, Err, refl, sym, ◌∙◌, ap, subst, arith, append_assoc, rules, ◌==◌, ◌≢◌, true},
 }
 use Rattle.operand_core.specs.{
   Operand.{Target, Number, Search, Times, Count, Operand},
   Word.spelling,
-  Reading.{Aim, line, match, Spelled, aims, fails, aim_of, least_after, times_by, Words, failed, with_operand},
+  Reading.{Aim, line, match, Spelled, aim_of, least_after, times_by, Words, failed, with_operand},
   Reading.{words_from, words_of, IsTarget, IsRead, AreRead, IsFault, Asks, HasRefused, is_wrong, is_refused},
-  Reading.{no_memory, IsOfWords},
+  Reading.no_memory,
   inner.{
     Aiming.{IsAimed, is_target, is_wrong, is_refused, no_memory},
     Repeating.{least_by, SayTimes, no_word, again, other},
@@ -34,7 +34,7 @@ after_front front words = record { operands = front ++ words.operands; fault = w
 -- a step over an operand and the word that says how often it is performed again, if a word says so
 pub step_over : (calling : Calling) (index least : ℕ) (word : List ℕ) {words : List (List ℕ)} {aim : Aim}
     {times : Times} {said : ℕ}
-    → aim_of calling least (spelling word) ≡ aims aim → SayTimes words times said
+    → aim_of calling least (spelling word) ≡ Ok aim → SayTimes words times said
     → words_from calling index least (word ∷ words)
     ≡ with_operand index aim times (words_from calling (index + (1 + said)) (least_after least aim) (drop said words))
 step_over calling index least word is no_word = cc
@@ -44,7 +44,7 @@ step_over calling index least word is (other next rest says) = cc
 -- a word that is wrong ends the list
 pub stop_at : (calling : Calling) {index : ℕ} (least : ℕ) (word : List ℕ) (words : List (List ℕ))
     {what : OperandFaultKind}
-    → aim_of calling least (spelling word) ≡ fails what → words_from calling index least (word ∷ words)
+    → aim_of calling least (spelling word) ≡ Err what → words_from calling index least (word ∷ words)
     ≡ failed what index
 stop_at calling least word [] is = cc
 stop_at calling least word (next ∷ words) is = cc
@@ -210,8 +210,8 @@ aim_not_both (match has text by) (Search pattern kept offset) fault hits none = 
 
 pub reads_or_fails : (calling : Calling) (words : List (List ℕ)) (operands : List Operand) (fault : OperandFault)
     → Asks calling words operands
-    → IsFault calling words fault → IsOfWords fault.kind → ⊥
+    → IsFault calling words fault → fault.kind ≢ kind.Memory → ⊥
 reads_or_fails calling words operands fault asks (is_wrong another read at are) is = cc (asks.well, at)
 reads_or_fails calling words operands fault asks (is_refused another front refused rest read at are has) is =
     let found = read_at front rest operands (subst (λ those. AreRead those operands) at asks.read) in aim_not_both refused.aim found.0.target another found.1.target has
-reads_or_fails calling words operands fault asks (no_memory index) is = is
+reads_or_fails calling words operands fault asks (no_memory index) is = is refl

@@ -1,6 +1,7 @@
 -- What a list of words asks of `csplit`: its operands, or the first fault.
 use Rattle.std.specs.{
   Prelude.{◌≡◌, ℕ, ◌+◌, ◌==◌, ◌≤◌, nat_lt, Bool, List, [], ◌∷◌, ◌++◌, Option, Some, None, if◌then◌else◌},
+  Prelude.{Result, Ok, Err},
 }
 use Rattle.bre_core.specs.{
   Pattern.{Pattern, Reads, depth_of, positions_of},
@@ -27,10 +28,6 @@ pub record Spelled : Type 0 where
   pub aim : Aim
   pub times : Times
 
-pub data Aimed : Type 0 where
-  aims : Aim → Aimed
-  fails : OperandFaultKind → Aimed
-
 -- The text of a pattern as POSIX spells it. If a tool is called by its own name, the pattern may be in GNU's spelling.
 abbrev pub posix_text : Calling → List ℕ → List ℕ
 posix_text Cutters text = text
@@ -38,12 +35,12 @@ posix_text OwnName text = respelled text
 
 -- Where a word cuts, unless the operand before it has taken the word as its repetition. `least` is the nearest line
 -- number before the word, or 0 if there is none. Only a pattern between `/` and `/` has its section kept.
-abbrev pub aim_of : Calling → (least : ℕ) → Spelling → Aimed
-aim_of calling least (number n) = if nat_lt n least then fails kind.LineOrder else aims (line n)
+abbrev pub aim_of : Calling → (least : ℕ) → Spelling → Result Aim OperandFaultKind
+aim_of calling least (number n) = if nat_lt n least then Err kind.LineOrder else Ok (line n)
 aim_of calling least (search delimiter text offset) =
-    aims (match (delimiter == 47) (posix_text calling (unescaped delimiter text)) offset)
-aim_of calling least (again times) = fails kind.RepeatFirst
-aim_of calling least (wrong fault) = fails fault
+    Ok (match (delimiter == 47) (posix_text calling (unescaped delimiter text)) offset)
+aim_of calling least (again times) = Err kind.RepeatFirst
+aim_of calling least (wrong fault) = Err fault
 
 -- the nearest line number before what follows an operand
 abbrev pub least_after : (least : ℕ) → Aim → ℕ
@@ -63,10 +60,10 @@ pub record Words : Type 0 where
 abbrev pub no_more : Words
 no_more = record { operands = []; fault = None }
 
-abbrev pub failed : OperandFaultKind → ℕ → Words
+abbrev pub failed : OperandFaultKind → (index : ℕ) → Words
 failed what index = record { operands = []; fault = Some (record { kind = what; index = index }) }
 
-abbrev pub with_operand : ℕ → Aim → Times → Words → Words
+abbrev pub with_operand : (index : ℕ) → Aim → Times → Words → Words
 with_operand index aim times words = record {
   operands = record { index = index; aim = aim; times = times } ∷ words.operands;
   fault = words.fault;
@@ -76,12 +73,12 @@ with_operand index aim times words = record {
 abbrev pub words_from : Calling → (index least : ℕ) → List (List ℕ) → Words
 words_from calling index least [] = no_more
 words_from calling index least (word ∷ []) = elim (aim_of calling least (spelling word)) [
-  | fails what ↦ failed what index
-  | aims aim ↦ with_operand index aim (Count 0) no_more
+  | Err what ↦ failed what index
+  | Ok aim ↦ with_operand index aim (Count 0) no_more
 ]
 words_from calling index least (word ∷ next ∷ words) = elim (aim_of calling least (spelling word)) [
-  | fails what ↦ failed what index
-  | aims aim ↦ elim (times_by (spelling next)) [
+  | Err what ↦ failed what index
+  | Ok aim ↦ elim (times_by (spelling next)) [
     | Some times ↦ with_operand index aim times (words_from calling (index + 2) (least_after least aim) words)
     | None ↦ with_operand index aim (Count 0) (words_from calling (index + 1) (least_after least aim) (next ∷ words))
   ]
@@ -139,8 +136,3 @@ pub data IsFault (calling : Calling) (words : List (List ℕ)) : OperandFault �
       → (words_of calling words).operands ≡ front ++ refused ∷ rest → AreRead front read → HasRefused refused.aim fault
       → IsFault calling words (record { kind = kind.Bre fault; index = refused.index })
   no_memory : (index : ℕ) → IsFault calling words (record { kind = kind.Memory; index = index })
-
--- the fault is something wrong with a word, and not want of memory
-abbrev pub IsOfWords : OperandFaultKind → Type 0
-IsOfWords kind.Memory = ⊥
-IsOfWords _ = Unit {0}

@@ -47,7 +47,7 @@ closing delimiter escaped (byte ∷ text) = elim (closing delimiter (is_escape e
 
 -- The text of a pattern. It is read from left to right: a `\` and the delimiter become the delimiter, and a `\` and any
 -- other byte stay.
-abbrev pub unescaped : ℕ → List ℕ → List ℕ
+abbrev pub unescaped : (delimiter : ℕ) → List ℕ → List ℕ
 unescaped delimiter [] = []
 unescaped delimiter (byte ∷ []) = byte ∷ []
 unescaped delimiter (byte ∷ next ∷ text) =

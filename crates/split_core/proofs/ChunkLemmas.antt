@@ -20,12 +20,13 @@ use Rattle.seg_core.{
     LineCounts.line_count-le-length,
   },
 }
-use Rattle.ports_core.specs.{Agreed.file_bytes, Draft.part_of, Part.only_out, declared.slot.State.TheVariants.Closed}
+use Rattle.ports_core.specs.{Agreed.file_bytes, Draft.part_of, declared.slot.State.TheVariants.Closed}
 use Rattle.split_core.{
   specs.{
     Chunks.{before_chunk, begun_before, chunk_at, chunk_start, chunks_in, chunks_of},
     Chunks.{in_the_end, is_as_said, open_from, pieces_in, size_by},
-    ChunkWork.{chunk_work, files_by, way_work},
+    ChunkEnds.{IfNamed, WritesFile},
+    ChunkWork.{ChunksPlan, chunk_work, files_by},
     Split.{Filing, are_named, manner_of, share},
     Parts.unless_empty,
     laws.BegunLaws.{begun_lines, begun_long, begun_some, begun_stays, begun_within},
@@ -156,15 +157,13 @@ same_pieces [] (byte ∷ last) place = refl
 same_pieces (piece ∷ front) last zero = refl
 same_pieces (piece ∷ front) last (suc place) = same_pieces front last place
 
-pub chunk_alone : (chunks : Chunks) (filing : Filing) (said : Option ℕ) (place : ℕ) (x : List ℕ) → 0 < chunks.count
-    → are_named filing.names chunks.count ≡ true → (way_work (way.Chunk place chunks) false filing said).whole x
-    ≡ only_out (get_or (file_bytes ((way_work (way.Chunks chunks) false filing said).whole x)) place [])
-chunk_alone chunks filing said place x some named = grind (arith, same_pieces, bytes_filed, few_files)
+pub chunk_alone : (plan : ChunksPlan) (place : ℕ)
+    → IfNamed plan (WritesFile place plan.filing (way.Chunk place plan.chunks) (way.Chunks plan.chunks))
+chunk_alone plan place some named said x = grind (arith, same_pieces, bytes_filed, few_files)
 
-pub turn_alone : (count delim : ℕ) (filing : Filing) (said : Option ℕ) (place : ℕ) (x : List ℕ) → place < count
-    → are_named filing.names count ≡ true → (way_work (way.Turn place count delim) false filing said).whole x
-    ≡ only_out (get_or (file_bytes ((way_work (way.Cut (Round count delim)) false filing said).whole x)) place [])
-turn_alone count delim filing said place x within named =
+pub turn_alone : (count delim : ℕ) (filing : Filing) (place : ℕ) → place < count → are_named filing.names count ≡ true
+    → WritesFile place filing (way.Turn place count delim) (way.Cut (Round count delim))
+turn_alone count delim filing place within named said x =
     grind (arith, get_or-map-range_with_len, bytes_filed, length-map-range_with_len)
 
 pub all_pieces : (pieces : List (List ℕ)) (done : ℕ) (all : List (List ℕ))

@@ -28,6 +28,7 @@ use Rattle.split_core.specs.{
   Split.{Filing, Share, are_named, has_bytes, manner_of, share},
   Chunks.{chunks_of, decided, ended, has_ended, in_the_end, is_longer},
   ChunkAgreed.{AreMade, CanFollow, TwoDiffer},
+  ChunkEnds.{EndAlike, TwoEndApart},
   ChunkWork.{ChunksPlan, chunk_work, chunks_settled, chunks_whole, chunks_work, files_by, kept},
   laws.{
     ChunkWorkLaws.{chunks_go_on, kept-append, chunk_lawful},
@@ -149,8 +150,8 @@ module _ (plan : ChunksPlan) (said : Option ℕ) (x : List ℕ) (some : 0 < plan
 -- Whether the output of one chunk is complete
 
 pub chunk_complete : (place : ℕ) (chunks : Chunks) (said : Option ℕ) (x : List ℕ) → place < chunks.count
-    → (chunk_work place chunks said).is_complete x ≡ true → (at : ℕ) → at ≤ place → (y z : List ℕ)
-    → (chunk_work at chunks said).whole (x ++ y) ≡ (chunk_work at chunks said).whole (x ++ z)
+    → (chunk_work place chunks said).is_complete x ≡ true → (at : ℕ) → at ≤ place
+    → EndAlike (chunk_work at chunks said) x
 chunk_complete place chunks None x within has at before y z = absurd (false≢true has)
 chunk_complete place chunks (Some size) x within has at before y z =
     let ended_too : has_ended chunks size x at ≡ true = grind (arith, common_steps) in
@@ -159,7 +160,7 @@ chunk_complete place chunks (Some size) x within has at before y z =
 
 pub chunk_going : (place : ℕ) (chunks : Chunks) (said : Option ℕ) (x : List ℕ) → place < chunks.count
     → is_longer said x ≡ false → (chunk_work place chunks said).is_complete x ≡ false
-    → (at : ℕ) × (at ≤ place) × TwoDiffer (CanFollow said x) (λ y. (chunk_work at chunks said).whole (x ++ y))
+    → (at : ℕ) × (at ≤ place) × TwoEndApart said (chunk_work at chunks said) x
 chunk_going place chunks None x within fits going = (
   0,
   omega arith,
@@ -180,10 +181,10 @@ chunk_going place chunks (Some size) x within fits going =
 left_out : (cut : CutUp) → files_by true cut ≡ filter has_bytes (files_by false cut)
 left_out cut = grind (arith, filter-append)
 
-module _ (chunks : Chunks) (filing : Filing) (said : Option ℕ) (x : List ℕ) (some : 0 < chunks.count)
-    (named : are_named filing.names chunks.count ≡ true) where
+module _ (plan : ChunksPlan) (said : Option ℕ) (x : List ℕ) (some : 0 < plan.chunks.count)
+    (named : are_named plan.filing.names plan.chunks.count ≡ true) where
   abbrev plan_by : Bool → ChunksPlan
-  plan_by elide = record { chunks = chunks; elide = elide; filing = filing }
+  plan_by elide = record plan { elide = elide }
 
   pub settled_left_out : file_bytes (chunks_settled (plan_by true) said x)
       ≡ filter has_bytes (file_bytes (chunks_settled (plan_by false) said x))
@@ -193,7 +194,7 @@ module _ (chunks : Chunks) (filing : Filing) (said : Option ℕ) (x : List ℕ) 
       ≡ filter has_bytes (file_bytes (chunks_whole (plan_by false) said x))
   whole_left_out = cc (
     whole_files (plan_by true) said x some named,
-    left_out (in_the_end chunks said x),
+    left_out (in_the_end plan.chunks said x),
     whole_files (plan_by false) said x some named,
   )
 

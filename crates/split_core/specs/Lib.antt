@@ -5,6 +5,7 @@ pub mod Chunks
 pub mod ChunkWork
 pub mod ChunkerState
 pub mod ChunkAgreed
+pub mod ChunkEnds
 pub mod PartsState
 pub mod Round
 pub mod RoundState

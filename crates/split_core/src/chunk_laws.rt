@@ -15,9 +15,10 @@ ghost use Rattle.seg_core.specs.{
 };
 ghost use Rattle.split_core.specs.{
   Chunks.{AreEven, BeginInChunks, KeepLines, chunk_start, chunks_in, is_as_said, is_longer},
-  ChunkAgreed.{AgreeAt, AreMade, CanFollow, TwoDiffer, chunk_spots, one_chunk_spots},
+  ChunkAgreed.{AgreeAt, AreMade, CanFollow, chunk_spots, one_chunk_spots},
+  ChunkEnds.{EndAlike, IfNamed, TwoEndApart, WritesFile},
   Place.beside_output,
-  ChunkWork.{ChunksPlan, chunk_work, chunks_settled, chunks_whole, chunks_work, turn_work, way_work},
+  ChunkWork.{ChunksPlan, chunk_work, chunks_settled, chunks_whole, chunks_work, turn_work},
   Split.{Filing, are_named, has_bytes},
 };
 ghost use Rattle.seg_core.specs.declared.cut.Way.TheVariants as way;
@@ -31,9 +32,8 @@ pub fn chunks_are_even()
         → length (chunks_in chunks x) ≡ chunks.count }
     ensures all { (chunks : Chunks) (x : List ℕ) → 0 < chunks.count → joined (chunks_in chunks x) ≡ x }
     ensures bytes { (chunks : Chunks) (x : List ℕ) (place : ℕ) → place < chunks.count → chunks.unit ≡ Bytes
-        → get_or (chunks_in chunks x) place []
-        ≡ take (chunk_start chunks.count (length x) (place + 1) - chunk_start chunks.count (length x) place)
-        (drop (chunk_start chunks.count (length x) place) x) }
+        → let from = chunk_start chunks.count (length x) in get_or (chunks_in chunks x) place []
+        ≡ take (from (place + 1) - from place) (drop (from place) x) }
     ensures even { (chunks : Chunks) (x : List ℕ) → chunks.unit ≡ Bytes
         → AreEven chunks.count x (chunks_in chunks x) }
     ensures lines { (chunks : Chunks) (x : List ℕ) → 0 < chunks.count → chunks.unit ≡ Lines
@@ -45,14 +45,11 @@ pub fn chunks_are_even()
 /// What one chunk alone, or the lines of one file alone, write to standard output is what the file at that place would have, if all files
 /// have names and none is left out. So all chunks, one after another, are the text.
 pub fn one_chunk_is_its_file()
-    ensures chunk { (chunks : Chunks) (filing : Filing) (said : Option ℕ) (place : ℕ) (x : List ℕ)
-        → 0 < chunks.count → are_named filing.names chunks.count ≡ true
-        → (way_work (way.Chunk place chunks) false filing said).whole x
-        ≡ only_out (get_or (file_bytes ((way_work (way.Chunks chunks) false filing said).whole x)) place []) }
-    ensures turn { (count delim : ℕ) (filing : Filing) (said : Option ℕ) (place : ℕ) (x : List ℕ)
-        → place < count → are_named filing.names count ≡ true
-        → (way_work (way.Turn place count delim) false filing said).whole x
-        ≡ only_out (get_or (file_bytes ((way_work (way.Cut (Round count delim)) false filing said).whole x)) place []) }
+    ensures chunk { (plan : ChunksPlan) (place : ℕ)
+        → IfNamed plan (WritesFile place plan.filing (way.Chunk place plan.chunks) (way.Chunks plan.chunks)) }
+    ensures turn { (count delim : ℕ) (filing : Filing) (place : ℕ) → place < count
+        → are_named filing.names count ≡ true
+        → WritesFile place filing (way.Turn place count delim) (way.Cut (Round count delim)) }
     ensures all { (chunks : Chunks) (said : Option ℕ) (x : List ℕ)
         → 0 < chunks.count → is_as_said said x ≡ true
         → flat_map (λ place. ((chunk_work place chunks said).whole x).out) (range_with_len 0 chunks.count) ≡ x }
@@ -65,22 +62,19 @@ pub fn one_chunk_is_its_file()
 /// open once it has a byte.
 pub fn chunks_agree()
     ensures outputs { (plan : ChunksPlan) (said : Option ℕ) (x : List ℕ)
-        → 0 < plan.chunks.count → plan.filing.verbose ≡ false
-        → are_named plan.filing.names plan.chunks.count ≡ true → is_longer said x ≡ false
-        → AgreeAt (CanFollow said x) (chunks_work plan said) x ((chunks_work plan said).settled x) }
+        → IfNamed plan (plan.filing.verbose ≡ false → is_longer said x ≡ false
+        → AgreeAt (CanFollow said x) (chunks_work plan said) x ((chunks_work plan said).settled x)) }
     ensures files { (plan : ChunksPlan) (said : Option ℕ) (x : List ℕ)
-        → 0 < plan.chunks.count → are_named plan.filing.names plan.chunks.count ≡ true → is_longer said x ≡ false
-        → AgreeAt (CanFollow said x) (beside_output (chunks_work plan said)) x
-        (record ((chunks_work plan said).settled x) { out = [] }) }
+        → IfNamed plan (is_longer said x ≡ false → AgreeAt (CanFollow said x) (beside_output (chunks_work plan said)) x
+        (record ((chunks_work plan said).settled x) { out = [] })) }
     ensures made { (plan : ChunksPlan) (said : Option ℕ) (x : List ℕ)
-        → 0 < plan.chunks.count → are_named plan.filing.names plan.chunks.count ≡ true → is_longer said x ≡ false
-        → AreMade (CanFollow said x) (chunks_work plan said) x ((chunks_work plan said).settled x).files }
+        → IfNamed plan (is_longer said x ≡ false
+        → AreMade (CanFollow said x) (chunks_work plan said) x ((chunks_work plan said).settled x).files) }
     ensures waits { (plan : ChunksPlan) (said : Option ℕ) (x : List ℕ)
-        → 0 < plan.chunks.count → are_named plan.filing.names plan.chunks.count ≡ true → is_longer said x ≡ false
-        → DifferOn (CanFollow said x) (GoesBy (chunk_spots plan said)) x ((chunks_work plan said).waiting x) }
+        → IfNamed plan (is_longer said x ≡ false
+        → DifferOn (CanFollow said x) (GoesBy (chunk_spots plan said)) x ((chunks_work plan said).waiting x)) }
     ensures placed { (plan : ChunksPlan) (said : Option ℕ)
-        → 0 < plan.chunks.count → are_named plan.filing.names plan.chunks.count ≡ true
-        → ArePlaced (beside_output (chunks_work plan said)) (chunk_spots plan said) }
+        → IfNamed plan (ArePlaced (beside_output (chunks_work plan said)) (chunk_spots plan said)) }
     ensures chunk { (place : ℕ) (chunks : Chunks) (said : Option ℕ) (x : List ℕ)
         → place < chunks.count → is_longer said x ≡ false
         → AgreeAt (CanFollow said x) (chunk_work place chunks said) x ((chunk_work place chunks said).settled x) }
@@ -97,26 +91,22 @@ pub fn chunks_agree()
 /// complete with those before it. That is only so if the input showed its size.
 pub fn one_chunk_is_complete()
     ensures complete { (place : ℕ) (chunks : Chunks) (said : Option ℕ) (x : List ℕ) → place < chunks.count
-        → (chunk_work place chunks said).is_complete x ≡ true → (at : ℕ) → at ≤ place → (y z : List ℕ)
-        → (chunk_work at chunks said).whole (x ++ y) ≡ (chunk_work at chunks said).whole (x ++ z) }
+        → (chunk_work place chunks said).is_complete x ≡ true
+        → (at : ℕ) → at ≤ place → EndAlike (chunk_work at chunks said) x }
     ensures going { (place : ℕ) (chunks : Chunks) (said : Option ℕ) (x : List ℕ) → place < chunks.count
         → is_longer said x ≡ false → (chunk_work place chunks said).is_complete x ≡ false
-        → (at : ℕ) × (at ≤ place) × TwoDiffer (CanFollow said x) (λ y. (chunk_work at chunks said).whole (x ++ y)) }
+        → (at : ℕ) × (at ≤ place) × TwoEndApart said (chunk_work at chunks said) x }
 {}
 
 /// If empty files are left out, the files have what those have that aren't empty if none is left out: once some bytes came in, and at the
 /// end.
 pub fn empty_chunks_are_left_out()
-    ensures settled { (chunks : Chunks) (filing : Filing) (said : Option ℕ) (x : List ℕ)
-        → 0 < chunks.count → are_named filing.names chunks.count ≡ true
-        → file_bytes (chunks_settled (record { chunks = chunks; elide = true; filing = filing }) said x)
-        ≡ filter has_bytes
-        (file_bytes (chunks_settled (record { chunks = chunks; elide = false; filing = filing }) said x)) }
-    ensures whole { (chunks : Chunks) (filing : Filing) (said : Option ℕ) (x : List ℕ)
-        → 0 < chunks.count → are_named filing.names chunks.count ≡ true
-        → file_bytes (chunks_whole (record { chunks = chunks; elide = true; filing = filing }) said x)
-        ≡ filter has_bytes
-        (file_bytes (chunks_whole (record { chunks = chunks; elide = false; filing = filing }) said x)) }
+    ensures settled { (plan : ChunksPlan) (said : Option ℕ) (x : List ℕ)
+        → IfNamed plan (file_bytes (chunks_settled (record plan { elide = true }) said x)
+        ≡ filter has_bytes (file_bytes (chunks_settled (record plan { elide = false }) said x))) }
+    ensures whole { (plan : ChunksPlan) (said : Option ℕ) (x : List ℕ)
+        → IfNamed plan (file_bytes (chunks_whole (record plan { elide = true }) said x)
+        ≡ filter has_bytes (file_bytes (chunks_whole (record plan { elide = false }) said x))) }
 {}
 
 /// An input that has another length than it showed has changed. If only one chunk is written, that is seen as long as the output isn't
@@ -131,12 +121,10 @@ pub fn other_lengths_are_changes()
     ensures more { (plan : ChunksPlan) (size : ℕ) (x : List ℕ)
         → (chunks_work plan (Some size)).whole x ≡ (chunks_work plan (Some size)).whole (take size x) }
     ensures all { (plan : ChunksPlan) (size : ℕ) (x : List ℕ)
-        → 0 < plan.chunks.count → are_named plan.filing.names plan.chunks.count ≡ true
-        → joined (file_bytes ((chunks_work plan (Some size)).whole x)) ≡ take size x }
+        → IfNamed plan (joined (file_bytes ((chunks_work plan (Some size)).whole x)) ≡ take size x) }
     ensures same { (plan : ChunksPlan) (size : ℕ) (x : List ℕ)
-        → 0 < plan.chunks.count → are_named plan.filing.names plan.chunks.count ≡ true
-        → file_bytes ((chunks_work plan (Some size)).whole x)
-        ≡ file_bytes ((chunks_work plan (Some size)).settled x) }
+        → IfNamed plan (file_bytes ((chunks_work plan (Some size)).whole x)
+        ≡ file_bytes ((chunks_work plan (Some size)).settled x)) }
 {}
 
 /// If standard output gets lines about the files of chunks, it has a line for each file that was opened, in order, and nothing else: once

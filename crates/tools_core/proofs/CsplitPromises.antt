@@ -1,8 +1,11 @@
 -- Lemmas on what `csplit` leaves of its input.
-use Rattle.std.{proofs.lemmas.{Grind.common_steps, Bool.{cond_both, false≢true, lt-ltb}, List.{append-nil, Elements.{All-append, All-cons, All-map, All-nil}}}, proofs.Common.{suc, ◌≡◌, ℕ, ◌+◌, drop, Bool, true, false, eqb, List, [], ◌∷◌, Option, Some, None, refl, ◌∙◌, ◌-◌}, proofs.Common.{◌≤◌, ◌++◌, length, map, sym, ap, arith, cond}, specs.List.flat_map}
+use Rattle.std.{proofs.lemmas.{Grind.common_steps, Bool.{cond_both, false≢true, lt-ltb}, List.{append-nil, Elements.{All-append, All-cons, All-map, All-nil}}}, proofs.Common.{suc, ◌≡◌, ℕ, ◌+◌, drop, Bool, true, false, eqb, List, [], ◌∷◌, Option, Some, None, refl, ◌∙◌, ◌-◌}, proofs.Common.{Result, Ok, Err, ◌≤◌, ◌++◌, length, map, sym, ap, arith, cond}, specs.List.flat_map}
 use Rattle.operand_core.specs.{
-  declared.operand.{Operand.Operand, Target.{Target, TheVariants.{Number, Search}}, Times.{Times, TheVariants.Count}},
-  Reading.{Aim, line, match, Spelled, Aimed, aims, fails, Words, AreRead, Asks, IsTarget, aim_of, failed},
+  declared.{
+    operand.{Operand.Operand, Target.{Target, TheVariants.{Number, Search}}, Times.{Times, TheVariants.Count}},
+    operand_fault.OperandFaultKind.OperandFaultKind,
+  },
+  Reading.{Aim, line, match, Spelled, Words, AreRead, Asks, IsTarget, aim_of, failed},
   Reading.{least_after, times_by, with_operand, words_from, words_of},
   Word.{spelling, closed_at, repeated, numbered},
   Style.Style,
@@ -12,7 +15,7 @@ use Rattle.csplit_core.specs.{
   Csplit.verdict_of,
   Input.{all_lines, marked, newline},
   Output.{file_in, manner_of, naming_of, shares_in, state_in},
-  Plan.{State, line_after, operands_after, step_of, Step, Ending, below, Runs, misses, is_above, is_below, cuts},
+  Plan.{State, line_after, step_of, Step, Ending, below, Plan, Runs, misses, is_above, is_below, cuts},
   Planned.plan,
   Section.{Section, section_of, bytes_of, is_final, is_last_kept, lines_between, lines_in, whole_sections},
   laws.{PlanLaws.plan_runs, SectionLaws.are_within},
@@ -52,9 +55,9 @@ abbrev KeepsAim : Aim → Type 0
 KeepsAim (line n) = Unit {0}
 KeepsAim (match kept text offset) = kept ≡ true
 
-abbrev KeepsAimed : Aimed → Type 0
-KeepsAimed (aims aim) = KeepsAim aim
-KeepsAimed (fails what) = Unit {0}
+abbrev KeepsAimed : Result Aim OperandFaultKind → Type 0
+KeepsAimed (Ok aim) = KeepsAim aim
+KeepsAimed (Err what) = Unit {0}
 
 closed_keeps : (calling : Calling) (least delimiter : ℕ) (text : List ℕ) (place : Option ℕ) → eqb delimiter 47 ≡ true
     → KeepsAimed (aim_of calling least (closed_at delimiter text place))
@@ -79,11 +82,11 @@ abbrev KeepAims : List Spelled → Type 0
 KeepAims [] = Unit {0}
 KeepAims (spelled ∷ more) = KeepsAim spelled.aim × KeepAims more
 
-aimed_keep : (index : ℕ) (aimed : Aimed) (past : Aim → Words) → KeepsAimed aimed
+aimed_keep : (index : ℕ) (aimed : Result Aim OperandFaultKind) (past : Aim → Words) → KeepsAimed aimed
     → ((aim : Aim) → KeepsAim aim → KeepAims (past aim).operands)
-    → KeepAims (elim aimed as (λ _. Words) [ fails what ↦ failed what index | aims aim ↦ past aim ]).operands
-aimed_keep index (fails what) past keeps each = tt
-aimed_keep index (aims aim) past keeps each = each aim keeps
+    → KeepAims (elim aimed as (λ _. Words) [ Err what ↦ failed what index | Ok aim ↦ past aim ]).operands
+aimed_keep index (Err what) past keeps each = tt
+aimed_keep index (Ok aim) past keeps each = each aim keeps
 
 times_keep : (index : ℕ) (aim : Aim) (says : Option Times) (past next : Words) → KeepsAim aim
     → KeepAims past.operands → KeepAims next.operands
@@ -133,7 +136,7 @@ AllKept [] = Unit {0}
 AllKept (section ∷ sections) = (section.is_kept ≡ true) × AllKept sections
 
 kept_after : (more : Bool) (operand : Operand) (operands : List Operand) → KeepTargets (operand ∷ operands)
-    → KeepTargets (operands_after more operand operands)
+    → KeepTargets (cond more (operand ∷ operands) operands)
 kept_after true operand operands keep = keep
 kept_after false operand operands keep = keep.1
 
@@ -142,19 +145,19 @@ kept_then : (sections : List Section) (last : Section) → AllKept sections → 
 kept_then [] last kept is = (is, tt)
 kept_then (section ∷ sections) last kept is = (kept.0, kept_then sections last kept.1 is)
 
-record Kept (lines : List Line) (steps : List Step) (ending : Ending) : Type 0 where
-  pub sections : AllKept (map (section_of lines) steps)
-  pub final : is_last_kept ending ≡ true
+record Kept (lines : List Line) (plan : Plan) : Type 0 where
+  pub sections : AllKept (map (section_of lines) plan.steps)
+  pub final : is_last_kept plan.ending ≡ true
 
-runs_keep : {style : Style} {lines : List Line} {state : State} {steps : List Step} {last : State} {ending : Ending}
-    → Runs style lines state steps last ending → KeepTargets state.operands → Kept lines steps ending
-runs_keep (cuts state operand operands matched cut steps last ending is at from within rest) keep =
-    let these = rw is at keep in
-    let past = runs_keep rest (kept_after (has_more operand.times state.repetition) operand operands these) in
+runs_keep : {style : Style} {lines : List Line} {state : State} {plan : Plan} → Runs style lines state plan
+    → KeepTargets state.operands → Kept lines plan
+runs_keep (cuts state cut its from within plan rest) keep =
+    let these = rw its.are at keep in
+    let past = runs_keep rest (kept_after (has_more its.operand.times state.repetition) its.operand its.operands these) in
     record { sections = (these.0, past.sections); final = past.final }
 runs_keep (misses state operand operands is none) keep = grind (arith, common_steps)
-runs_keep (is_above state operand operands matched cut is at from far) keep = grind (arith, common_steps)
-runs_keep (is_below state operand operands matched cut is at low) keep = grind (arith, common_steps)
+runs_keep (is_above state cut its from far) keep = grind (arith, common_steps)
+runs_keep (is_below state cut its low) keep = grind (arith, common_steps)
 runs_keep run keep = record { sections = tt; final = refl }
 
 -- The files of sections that are kept, joined, are the lines of these sections.
@@ -272,14 +275,14 @@ past_cut : (suppress : Bool) {cut : ℕ} → 1 ≤ cut → 1 ≤ line_after supp
 past_cut true some = omega (arith, some)
 past_cut false some = some
 
-all_in_turn : {style : Style} {lines : List Line} {first : State} {steps : List Step} {last : State} {ending : Ending}
-    → Runs style lines first steps last ending → 1 ≤ first.current
-    → in_turn style.suppress lines steps (drop (last.current - 1) lines) ≡ drop (first.current - 1) lines
-all_in_turn {style} {lines} (cuts state operand operands matched cut steps' last' ending' is at from within rest) some =
-    let low : 1 ≤ cut = omega (arith, some, from) in
-    let step = step_of state operand matched cut in
+all_in_turn : {style : Style} {lines : List Line} {first : State} {plan : Plan} → Runs style lines first plan
+    → 1 ≤ first.current
+    → in_turn style.suppress lines plan.steps (drop (plan.last.current - 1) lines) ≡ drop (first.current - 1) lines
+all_in_turn {style} {lines} (cuts state cut its from within plan rest) some =
+    let low : 1 ≤ cut.line = omega (arith, some, from) in
+    let step = step_of state its.operand cut in
     rw (all_in_turn rest (past_cut style.suppress low), cut_rest style.suppress lines step low)
-    (between_rest state.current cut lines some from)
+    (between_rest state.current cut.line lines some from)
 all_in_turn run some = refl
 
 pub none_missing : (style : Style) (operands : List Operand) {lines : List Line}

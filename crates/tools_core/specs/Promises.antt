@@ -34,8 +34,8 @@ use Rattle.csplit_core.specs.{
   Input.all_lines,
   Operand.Line,
   Output.{file_in, naming_of as section_naming},
-  Plan.Step,
-  Planned.{Plan, plan},
+  Plan.{Step, Plan},
+  Planned.plan,
   Section.{lines_between, section_of, whole_end, whole_sections},
 }
 use Rattle.run_core.specs.{

@@ -1,21 +1,21 @@
 -- What private calls say of where a run stands, of the cutter of lines, and of the stage that takes in bytes.
 use Rattle.std.specs.{
-  Prelude.{◌≡◌, ℕ, ◌<◌, ◌≤◌, Bool, false, List, ◌∷◌, length, drop, ◌⊎◌, ◌+◌, true, [], ◌++◌, take, get_or},
+  Prelude.{◌≡◌, ℕ, ◌<◌, ◌≤◌, ◌-◌, Bool, false, List, ◌∷◌, length, drop, ◌⊎◌, ◌+◌, true, [], ◌++◌, take, get_or},
   Prelude.{Option, Some, None, IfNone, IfSome, IfOk, Result, Ok, Err, ◌≢◌, OnOk, IsTrue, if◌then◌else◌},
 }
 use Rattle.csplit_core.specs.{
   Operand.{Operand, Line, is_match},
-  Plan.{State, CutsAt, search_line, line_after, state_after, past_last},
+  Plan.{State, IsCut, search_line, line_after, state_after, past_last, Plan, CutPoint},
   Measure.Moves,
   declared.{
     progress.{Progress.Progress, Attempt.{Attempt, TheVariants.{UsedUp, Missed, Above, Below, Cuts}}},
-    line_cutter.{CutPoint.CutPoint, LineCutter.LineCutter, Passed.Passed},
+    line_cutter.{LineCutter.LineCutter, Passed.Passed},
   },
   Progress.{state_of, WillMove, EndsHere, AimsAt},
   Csplit.{settled_of, whole_of, verdict_of},
   Input.{newline, without_newline, marked, all_lines, open_line},
   Output.{Style, manner_of, naming_of, sizes_wanted},
-  Planned.{Plan, plan},
+  Planned.plan,
   inner.PlanLaws.needed,
   Section.is_final,
   Cutter.{CutterState, AimHolds, most_by, pattern_by, seen, state_in, next_of, kept_by, IsFit, IsSound, load},
@@ -62,38 +62,41 @@ pub record AreSeen (suppress : Bool) (lines : List Line) (total : ℕ) (state : 
       → search_line suppress state ≤ other → other < total → is_match operand lines other ≡ false
 
 -- the next operand cuts at this line, which is no further than the operand may cut
-pub record GoesPast (style : Style) (lines : List Line) (state : State) (matched cut : ℕ) : Type 0 where
-  pub operand : Operand
-  pub operands : List Operand
-  pub are : state.operands ≡ operand ∷ operands
-  pub cuts : CutsAt style lines state operand operand.target matched cut
-  pub from : state.current ≤ cut
-  pub within : cut ≤ length lines + past_last style operand.target
+pub record GoesPast (style : Style) (lines : List Line) (state : State) (cut : CutPoint) : Type 0 where
+  pub its : IsCut style lines state cut
+  pub from : state.current ≤ cut.line
+  pub within : cut.line ≤ length lines + past_last style its.operand.target
 
 -- an attempt agrees with the plan: the plan ends here, or has one more step
 abbrev pub AgreesWithPlan : Style → List Line → State → Attempt → Type 0
-AgreesWithPlan style lines state (Cuts matched line) = GoesPast style lines state matched line
+AgreesWithPlan style lines state (Cuts cut) = GoesPast style lines state cut
 AgreesWithPlan style lines state attempt = EndsHere style lines state attempt
 
 -- where a cut falls, if it may stand at the line `most` at most
-abbrev pub FallsAt : (most current matched cut : ℕ) → Attempt → Type 0
-FallsAt most current matched cut UsedUp = ⊥
-FallsAt most current matched cut Missed = ⊥
-FallsAt most current matched cut (Above last line) = (last ≡ matched) × (line ≡ cut) × (current ≤ cut) × (most < cut)
-FallsAt most current matched cut Below = cut < current
-FallsAt most current matched cut (Cuts last line) = (last ≡ matched) × (line ≡ cut) × (current ≤ cut) × (cut ≤ most)
+abbrev pub FallsAt : (most current : ℕ) → CutPoint → Attempt → Type 0
+FallsAt most current cut (Above at) = (at ≡ cut) × (current ≤ cut.line) × (most < cut.line)
+FallsAt most current cut Below = cut.line < current
+FallsAt most current cut (Cuts at) = (at ≡ cut) × (current ≤ cut.line) × (cut.line ≤ most)
+FallsAt most current cut attempt = ⊥
+
+-- The next operand cuts at this line, which is no further than the operand may cut.
+pub record CutMoves (style : Style) (operands : List Operand) (total : ℕ) (progress : Progress) (cut : CutPoint) :
+    Type 0 where
+  pub operand : Operand
+  pub rest : List Operand
+  pub some : progress.done < length operands
+  pub left : drop progress.done operands ≡ operand ∷ rest
+  pub moves : Moves total (state_of operands progress) operand.target cut
+  pub matched : cut.matched ≤ total
+  pub from : progress.current ≤ cut.line
+  pub within : cut.line ≤ total + past_last style operand.target
 
 -- A cut moves on, so that a run makes no more steps than `needed` says. A cut that is further than it may be will move
 -- on.
 abbrev pub MovesOn : Style → List Operand → (total : ℕ) → Progress → Attempt → Type 0
-MovesOn style operands total progress UsedUp = Unit {0}
-MovesOn style operands total progress Missed = Unit {0}
-MovesOn style operands total progress (Above matched line) = WillMove style operands total progress matched line
-MovesOn style operands total progress Below = Unit {0}
-MovesOn style operands total progress (Cuts matched line) = (operand : Operand) × (rest : List Operand)
-    × (progress.done < length operands) × (drop progress.done operands ≡ operand ∷ rest)
-    × Moves total (state_of operands progress) operand.target matched line × (matched ≤ total)
-    × (progress.current ≤ line) × (line ≤ total + past_last style operand.target)
+MovesOn style operands total progress (Above cut) = WillMove style operands total progress cut
+MovesOn style operands total progress (Cuts cut) = CutMoves style operands total progress cut
+MovesOn style operands total progress attempt = Unit {0}
 
 -- a text of complete lines
 abbrev pub IsWhole : List ℕ → Type 0
@@ -126,7 +129,7 @@ plan_in cutter x = plan cutter.style cutter.operands (all_lines x)
 
 -- the next operand cuts at this point, if the lines x came in
 abbrev pub CutsIn : CutterState → List ℕ → CutPoint → Type 0
-CutsIn cutter x cut = GoesPast cutter.style (all_lines x) (state_in cutter) cut.matched cut.line
+CutsIn cutter x cut = GoesPast cutter.style (all_lines x) (state_in cutter) cut
 
 -- the cutter's state and aim are those with which the plan over x ends
 pub record IsJudged (cutter : CutterState) (x : List ℕ) : Type 0 where
@@ -207,16 +210,8 @@ pub record Looked (cutter : CutterState) (x line : List ℕ) : Type 0 where
       → (other : ℕ) → search_line (suppress_in cutter) (state_in cutter) ≤ other → other < cutter.lines
       → is_match operand (all_lines x) other ≡ false
 
--- The next operand cuts at this line, which is no further than the operand may cut.
-pub record WillCut (cutter : CutterState) (cut : CutPoint) : Type 0 where
-  pub operand : Operand
-  pub operands : List Operand
-  pub some : cutter.progress.done < length cutter.operands
-  pub left : (state_in cutter).operands ≡ operand ∷ operands
-  pub moves : Moves cutter.lines (state_in cutter) operand.target cut.matched cut.line
-  pub matched : cut.matched ≤ cutter.lines
-  pub from : cutter.progress.current ≤ cut.line
-  pub within : cut.line ≤ cutter.lines + past_last cutter.style operand.target
+abbrev pub WillCut : CutterState → CutPoint → Type 0
+WillCut cutter = CutMoves cutter.style cutter.operands cutter.lines cutter.progress
 
 -- the line at which a search after this cut begins
 abbrev pub search_after : Bool → CutPoint → ℕ
@@ -241,29 +236,40 @@ TriesNext cutter line next None = (x : List ℕ) → IsWhole x → IsLive cutter
 TriesNext cutter line next (Some cut) = (x : List ℕ) → IsWhole x → IsLive cutter x
     → CutsIn cutter (x ++ line) cut × (next.lines ≤ search_after (suppress_in cutter) cut)
 
--- The plan over x cuts at this point, and no line of x before the last is to be looked at again. The lines that are
--- left begin with the line of number `place`.
-pub record CutsNow {cutter : CutterState} {x left : List ℕ} (line : List ℕ) (cut : CutPoint) (place : ℕ)
-    (at : IsAt cutter x left) : Type 0 where
-  pub last : IsLastLine x line
-  pub near : cutter.lines ≤ search_after (suppress_in cutter) cut
-  pub place_is : place ≡ cutter.progress.current + at.taken
-  pub before : place ≤ cut.line
-  pub goes : CutsIn cutter x cut
+-- A cut that is due. The lines `left` are left: the first has the number `place`, and `line` is the last.
+pub record Due : Type 0 where
+  pub cutter : CutterState
+  pub cut : CutPoint
+  pub place : ℕ
+  pub left : List ℕ
+  pub line : List ℕ
+
+abbrev pub due : CutterState → CutPoint → (place : ℕ) → (left line : List ℕ) → Due
+due cutter cut place left line = record { cutter = cutter; cut = cut; place = place; left = left; line = line }
+
+-- the lines that wait and one more are left
+abbrev pub waits_with : CutterState → CutPoint → (line : List ℕ) → Due
+waits_with cutter cut line =
+    due cutter cut (cutter.lines - delimiters newline cutter.window.held) (cutter.window.held ++ line) line
+
+-- The lines x came in. The plan over them makes the cut, and no line of x before the last is to be looked at again.
+pub record CutsNow (due : Due) (x : List ℕ) (at : IsAt (bare due.cutter) x due.left) : Type 0 where
+  pub last : IsLastLine x due.line
+  pub near : due.cutter.lines ≤ search_after (suppress_in due.cutter) due.cut
+  pub place_is : due.place ≡ due.cutter.progress.current + at.taken
+  pub before : due.place ≤ due.cut.line
+  pub goes : CutsIn due.cutter x due.cut
 
 -- the attempt is no cut
 abbrev pub IsNoCut : Attempt → Type 0
-IsNoCut UsedUp = Unit {0}
-IsNoCut Missed = Unit {0}
-IsNoCut (Above matched line) = Unit {0}
-IsNoCut Below = Unit {0}
-IsNoCut (Cuts matched line) = ⊥
+IsNoCut (Cuts cut) = ⊥
+IsNoCut attempt = Unit {0}
 
 -- where the run stands after this cut
 abbrev pub PassesOn : CutterState → CutPoint → CutterState → Type 0
 PassesOn cutter cut next = (operand : Operand) (operands : List Operand)
     → (state_in cutter).operands ≡ operand ∷ operands
-    → state_in next ≡ state_after (suppress_in cutter) operand operands cutter.progress.repetition cut.matched cut.line
+    → state_in next ≡ state_after (suppress_in cutter) operand operands cutter.progress.repetition cut
 
 -- The run went on after a cut, and nothing is written yet.
 pub record WentOn (cutter : CutterState) (cut : CutPoint) (next : CutterState) : Type 0 where
@@ -294,60 +300,55 @@ abbrev pub IsEnd : List ℕ → List ℕ → Type 0
 IsEnd end text = (front : List ℕ) × (text ≡ front ++ end)
 
 -- What is true after a cut: the open section has no line yet, and no line before the last one is to be looked at again.
-pub record IsAfter (told : Bool) (cutter : CutterState) (x line : List ℕ) (next : CutterState) (rest : List ℕ)
-    (low : Part) (old new : List Slot) : Type 0 where
+pub record IsAfter (told : Bool) (due : Due) (x : List ℕ) (low : Part) (old new : List Slot) (next : CutterState)
+    (rest : List ℕ) : Type 0 where
   pub now : IsAt (bare next) x rest
-  pub looked : Looked next x line
+  pub looked : Looked next x due.line
   pub near : next.lines ≤ search_line (suppress_in next) (state_in next)
   pub none : now.taken ≡ 0
   pub grows : Begins low (part_at now)
-  pub reaches : Puts told cutter next low (part_at now) old new None
+  pub reaches : Puts told due.cutter next low (part_at now) old new None
 
 -- Some cuts were made, and the lines `left` are left.
-pub record Spreading (told : Bool) (cutter : CutterState) (cut : CutPoint) (place : ℕ) (waiting line : List ℕ)
-    (old new : List Slot) (now : CutterState) (left : List ℕ) : Type 0 where
-  pub keeps : Keeps cutter now old new None
-  pub lines : now.lines ≡ cutter.lines
+pub record Spreading (told : Bool) (due : Due) (old new : List Slot) (now : CutterState) (left : List ℕ) : Type 0 where
+  pub keeps : Keeps due.cutter now old new None
+  pub lines : now.lines ≡ due.cutter.lines
   pub fit : IsFit now
   pub held : now.window.held ≡ []
-  pub after : (x : List ℕ) (at : IsAt (bare cutter) x waiting) → CutsNow line cut place at
-      → IsAfter told cutter x line now left (part_at at) old new
-  pub size : size_of now.writer.current + length left ≤ size_of cutter.writer.current + length waiting
-  pub end : IsEnd left waiting
+  pub after : (x : List ℕ) (at : IsAt (bare due.cutter) x due.left) → CutsNow due x at
+      → IsAfter told due x (part_at at) old new now left
+  pub size : size_of now.writer.current + length left ≤ size_of due.cutter.writer.current + length due.left
+  pub end : IsEnd left due.left
 
 -- The open section ended at a cut, and the next one began.
-pub record CutAt (told : Bool) (cutter : CutterState) (cut : CutPoint) (place : ℕ) (left : List ℕ) (old new : List Slot)
-    (next : CutterState) (rest : List ℕ) : Type 0 where
-  pub fewer : needed next.lines (state_in next) < needed cutter.lines (state_in cutter)
-  pub spreading : (line : List ℕ) → Spreading told cutter cut place left line old new next rest
+pub record CutAt (told : Bool) (due : Due) (old new : List Slot) (next : CutterState) (rest : List ℕ) : Type 0 where
+  pub fewer : needed next.lines (state_in next) < needed due.cutter.lines (state_in due.cutter)
+  pub spreading : Spreading told due old new next rest
 
 -- No operand cuts what is left any more, and nothing of it is written or waits yet.
-pub record Spread (told : Bool) (cutter : CutterState) (cut : CutPoint) (place : ℕ) (waiting line : List ℕ)
-    (old new : List Slot) (next : CutterState) (left : List ℕ) : Type 0 where
+pub record Spread (told : Bool) (due : Due) (old new : List Slot) (next : CutterState) (left : List ℕ) : Type 0 where
   pub now : CutterState
-  pub so_far : Spreading told cutter cut place waiting line old new now left
+  pub so_far : Spreading told due old new now left
   pub is : next ≡ record now { aim = next.aim }
-  pub tries : Tries now line next None
+  pub tries : Tries now due.line next None
   pub aim : IsAimed next
 
 -- the lines that were left were cut as often as operands cut them, and more lines came in that aren't cut
-pub record CutAll (cutter : CutterState) (cut : CutPoint) (place : ℕ) (left line more : List ℕ)
-    (next : CutterState) : Type 0 where
-  pub lines : next.lines ≤ cutter.lines + length more
+pub record CutAll (due : Due) (more : List ℕ) (next : CutterState) : Type 0 where
+  pub lines : next.lines ≤ due.cutter.lines + length more
   pub sound : IsSound next
-  pub stands : (x : List ℕ) (at : IsAt (bare cutter) x left) → CutsNow line cut place at → Stands next (x ++ more)
+  pub stands : (x : List ℕ) (at : IsAt (bare due.cutter) x due.left) → CutsNow due x at → Stands next (x ++ more)
   pub size : size_of next.writer.current + length next.window.held
-      ≤ size_of cutter.writer.current + length left + length more
+      ≤ size_of due.cutter.writer.current + length due.left + length more
 
 -- What cutting does from the first cut on: it cuts as often as operands cut, and then takes in more lines that aren't
 -- cut.
-pub record CutsAll (told : Bool) (cutter : CutterState) (cut : CutPoint) (place : ℕ) (left line more : List ℕ)
-    (old new : List Slot)
-    (next : CutterState) (fault : Option Fault) : Type 0 where
-  pub keeps : Keeps cutter next old new fault
-  pub reaches : (x : List ℕ) (at : IsAt (bare cutter) x left) → CutsNow line cut place at
-      → Puts told cutter next (part_at at) (settled_part cutter (x ++ more)) old new fault
-  pub went : IfNone fault (CutAll cutter cut place left line more next)
+pub record CutsAll (told : Bool) (due : Due) (more : List ℕ) (old new : List Slot) (next : CutterState)
+    (fault : Option Fault) : Type 0 where
+  pub keeps : Keeps due.cutter next old new fault
+  pub reaches : (x : List ℕ) (at : IsAt (bare due.cutter) x due.left) → CutsNow due x at
+      → Puts told due.cutter next (part_at at) (settled_part due.cutter (x ++ more)) old new fault
+  pub went : IfNone fault (CutAll due more next)
 
 -- how many lines past the last one the next cut may stand
 abbrev pub past_in : CutterState → ℕ
@@ -395,43 +396,58 @@ pub record PassesClear (cutter : CutterState) (text : List ℕ) (next : CutterSt
   pub count : next.lines ≡ cutter.lines + line_count newline (take n text)
   pub clear : (pattern : Pattern) → cutter.sought ≡ Some pattern → AreClear pattern (take n text)
 
--- a text begins with one line of this many bytes; the line may lack its newline if it is the only line
-pub record Starts (text : List ℕ) (size : ℕ) : Type 0 where
-  pub within : size ≤ length text
-  pub line : IsLine (take size text)
-  pub rest : IsWhole (drop size text)
-  pub complete : (drop size text ≡ []) ⊎ (ends_with newline (take size text) ≡ true)
+-- a text, and how many bytes its first line has
+pub record Stretch : Type 0 where
+  pub text : List ℕ
+  pub size : ℕ
 
--- After the first `size` bytes of a text, n bytes of complete lines were taken in. The result has the size of both
--- together, and how many bytes the next line has if the pattern that is searched for was found in it.
-pub record Extends (text : List ℕ) (size : ℕ) (next : CutterState) (result : Result Passed Fault) : Type 0 where
+abbrev pub stretch_of : List ℕ → ℕ → Stretch
+stretch_of text size = record { text = text; size = size }
+
+-- the first line, and the lines after it
+abbrev pub first_in : Stretch → List ℕ
+first_in stretch = take stretch.size stretch.text
+
+abbrev pub others_in : Stretch → List ℕ
+others_in stretch = drop stretch.size stretch.text
+
+-- the first line may lack its newline if it is the only line
+pub record Starts (stretch : Stretch) : Type 0 where
+  pub within : stretch.size ≤ length stretch.text
+  pub line : IsLine (first_in stretch)
+  pub rest : IsWhole (others_in stretch)
+  pub complete : (others_in stretch ≡ []) ⊎ (ends_with newline (first_in stretch) ≡ true)
+
+-- After the first line n bytes of complete lines were taken in. The result has the size of both together, and how many
+-- bytes the next line has if the pattern that is searched for was found in it.
+pub record Extends (stretch : Stretch) (next : CutterState) (result : Result Passed Fault) : Type 0 where
   pub n : ℕ
-  pub within : n ≤ length (drop size text)
-  pub whole : IsWhole (take n (drop size text))
-  pub size_is : IfOk result (λ passed. passed.size ≡ size + n)
-  pub found : IfOk result (λ passed. IfSome passed.found (IsNextFound next (drop n (drop size text))))
+  pub within : n ≤ length (others_in stretch)
+  pub whole : IsWhole (take n (others_in stretch))
+  pub size_is : IfOk result (λ passed. passed.size ≡ stretch.size + n)
+  pub found : IfOk result (λ passed. IfSome passed.found (IsNextFound next (drop n (others_in stretch))))
 
 -- A stretch of the text was taken in, with its first line at least; or a fault came among its bytes.
-pub record Stretches (told : Bool) (cutter : CutterState) (text : List ℕ) (size : ℕ) (old new : List Slot)
+pub record Stretches (told : Bool) (cutter : CutterState) (stretch : Stretch) (old new : List Slot)
     (next : CutterState) (result : Result Passed Fault) : Type 0 where
-  pub on : Extends text size next result
-  pub took : Takes told cutter (take size text ++ take on.n (drop size text)) old new next (fault_in result)
+  pub on : Extends stretch next result
+  pub took : Takes told cutter (first_in stretch ++ take on.n (others_in stretch)) old new next (fault_in result)
 
--- The lines of a text after its first bytes were passed over, and then held with what is left of those bytes.
-pub record PassesThenHolds (told : Bool) (cutter : CutterState) (left text : List ℕ) (size : ℕ) (old new : List Slot)
-    (next : CutterState) (result : Result Passed Fault) : Type 0 where
-  pub on : Extends text size next result
+-- The lines after the first line were passed over, and then held with what is left of the first line.
+pub record PassesThenHolds (told : Bool) (cutter : CutterState) (left : List ℕ) (stretch : Stretch)
+    (old new : List Slot) (next : CutterState) (result : Result Passed Fault) : Type 0 where
+  pub on : Extends stretch next result
   pub mid : CutterState
-  pub over : PassesOver cutter (drop size text) mid on.n
-  pub held : HoldsLines told mid (mid.window.held ++ (left ++ take on.n (drop size text))) old new next
+  pub over : PassesOver cutter (others_in stretch) mid on.n
+  pub held : HoldsLines told mid (mid.window.held ++ (left ++ take on.n (others_in stretch))) old new next
       (fault_in result)
 
--- The first line of a text was cut, and the lines after it that aren't cut were taken in.
-pub record CutsOn (told : Bool) (cutter : CutterState) (cut : CutPoint) (text : List ℕ) (size : ℕ) (old new : List Slot)
+-- The first line was cut, and the lines after it that aren't cut were taken in.
+pub record CutsOn (told : Bool) (cutter : CutterState) (cut : CutPoint) (stretch : Stretch) (old new : List Slot)
     (next : CutterState) (result : Result Passed Fault) : Type 0 where
-  pub on : Extends text size next result
-  pub all : CutsAll told cutter cut cutter.lines (take size text) (take size text) (take on.n (drop size text)) old new
-      next (fault_in result)
+  pub on : Extends stretch next result
+  pub all : CutsAll told (due cutter cut cutter.lines (first_in stretch) (first_in stretch))
+      (take on.n (others_in stretch)) old new next (fault_in result)
 
 -- what is written if the input ends after these lines
 abbrev pub whole_part : CutterState → List ℕ → Part
@@ -491,23 +507,18 @@ pub record Clears (cutter : CutterState) (old new : List Slot) (next : CutterSta
   pub removes : Removes cutter.writer.files old next.writer.files new
 
 -- a piece came after the open line; what follows the complete lines of both waits
-pub record Came (cutter : CutterState) (rest piece : List ℕ) (next : CutterState) (after : List ℕ) : Type 0 where
-  pub live : next.aim ≢ Below → after ≡ open_line (rest ++ piece)
-  pub past : next.aim ≡ Below → (cutter.aim ≡ Below → rest ≡ []) → after ≡ []
-  pub still : cutter.aim ≡ Below → next ≡ cutter
-  pub unbroken : delimiters newline after ≡ 0
-  pub size : load next + length after ≤ load cutter + length rest + length piece
+pub record Came (stage : CsplitState) (piece : List ℕ) (next : CsplitState) : Type 0 where
+  pub live : next.cutter.aim ≢ Below → next.rest ≡ open_line (stage.rest ++ piece)
+  pub past : next.cutter.aim ≡ Below → (stage.cutter.aim ≡ Below → stage.rest ≡ []) → next.rest ≡ []
+  pub still : stage.cutter.aim ≡ Below → next.cutter ≡ stage.cutter
+  pub unbroken : delimiters newline next.rest ≡ 0
+  pub size : load next.cutter + length next.rest ≤ load stage.cutter + length stage.rest + length piece
 
 -- The complete lines of the open line and a piece went to the cutter, or a fault came among them.
-pub record PassesFrom (told : Bool) (cutter : CutterState) (rest piece : List ℕ) (old new : List Slot)
-    (next : CutterState) (after : List ℕ)
+pub record Passes (told : Bool) (stage : CsplitState) (piece : List ℕ) (old new : List Slot) (next : CsplitState)
     (result : Result (Unit {0}) Fault) : Type 0 where
-  pub took : Takes told cutter (whole_lines (rest ++ piece)) old new next (fault_in result)
-  pub passed : OnOk result (Came cutter rest piece next after)
-
-abbrev pub Passes : Bool → CsplitState → List ℕ → List Slot → List Slot → CsplitState → Result (Unit {0}) Fault → Type 0
-Passes told stage piece old new next result =
-    PassesFrom told stage.cutter stage.rest piece old new next.cutter next.rest result
+  pub took : Takes told stage.cutter (whole_lines (stage.rest ++ piece)) old new next.cutter (fault_in result)
+  pub passed : OnOk result (Came stage piece next)
 
 -- The open line came in, if there was one, and the last section ended; or a fault came before that.
 pub record Closed (told : Bool) (stage : CsplitState) (old new : List Slot) (next : CsplitState)

@@ -3,19 +3,10 @@ use Rattle.std.proofs.{
   lemmas.{Grind.common_steps, Bool.{cases_lt, Decides.nat_tests}, List.{drop_all, length-take-le, take-append-drop}},
   Common.{◌≡◌, inl, inr, ℕ, zero, suc, ◌+◌, ◌-◌, ◌<◌, ◌≤◌, Bool, true, false, cond, List, [], ◌∷◌, ◌++◌},
   Common.{append_assoc, length, Option, Some, None, refl, ◌∙◌, ap, arith, length-append, ◌*◌, nat_lt, subst, rules},
+  Common.option_map,
   Math.Seq.get_or-append_seam,
 }
-use Rattle.csplit_core.specs.{
-  Operand.{Operand, Line, is_match, Offset, Target, Number, Search, has_more},
-  Plan.{State, search_line, start, Step, Ending, used_up, missed, above, below, CutsAt, Misses, line_after},
-  Plan.{operands_after, repetition_after, state_after, step_of, Runs, is_used_up, misses, is_above, is_below, cuts},
-  Plan.past_last,
-  Planned.{first_among, first_match, ends, goes, attempt, PlannedAttempt, attempt_at, attempt_from, attempt_to, attempt_of},
-  Planned.{ended, with_step, plan_within, plan},
-  inner.PlanLaws.{MatchesAs, after, left_of, needed_by, needed, so, RunsAs},
-  Measure.Moves,
-}
-use Rattle.bre_core.specs.Pattern.{Pattern}
+use Rattle.csplit_core.specs.{Operand.{Operand, Line, is_match, moved, Target, Number, Search, has_more}, Plan.{State, search_line, start, Step, Ending, used_up, above, below, Plan, ended, after_steps, CutPoint}, Plan.{CutsAt, IsCut, line_after, state_after, step_of, past_last}, Plan.{Runs, is_used_up, misses, is_above, is_below, cuts}, Planned.{first_among, first_match, ends, goes, attempt, PlannedAttempt, cut_by, attempt_at, attempt_of, plan_within}, Planned.plan, inner.PlanLaws.{MatchesAs, CutsAs, after, left_of, needed_by, needed, MovesWithin}}
 use Rattle.operand_core.specs.Style.{Style}
 
 matched_on : (operand : Operand) (lines : List Line) {from : ℕ} (has : Bool) → is_match operand lines from ≡ has
@@ -65,21 +56,35 @@ from_not_less a b is = grind (arith, nat_tests, is)
 
 -- The computation does what a plan says
 
-attempt_at_cut : (style : Style) (lines : List Line) (state : State) (operand : Operand) (operands : List Operand)
-    (target : Target) (matched cut : ℕ)
-    → CutsAt style lines state operand target matched cut → attempt_to style lines state operand operands target
-    ≡ attempt_at style (length lines) state operand operands matched cut
-attempt_at_cut style lines state operand operands (Number n) matched cut at = search rules
-attempt_at_cut style lines state operand operands (Search pattern kept offset) matched cut at =
-    rw (first_is style operand lines state (Some matched) at.0, ← at.1) refl
+pub cut_as : (style : Style) (lines : List Line) (state : State) (operand : Operand) (target : Target)
+    → CutsAs style lines state operand target (cut_by style lines state operand target)
+cut_as style lines state operand (Number n) = (refl, refl)
+cut_as style lines state operand (Search pattern kept offset) =
+    let from = search_line style.suppress state in
+    (elim (first_match operand lines from) as (λ found. MatchesAs operand lines from found
+    → CutsAs style lines state operand (Search pattern kept offset)
+    (option_map (λ line. record { matched = line; line = moved offset line }) found)) [
+      | None ↦ λ none. none
+      | Some line ↦ λ first. (first, refl)
+    ]) (first_match_as operand lines from (search_some style.suppress state))
 
-attempt_missed : (style : Style) (lines : List Line) (state : State) {operand : Operand} (operands : List Operand)
-    (target : Target)
-    → Misses style lines state operand target
-    → attempt_to style lines state operand operands target ≡ ends (missed operand state.repetition)
-attempt_missed style lines state operands (Number n) none = absurd none
-attempt_missed style lines state {operand} operands (Search pattern kept offset) none =
+cut_once : (style : Style) (lines : List Line) (state : State) (operand : Operand) (target : Target)
+    (cut : Option CutPoint) → CutsAs style lines state operand target cut
+    → cut_by style lines state operand target ≡ cut
+cut_once style lines state operand (Number n) None at = absurd at
+cut_once style lines state operand (Number n) (Some cut) at = rw (← at.0, ← at.1) refl
+cut_once style lines state operand (Search pattern kept offset) None none =
     rw (first_is style operand lines state None none) refl
+cut_once style lines state operand (Search pattern kept offset) (Some cut) at =
+    rw (first_is style operand lines state (Some cut.matched) at.0, ← at.1) refl
+
+attempt_as : (style : Style) (lines : List Line) (state : State) {operand : Operand} {operands : List Operand}
+    (cut : Option CutPoint) → state.operands ≡ operand ∷ operands
+    → CutsAs style lines state operand operand.target cut
+    → attempt style lines state ≡ attempt_at style (length lines) state operand operands cut
+attempt_as style lines state {operand} {operands} cut is at = ap (attempt_of style lines state) is
+    ∙ ap (attempt_at style (length lines) state operand operands)
+    (cut_once style lines state operand operand.target cut at)
 
 fewer_operands : (total : ℕ) (state : State) (operands : List Operand)
     → needed_by total state operands < length operands * (total + 1) + 1
@@ -91,180 +96,185 @@ pub past_near : (style : Style) (target : Target) → past_last style target ≤
 past_near style (Number n) = search rules
 past_near style (Search pattern kept offset) = search rules
 
-pub fewer_left : (style : Style) (total : ℕ) (state next : State) (target : Target) {matched : ℕ} (cut : ℕ)
-    → Moves total state target matched cut → 1 ≤ cut → cut ≤ total + past_last style target
-    → next.repetition ≡ state.repetition + 1 → next.matched ≡ matched
+pub fewer_left : (style : Style) (total : ℕ) (state next : State) (target : Target) (cut : CutPoint)
+    → MovesWithin style total state target cut
+    → (next.repetition ≡ state.repetition + 1) × (next.matched ≡ cut.matched)
     → left_of total next target < left_of total state target
-fewer_left style total state next (Number zero) cut at some within again same = search rules
-fewer_left style total state next (Number (suc n)) cut at some within again same = search rules
-fewer_left style total state next (Search pattern kept offset) cut at some within again same = omega arith
+fewer_left style total state next (Number zero) cut at again = absurd (omega (arith, at.moves, at.some))
+fewer_left style total state next (Number (suc n)) cut at again = search (rules, at.moves, at.some, at.within, again.0)
+fewer_left style total state next (Search pattern kept offset) cut at again =
+    omega (arith, at.moves.0, at.moves.1, again.1)
 
-fewer_by : (style : Style) (total : ℕ) (state : State) (operand : Operand) (operands : List Operand) {matched : ℕ}
-    (cut : ℕ)
-    → Moves total state operand.target matched cut → 1 ≤ cut → cut ≤ total + past_last style operand.target
-    → (more : Bool) (next : State)
-    → next.operands ≡ operands_after more operand operands
-    → next.repetition ≡ repetition_after more state.repetition → next.matched ≡ matched
-    → needed total next < needed_by total state (operand ∷ operands)
-fewer_by style total state operand operands cut at some within true next left again same =
-    let less = fewer_left style total state next operand.target cut at some within again same in rw left (omega arith)
-fewer_by style total state operand operands cut at some within false next left again same = search (
-  rules,
-  fewer_operands,
-)
+fewer_by : (style : Style) (total : ℕ) (state : State) (operand : Operand) (operands : List Operand) (cut : CutPoint)
+    → MovesWithin style total state operand.target cut → (more : Bool) → needed total (record {
+      operands = cond more (operand ∷ operands) operands;
+      repetition = cond more (state.repetition + 1) 0;
+      current = line_after style.suppress cut.line;
+      matched = cut.matched;
+    }) < needed_by total state (operand ∷ operands)
+fewer_by style total state operand operands cut at true =
+    let less = fewer_left style total state (record {
+      operands = operand ∷ operands;
+      repetition = state.repetition + 1;
+      current = line_after style.suppress cut.line;
+      matched = cut.matched;
+    }) operand.target cut at (refl, refl) in omega arith
+fewer_by style total state operand operands cut at false = search (rules, fewer_operands)
 
-pub fewer_moves : (style : Style) (total : ℕ) (state : State) {operand : Operand} {operands : List Operand}
-    (matched cut : ℕ) → state.operands ≡ operand ∷ operands → Moves total state operand.target matched cut → 1 ≤ cut
-    → cut ≤ total + past_last style operand.target
-    → needed total (state_after style.suppress operand operands state.repetition matched cut) < needed total state
-fewer_moves style total state {operand} {operands} matched cut is at some within =
-    rw is (fewer_by style total state operand operands cut at some within (has_more operand.times state.repetition)
-    (state_after style.suppress operand operands state.repetition matched cut) refl refl refl)
-
-pub fewer : (style : Style) (lines : List Line) (state : State) {operand : Operand} {operands : List Operand}
-    (matched cut : ℕ) → state.operands ≡ operand ∷ operands
-    → CutsAt style lines state operand operand.target matched cut → 1 ≤ cut
-    → cut ≤ length lines + past_last style operand.target
-    → needed (length lines) (state_after style.suppress operand operands state.repetition matched cut)
-    < needed (length lines) state
-fewer style lines state matched cut is at some within = search (rules, fewer_moves)
+pub fewer : (style : Style) (total : ℕ) (state : State) {operand : Operand} {operands : List Operand}
+    (cut : CutPoint) → state.operands ≡ operand ∷ operands → MovesWithin style total state operand.target cut
+    → needed total (state_after style.suppress operand operands state.repetition cut) < needed total state
+fewer style total state {operand} {operands} cut is at =
+    rw is (fewer_by style total state operand operands cut at (has_more operand.times state.repetition))
 
 pub line_some : (suppress : Bool) (cut : ℕ) → cut ≤ line_after suppress cut
 line_some suppress cut = search rules
 
-ends_within : (bound : ℕ) (style : Style) (lines : List Line) (state : State) {operand : Operand}
-    {operands : List Operand} {ending : Ending} → state.operands ≡ operand ∷ operands
-    → attempt_to style lines state operand operands operand.target ≡ ends ending
-    → needed (length lines) state ≤ bound → plan_within bound style lines state ≡ so [] state ending
-ends_within bound style lines state is e enough = grind (arith, common_steps)
+-- a cut that stands within the lines moves on
+cut_moves : (style : Style) (lines : List Line) (state : State) (operand : Operand) (target : Target) {cut : CutPoint}
+    → CutsAt style lines state operand target cut → (1 ≤ cut.line) × (cut.line ≤ length lines + past_last style target)
+    → MovesWithin style (length lines) state target cut
+cut_moves style lines state operand (Number n) at within = search rules
+cut_moves style lines state operand (Search pattern kept offset) at within = search rules
+
+fewer_cut : {style : Style} {lines : List Line} {state : State} {cut : CutPoint} (its : IsCut style lines state cut)
+    → 1 ≤ cut.line → cut.line ≤ length lines + past_last style its.operand.target
+    → needed (length lines) (state_after style.suppress its.operand its.operands state.repetition cut)
+    < needed (length lines) state
+fewer_cut {style} {lines} {state} {cut} its some within = fewer style (length lines) state cut its.are
+    (cut_moves style lines state its.operand its.operand.target its.cuts (some, within))
+
+-- the run ends at once
+ends_now : (style : Style) (lines : List Line) (state : State) {ending : Ending} (bound : ℕ)
+    → attempt style lines state ≡ ends ending → 1 ≤ bound → plan_within bound style lines state ≡ ended state ending
+ends_now style lines state zero is some = absurd (omega arith)
+ends_now style lines state (suc bound) is some = rw (plan_within, is) refl
+
+module _ (style : Style) (lines : List Line) (state : State) {operand : Operand} {operands : List Operand}
+    (bound : ℕ) (is : state.operands ≡ operand ∷ operands) (enough : needed (length lines) state ≤ bound)
+    (cut : Option CutPoint) (at : CutsAs style lines state operand operand.target cut) where
+  ends_within : {ending : Ending} → attempt_at style (length lines) state operand operands cut ≡ ends ending
+      → plan_within bound style lines state ≡ ended state ending
+  ends_within e = ends_now style lines state bound (attempt_as style lines state cut is at ∙ e)
+      (let all : needed_by (length lines) state (operand ∷ operands) ≤ bound = rw is at enough in omega arith)
+
+-- the run makes a step
+module _ (style : Style) (lines : List Line) (state next : State) {step : Step}
+    (is : attempt style lines state ≡ goes step next)
+    (less : needed (length lines) next < needed (length lines) state) where
+  goes_within : (bound : ℕ) → needed (length lines) state ≤ bound → {plan : Plan}
+      → ((bound : ℕ) → needed (length lines) next ≤ bound → plan_within bound style lines next ≡ plan)
+      → plan_within bound style lines state ≡ after_steps (step ∷ []) plan
+  goes_within zero enough rest = absurd (omega arith)
+  goes_within (suc bound) enough rest = rw (plan_within, is) (ap (after_steps (step ∷ [])) (rest bound (omega arith)))
 
 -- any plan is the plan that is computed
-pub computed : {style : Style} {lines : List Line} {first : State} (all : List Step) (end : State) {how : Ending}
-    → Runs style lines first all end how
+pub computed : {style : Style} {lines : List Line} {first : State} {plan : Plan} → Runs style lines first plan
     → (bound : ℕ) → needed (length lines) first ≤ bound → 1 ≤ first.current
-    → plan_within bound style lines first ≡ so all end how
-computed all end (is_used_up state none) zero enough some = refl
-computed all end (is_used_up state none) (suc bound) enough some = search rules
-computed {style} {lines} all end (misses state operand operands is none) bound enough some =
-    search (rules, ends_within, attempt_missed)
-computed {style} {lines} all end (is_above state operand operands matched cut is at from far) bound enough some =
-    ends_within bound style lines state is
-    (grind (
-      arith,
-      common_steps,
-      (attempt_at_cut style lines state operand operands operand.target matched cut at),
-      less_test,
-      not_less_test,
-    )) enough
-computed {style} {lines} all end (is_below state operand operands matched cut is at low) bound enough some =
-    ends_within bound style lines state is
-    (grind (
-      arith,
-      common_steps,
-      (attempt_at_cut style lines state operand operands operand.target matched cut at),
-      less_test,
-    )) enough
-computed {lines} all end
-    (cuts state operand operands matched cut steps last ending is at from within rest) zero enough some = search rules
-computed {style} {lines} all end (cuts state operand operands matched cut steps last ending is at from within rest)
-    (suc bound) enough some =
-    (grind (
-      arith,
-      common_steps,
-      is,
-      (attempt_at_cut style lines state operand operands operand.target matched cut at),
-      not_less_test,
-    ))
-    ∙ ap (with_step (step_of state operand matched cut)) (computed steps last rest bound
-    (let less : needed (length lines) (state_after style.suppress operand operands state.repetition matched cut) <
-    needed
-    (length lines) state = search (rules, fewer) in omega arith)
-    (omega (arith, line_some style.suppress cut)))
+    → plan_within bound style lines first ≡ plan
+computed (is_used_up state none) zero enough some = refl
+computed (is_used_up state none) (suc bound) enough some = search rules
+computed {style} {lines} (misses state operand operands is none) bound enough some =
+    ends_within style lines state bound is enough None none refl
+computed {style} {lines} (is_above state cut its from far) bound enough some =
+    ends_within style lines state bound its.are enough (Some cut) its.cuts
+    (grind (arith, common_steps, less_test, not_less_test))
+computed {style} {lines} (is_below state cut its low) bound enough some =
+    ends_within style lines state bound its.are enough (Some cut) its.cuts
+    (grind (arith, common_steps, less_test))
+computed {style} {lines} (cuts state cut its from within plan rest) bound enough some =
+    goes_within style lines state _
+    (attempt_as style lines state (Some cut) its.are its.cuts ∙ (grind (arith, common_steps, not_less_test)))
+    (fewer_cut its (omega arith) within) bound enough
+    (λ bound enough. computed rest bound enough (omega (arith, line_some style.suppress cut.line)))
 
 -- An attempt agrees with the plan: it ends here, or any plan goes on after one more step, and there is less to do.
 abbrev Attempted : Style → List Line → State → PlannedAttempt → Type 0
-Attempted style lines state (ends ending) = Runs style lines state [] state ending
+Attempted style lines state (ends ending) = Runs style lines state (ended state ending)
 Attempted style lines state (goes step next) = (needed (length lines) next < needed (length lines) state)
-    × (1 ≤ next.current) × ((steps : List Step) (last : State) (ending : Ending)
-    → Runs style lines next steps last ending → Runs style lines state (step ∷ steps) last ending)
+    × (1 ≤ next.current)
+    × ((plan : Plan) → Runs style lines next plan → Runs style lines state (after_steps (step ∷ []) plan))
 
 module _ (style : Style) (lines : List Line) (state : State) (some : 1 ≤ state.current) where
-  attempted_at : {operand : Operand} {operands : List Operand} → state.operands ≡ operand ∷ operands → (matched cut : ℕ)
-      → CutsAt style lines state operand operand.target matched cut → (low far : Bool)
-      → nat_lt cut state.current ≡ low → nat_lt (length lines + past_last style operand.target) cut ≡ far
-      → Attempted style lines state
-      (cond low (ends (below operand state.repetition)) (cond far (ends (above operand state.repetition matched cut))
-      (goes (step_of state operand matched cut) (state_after style.suppress operand operands state.repetition matched
-      cut))))
-  attempted_at is matched cut at low far low_is far_is =
-      search (rules, is_above, is_below, cuts, fewer, line_some, from_less, from_not_less)
+  attempted_at : {cut : CutPoint} (its : IsCut style lines state cut) → (low far : Bool)
+      → nat_lt cut.line state.current ≡ low
+      → nat_lt (length lines + past_last style its.operand.target) cut.line ≡ far
+      → Attempted style lines state (cond low (ends (below its.operand state.repetition))
+      (cond far (ends (above its.operand state.repetition cut))
+      (goes (step_of state its.operand cut)
+      (state_after style.suppress its.operand its.operands state.repetition cut))))
+  attempted_at {cut} its true far low_is far_is = is_below state cut its (from_less _ _ low_is)
+  attempted_at {cut} its false true low_is far_is =
+      is_above state cut its (from_not_less _ _ low_is) (from_less _ _ far_is)
+  attempted_at {cut} its false false low_is far_is =
+      let from = from_not_less _ _ low_is in
+      let within = from_not_less _ _ far_is in (
+        fewer_cut its (omega arith) within,
+        omega (arith, line_some style.suppress cut.line),
+        λ plan rest. cuts state cut its from within plan rest,
+      )
 
-  attempted_from : {operand : Operand} {operands : List Operand} → state.operands ≡ operand ∷ operands
-      → {pattern' : Pattern} {kept : Bool} (offset : Offset) → operand.target ≡ Search pattern' kept offset
-      → (matched : Option ℕ) → MatchesAs operand lines (search_line style.suppress state) matched
-      → Attempted style lines state (attempt_from style (length lines) state operand operands offset matched)
-  attempted_from is offset target None none = misses state _ _ is
-      (search rules)
-  attempted_from is offset target (Some matched) first = search (rules, attempted_at)
-
-  attempted_to : {operand : Operand} {operands : List Operand} → state.operands ≡ operand ∷ operands → (target : Target)
-      → operand.target ≡ target
-      → Attempted style lines state (attempt_to style lines state operand operands target)
-  attempted_to is (Number n) target = search (rules, attempted_at)
-  attempted_to is (Search pattern' kept offset) target = search (rules, attempted_from, first_match_as, search_some)
+  attempted_as : {operand : Operand} {operands : List Operand} → state.operands ≡ operand ∷ operands
+      → (cut : Option CutPoint) → CutsAs style lines state operand operand.target cut
+      → Attempted style lines state (attempt_at style (length lines) state operand operands cut)
+  attempted_as is None none = misses state _ _ is none
+  attempted_as {operand} {operands} is (Some cut) at =
+      attempted_at (record { operand = operand; operands = operands; are = is; cuts = at }) _ _ refl refl
 
   attempted_of : (operands : List Operand) → state.operands ≡ operands
       → Attempted style lines state (attempt_of style lines state operands)
   attempted_of [] is = is_used_up state is
-  attempted_of (operand ∷ operands) is = attempted_to is operand.target refl
+  attempted_of (operand ∷ operands) is = attempted_as is _ (cut_as style lines state operand operand.target)
 
 none_by : (style : Style) (lines : List Line) (state : State) (operands : List Operand) → state.operands ≡ operands
-    → needed_by (length lines) state operands ≤ 0 → RunsAs style lines state (ended state used_up)
+    → needed_by (length lines) state operands ≤ 0 → Runs style lines state (ended state used_up)
 none_by style lines state [] is enough = is_used_up state is
 none_by style lines state (operand ∷ operands) is enough = search rules
 
 runs : (bound : ℕ) (style : Style) (lines : List Line) (state : State) → needed (length lines) state ≤ bound
-    → 1 ≤ state.current → RunsAs style lines state (plan_within bound style lines state)
+    → 1 ≤ state.current → Runs style lines state (plan_within bound style lines state)
 runs zero style lines state enough some = search (rules, none_by)
 runs (suc bound) style lines state enough some =
     (elim (attempt style lines state) as (λ attempt. Attempted style lines state attempt
-    → RunsAs style lines state (after bound style lines state attempt)) [
+    → Runs style lines state (after bound style lines state attempt)) [
       | ends ending ↦ λ is. is
-      | goes step next ↦ λ is. is.2 _ _ _ (runs bound style lines next (omega arith) is.1)
+      | goes step next ↦ λ is. is.2 _ (runs bound style lines next (omega arith) is.1)
     ]) (search (rules, attempted_of))
 
 pub runs_on : (style : Style) (lines : List Line) (state : State) → 1 ≤ state.current
-    → RunsAs style lines state (plan_within (needed (length lines) state) style lines state)
+    → Runs style lines state (plan_within (needed (length lines) state) style lines state)
 runs_on style lines state some = search (rules, runs)
 
 enough_at_start : (total : ℕ) (operands : List Operand) → needed total (start operands) ≤ length operands * (total + 1)
 enough_at_start total operands = omega (arith, fewer_operands total (start operands) operands)
 
 pub plan_runs : (style : Style) (operands : List Operand) (lines : List Line)
-    → RunsAs style lines (start operands) (plan style operands lines)
+    → Runs style lines (start operands) (plan style operands lines)
 plan_runs style operands lines = search (rules, runs, enough_at_start)
 
-pub plan_once : {style : Style} {operands : List Operand} {lines : List Line} {steps : List Step} {last : State}
-    {ending : Ending} → Runs style lines (start operands) steps last ending
-    → plan style operands lines ≡ so steps last ending
+pub plan_once : {style : Style} {operands : List Operand} {lines : List Line} {other : Plan}
+    → Runs style lines (start operands) other → plan style operands lines ≡ other
 plan_once is = search (rules, computed, enough_at_start)
 
 -- The cuts over some lines are cuts over more lines, too
 
 pub cuts_still : (style : Style) (a b : List Line) (state : State) (operand : Operand) (target : Target)
-    (matched cut : ℕ) → CutsAt style a state operand target matched cut
-    → CutsAt style (a ++ b) state operand target matched cut
-cuts_still style a b state operand target matched cut at = grind (arith, common_steps)
+    (cut : CutPoint) → CutsAt style a state operand target cut → CutsAt style (a ++ b) state operand target cut
+cuts_still style a b state operand target cut at = grind (arith, common_steps)
 
-pub goes_on : {style : Style} {a : List Line}
-    (b : List Line) {first : State} {steps : List Step} {last : State} {ending : Ending}
-    (more : List Step) (end : State) {how : Ending} → Runs style a first steps last ending
-    → Runs style (a ++ b) last more end how
-    → Runs style (a ++ b) first (steps ++ more) end how
-goes_on {style} {a} b more end {how}
-    (cuts state operand operands matched cut steps' last' ending' is at from within rest') rest =
-    cuts state operand operands matched cut (steps' ++ more) end how is
-    (search (rules, cuts_still)) from
-    (omega (arith, within, length-append a b))
-    (goes_on b more end rest' rest)
-goes_on b more end run rest = rest
+abbrev pub cut_still : {style : Style} {a : List Line} (b : List Line) {state : State} {cut : CutPoint}
+    → IsCut style a state cut → IsCut style (a ++ b) state cut
+cut_still {style} {a} b {state} {cut} its = record {
+  operand = its.operand;
+  operands = its.operands;
+  are = its.are;
+  cuts = cuts_still style a b state its.operand its.operand.target cut its.cuts;
+}
+
+pub goes_on : {style : Style} {a : List Line} (b : List Line) {first : State} {plan more : Plan}
+    → Runs style a first plan → Runs style (a ++ b) plan.last more
+    → Runs style (a ++ b) first (after_steps plan.steps more)
+goes_on {a = a} b {more = more} (cuts state cut its from within plan run) rest =
+    cuts state cut (cut_still b its) from (omega (arith, within, length-append a b)) (after_steps plan.steps more)
+    (goes_on b run rest)
+goes_on b run rest = rest

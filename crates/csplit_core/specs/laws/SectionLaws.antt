@@ -14,17 +14,7 @@ use Rattle.ports_core.{
   },
   proofs.ShareLemmas.{made_begin, part_grows, shares_wider},
 }
-use Rattle.csplit_core.specs.{
-  Operand.{Operand, Line},
-  Plan.{State, Step, Ending, below, Runs, is_used_up, misses, is_above, is_below, cuts},
-  Planned.plan,
-  Section.{Section, section, section_of, lines_between, bytes_of, is_last_kept, whole_end, settled_end, sections_by},
-  Section.settled_sections,
-  Output.{Style, manner_of, opening_of, file_in, state_in, shares_in, part_of},
-  Csplit.{settled_of, whole_of},
-  laws.PlanLaws.{line_some, past_near, goes_on, runs_on, plan_runs, plan_once},
-  inner.PlanLaws.{EndsAs, AreWithin, Next, Covers, Grow, GoesOn, CutsFrom},
-}
+use Rattle.csplit_core.specs.{Operand.{Operand, Line}, Plan.{State, Step, Ending, Plan, Runs, is_used_up, misses, is_above, is_below, cuts}, Planned.plan, Section.{Section, section, section_of, lines_between, bytes_of, is_last_kept, whole_end, settled_end}, Section.{sections_to, settled_sections}, Output.{Style, manner_of, opening_of, file_in, state_in, shares_in, part_of}, Csplit.{settled_of, whole_of}, laws.PlanLaws.{line_some, past_near, goes_on, runs_on, plan_runs, plan_once}, inner.PlanLaws.{EndsAs, AreWithin, Next, Grow, GoesOn, CutsFrom}}
 
 -- Stretches of lines
 
@@ -52,18 +42,17 @@ between_grows first past more a b some within (inr less) =
       sym (search rules),
     )
 
-pub ends_as : {style : Style} {lines : List Line} {first : State} {steps : List Step} {last : State} {ending : Ending}
-    → Runs style lines first steps last ending → EndsAs style lines last ending
+pub ends_as : {style : Style} {lines : List Line} {first : State} {plan : Plan} → Runs style lines first plan
+    → EndsAs style lines plan.last plan.ending
 ends_as (is_used_up state none) = none
 ends_as (misses state operand operands is none) = (operands, is, none, refl)
-ends_as (is_above state operand operands matched cut is at from far) = (operands, is, at, from, far, refl)
-ends_as (is_below state operand operands matched cut is at low) = search rules
-ends_as (cuts state operand operands matched cut steps' last' ending' is at from within rest) = ends_as rest
+ends_as (is_above state cut its from far) = (its.operands, its.are, its.cuts, from, far, refl)
+ends_as (is_below state cut its low) = (its.operands, cut, its.are, its.cuts, low, refl)
+ends_as (cuts state cut its from within plan rest) = ends_as rest
 
-pub are_within : {style : Style} {lines : List Line} {first : State} {steps : List Step} {last : State}
-    {ending : Ending} → Runs style lines first steps last ending → 1 ≤ first.current
-    → AreWithin (length lines) steps × (1 ≤ last.current)
-are_within {style} (cuts state operand operands matched cut steps' last' ending' is at from within rest) some =
+pub are_within : {style : Style} {lines : List Line} {first : State} {plan : Plan} → Runs style lines first plan
+    → 1 ≤ first.current → AreWithin (length lines) plan.steps × (1 ≤ plan.last.current)
+are_within {style} (cuts state cut its from within plan rest) some =
     search (rules, line_some, past_near, are_within rest)
 are_within run some = (tt, some)
 
@@ -72,21 +61,20 @@ pub closed_still : (a b : List Line) (steps : List Step) → AreWithin (length a
 closed_still a b [] within = refl
 closed_still a b (step ∷ steps) within = search (rules, between_still, closed_still a b steps within.3)
 
-next_by : (a b : List Line) (current past more : ℕ) {kept : Bool}
-    (closed : Bool) {other_kept : Bool} {rest : List Section} → 1 ≤ current
-    → past ≤ length a + 1 → (past ≤ more) ⊎ (past ≤ current) → kept ≡ other_kept
-    → Next (section kept false (lines_between current past a))
-    (section other_kept closed (lines_between current more (a ++ b)) ∷ rest)
-next_by a b current past more {kept} closed {other_kept} {rest} some within less same =
-    let grown = between_grows current past more a b some within less in
-    record {
-      other = section other_kept closed (lines_between current more (a ++ b));
-      more = rest;
-      are = refl;
-      kept = same;
-      rest = grown.0;
-      lines = grown.1;
-    }
+-- the open section goes on over more lines
+module _ (a b : List Line) {first past : ℕ} (some : 1 ≤ first) (within : past ≤ length a + 1) where
+  next_by : {kept other_kept : Bool} {closed : Bool} {more : ℕ} {rest : List Section}
+      → (past ≤ more) ⊎ (past ≤ first) → kept ≡ other_kept
+      → Next (section kept false (lines_between first past a))
+      (section other_kept closed (lines_between first more (a ++ b)) ∷ rest)
+  next_by {more = more} less same = let grown = between_grows first past more a b some within less in record {
+    other = _;
+    more = _;
+    are = refl;
+    kept = same;
+    rest = grown.0;
+    lines = grown.1;
+  }
 
 -- what is settled stands before the cut of the next operand over more lines
 pub cuts_from : (style : Style) (a b : List Line) (state : State) (ending : Ending) {operands : List Operand}
@@ -97,51 +85,47 @@ cuts_from style a b state ending ends are = grind (arith, common_steps)
 pub settled_most : (total : ℕ) (ending : Ending) → settled_end total ending ≤ total + 1
 settled_most total ending = search rules
 
-next_of : {style : Style} (closed : Bool) (end_of : ℕ → Ending → ℕ) → Covers end_of
-    → (a b : List Line) {last : State} (ending : Ending) → 1 ≤ last.current → EndsAs style a last ending
-    → (more : List Step) (end : State) {how : Ending} → Runs style (a ++ b) last more end how
-    → Next (section (is_last_kept ending) false (lines_between last.current (settled_end (length a) ending) a))
-    (sections_by closed end_of (a ++ b) (record { steps = more; last = end; ending = how }))
-next_of closed end_of covers a b ending some ends more end (is_used_up state none) = grind
-    (arith, common_steps, next_by, settled_most, cuts_from)
-next_of closed end_of covers a b ending some ends more end (misses state operand operands are none) = grind
-    (arith, common_steps, cuts_from, next_by, settled_most)
-next_of {style} closed end_of covers a b ending some ends more end
-    (is_above state operand operands matched cut are at from far) =
-    search (rules, next_by, settled_most, length-append, cuts_from)
-next_of {style} closed end_of covers a b ending some ends more end
-    (is_below state operand operands matched cut are at low) =
-    let so = cuts_from style a b state ending ends are in
-    next_by a b state.current (settled_end (length a) ending)
-    (end_of (length (a ++ b)) (below operand state.repetition)) closed some
-    (settled_most (length a) ending) (search rules) so.0
-next_of {style} closed end_of covers a b ending some ends more end
-    (cuts state operand operands matched cut steps' last' ending' are at from in_lines rest) = search
-    (rules, next_by, settled_most, (cuts_from style a b state ending ends are))
-
-sections_grow : {style : Style} (closed : Bool) (end_of : ℕ → Ending → ℕ) → Covers end_of
-    → {a : List Line} (b : List Line) {first : State} {steps : List Step} {last : State} {ending : Ending}
-    (more : List Step)
-    (end : State) {how : Ending} → 1 ≤ first.current → Runs style a first steps last ending
-    → Runs style (a ++ b) last more end how
-    → Grow (settled_sections a (record { steps = steps; last = last; ending = ending }))
-    (sections_by closed end_of (a ++ b) (record { steps = steps ++ more; last = end; ending = how }))
-sections_grow closed end_of covers b more end some runs_a rest =
-    grind (arith, common_steps, are_within, map-append, closed_still, next_of, ends_as)
+module _ {style : Style} (a b : List Line) {last : State} (ending : Ending) (some : 1 ≤ last.current)
+    (ends : EndsAs style a last ending) where
+  next_of : (closed : Bool) (end : ℕ) {plan : Plan} → Runs style (a ++ b) last plan
+      → settled_end (length (a ++ b)) plan.ending ≤ end
+      → Next (section (is_last_kept ending) false (lines_between last.current (settled_end (length a) ending) a))
+      (sections_to closed end (a ++ b) plan)
+  next_of closed end (is_used_up state none) covers =
+      let so = cuts_from style a b last ending ends none in
+      next_by a b some (settled_most (length a) ending)
+      (inl (omega (arith, settled_most (length a) ending, length-append a b))) so
+  next_of closed end (misses state operand operands are none) covers =
+      let so = cuts_from style a b last ending ends are in
+      next_by a b some (settled_most (length a) ending) (inl (omega (arith, so.2 none))) so.0
+  next_of closed end (is_above state cut its from far) covers =
+      let so = cuts_from style a b last ending ends its.are in
+      next_by a b some (settled_most (length a) ending)
+      (inl (omega (arith, settled_most (length a) ending, length-append a b))) so.0
+  next_of closed end (is_below state cut its low) covers =
+      let so = cuts_from style a b last ending ends its.are in
+      next_by a b some (settled_most (length a) ending) (inr (omega (arith, so.1 cut its.cuts))) so.0
+  next_of closed end (cuts state cut its from within plan rest) covers =
+      let so = cuts_from style a b last ending ends its.are in
+      next_by a b some (settled_most (length a) ending) (inl (so.1 cut its.cuts)) so.0
 
 pub plan_goes_on : {style : Style} (operands : List Operand) (a b : List Line) → GoesOn style operands a b
 plan_goes_on {style} operands a b =
     let here = plan_runs style operands a in
     let rest = runs_on style (a ++ b) (plan style operands a).last (are_within here (omega arith)).1 in
-    record { more = _; end = _; how = _; rest = rest; is = plan_once (goes_on b _ _ here rest) }
+    record { more = _; rest = rest; is = plan_once (goes_on b here rest) }
 
-pub plan_grows : (style : Style) (closed : Bool) (end_of : ℕ → Ending → ℕ) → Covers end_of
-    → (operands : List Operand) (a b : List Line)
+pub plan_grows : (style : Style) (closed : Bool) (operands : List Operand) (a b : List Line) (end : ℕ)
+    → settled_end (length (a ++ b)) (plan style operands (a ++ b)).ending ≤ end
     → Grow (settled_sections a (plan style operands a))
-    (sections_by closed end_of (a ++ b) (plan style operands (a ++ b)))
-plan_grows style closed end_of covers operands a b =
+    (sections_to closed end (a ++ b) (plan style operands (a ++ b)))
+plan_grows style closed operands a b end covers =
+    let here = plan_runs style operands a in
     let goes = plan_goes_on {style = style} operands a b in
-    rw goes.is (sections_grow closed end_of covers b _ _ (omega arith) (plan_runs style operands a) goes.rest)
+    let inside = are_within here (omega arith) in
+    let next = next_of a b (plan style operands a).ending inside.1 (ends_as here) closed end goes.rest
+    (rw goes.is at covers) in
+    rw goes.is (grind (arith, common_steps, map-append, closed_still, inside, next))
 
 -- What is written grows with the sections
 
@@ -159,10 +143,10 @@ may_end false = refl
 
 -- what is written of sections grows if the last section goes on, and perhaps ends
 pub section_grows : (style : Style) (front : List Section) (begun other : Section) (more : List Section)
-    → begun.is_closed ≡ false → begun.is_kept ≡ other.is_kept → (rest : List ℕ)
-    → bytes_of other.lines ≡ bytes_of begun.lines ++ rest
+    → begun.is_closed ≡ false → begun.is_kept ≡ other.is_kept
+    → (rest : List ℕ) × (bytes_of other.lines ≡ bytes_of begun.lines ++ rest)
     → Begins (part_of style (front ++ begun ∷ [])) (part_of style (front ++ other ∷ more))
-section_grows style front begun other more is_open kept rest bytes =
+section_grows style front begun other more is_open kept (rest, bytes) =
     subst (λ those. Begins (part_by (manner_of style) those) (part_of style (front ++ other ∷ more)))
     (search (rules, shares-append, last))
     (rw (← shares-append style front (other ∷ more)) at
@@ -178,20 +162,17 @@ pub parts_grow : (style : Style) {low high : List Section} → Grow low high
     → Begins (part_of style low) (part_of style high)
 parts_grow style grow =
     rw (grow.low_is, grow.high_is, grow.next.are) (section_grows style grow.front grow.begun grow.next.other
-    grow.next.more grow.is_open grow.next.kept (bytes_of grow.next.rest)
-    (search (rules, bytes-append)))
+    grow.next.more grow.is_open grow.next.kept (bytes_of grow.next.rest, (search (rules, bytes-append))))
 
-pub settled_covers : Covers settled_end
-settled_covers total ending = omega arith
-
-pub whole_covers : Covers whole_end
-whole_covers total ending = search rules
+pub whole_covers : (total : ℕ) (ending : Ending) → settled_end total ending ≤ whole_end total ending
+whole_covers total ending = omega arith
 
 -- The two laws of what is settled: it only grows, and what is written at the end begins with it.
 pub grows : (style : Style) (operands : List Operand) (a b : List Line)
     → Begins (settled_of style operands a) (settled_of style operands (a ++ b))
-grows style operands a b = search (rules, parts_grow, plan_grows, settled_covers)
+grows style operands a b = parts_grow style (plan_grows style false operands a b _ (omega arith))
 
 pub ends_with : (style : Style) (operands : List Operand) (a b : List Line)
     → Begins (settled_of style operands a) (whole_of style operands (a ++ b))
-ends_with style operands a b = search (rules, parts_grow, plan_grows, whole_covers)
+ends_with style operands a b =
+    parts_grow style (plan_grows style true operands a b _ (whole_covers (length (a ++ b)) _))

@@ -2,7 +2,7 @@
 use Rattle.std.specs.Prelude.{◌≡◌, ℕ, List, [], ◌∷◌, Some, None}
 use Rattle.operand_core.specs.{Operand.{Target, Number, Search, Times, Count}, Word.spelling, Reading.times_by}
 
-abbrev pub least_by : ℕ → Target → ℕ
+abbrev pub least_by : (least : ℕ) → Target → ℕ
 least_by least (Number n) = n
 least_by least (Search pattern kept offset) = least
 

@@ -13,7 +13,7 @@ use Rattle.split_core.proofs.chunk_laws.chunks_agree.Goals as goal
 
 pub returns : goal.returns
 returns c = record {
-  outputs = λ plan said x some quiet named fits. chunks_agreed plan said x some named fits quiet;
+  outputs = λ plan said x some named quiet fits. chunks_agreed plan said x some named fits quiet;
   files = files_agreed;
   made = chunks_made;
   waits = chunks_wait;

@@ -8,23 +8,23 @@ use Rattle.csplit_core.proofs.line_cutter.LineCutter.cut_at.Goals as goal
 
 pub returns-in_err-put-clause-err : goal.returns-in_err-put-clause-err
 returns-in_err-put-clause-err g c = fault_is _ _ _ c.from_residual.ensures.1
-    (λ line. cut_put_stopped c.requires.fit c.requires.cuts c.saturating_sub.ensures c.split_lines.ensures.first line refl refl c.in_err-put.ensures.goes)
+    (λ line. cut_put_stopped c.requires.fit c.requires.cuts c.saturating_sub.ensures c.split_lines.ensures.first refl refl c.in_err-put.ensures.goes)
 
 pub returns-in_err-pass-clause-err : goal.returns-in_err-pass-clause-err
 returns-in_err-pass-clause-err g c = fault_is _ _ _ c.from_residual-in_err-pass.ensures.1
     (λ line. let lacks = c.in_err-pass.ensures in
-    cut_put_stopped c.requires.fit c.requires.cuts c.saturating_sub.ensures c.split_lines.ensures.first line lacks.2 lacks.3
+    cut_put_stopped c.requires.fit c.requires.cuts c.saturating_sub.ensures c.split_lines.ensures.first lacks.2 lacks.3
     (rw (← lacks.1) at (goes_or_lacks (Err _) c.in_ok-put.ensures.goes lacks.0)))
 
 pub returns-in_err-next-clause-err : goal.returns-in_err-next-clause-err
 returns-in_err-next-clause-err g c = fault_is _ _ _ c.from_residual-in_err-next.ensures.1
-    (λ line. cut_next_stopped c.requires.fit c.requires.cuts c.saturating_sub.ensures c.split_lines.ensures.first line
+    (λ line. cut_next_stopped c.requires.fit c.requires.cuts c.saturating_sub.ensures c.split_lines.ensures.first
     c.in_ok-put.ensures.goes c.in_ok-pass.ensures (c.opening_of-opening.ensures
     ∙ ap (λ (s : Style). opening_of s c.is_kept-is_kept.result) c.style-style.ensures
     ∙ ap (opening_of c.pass.new.self.style) (c.is_kept-is_kept.ensures ∙ ap kept_next c.next_operand.ensures)) c.in_err-next.ensures.goes)
 
 pub returns-clause-ok : goal.returns-clause-ok
-returns-clause-ok g c =
+returns-clause-ok g c line =
     let suppress = ap (λ (s : Style). s.suppress) (c.style.view_is ∙ c.style-style.ensures
     ∙ ap (λ (cutter : CutterState). cutter.style) c.in_ok-pass.ensures.same) in
     cut_done c.split_lines.result.1.now c.requires.fit c.requires.cuts c.saturating_sub.ensures c.split_lines.ensures.first c.split_lines.ensures.rest

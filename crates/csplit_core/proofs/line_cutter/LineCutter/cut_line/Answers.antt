@@ -7,7 +7,7 @@ use Rattle.csplit_core.proofs.line_cutter.LineCutter.cut_line.Goals as goal
 
 pub returns-in_err-waiting : goal.returns-in_err-waiting
 returns-in_err-waiting g c = rw (handed_on _ _ c.from_residual.ensures.1)
-    (cut_put_stopped c.requires.fit c.requires.cuts refl refl c.args.line.now refl refl
+    (cut_put_stopped c.requires.fit c.requires.cuts refl refl refl refl
     (goes_lacking c.requires.ready c.in_err-waiting.ensures.err))
 
 pub slice_bounds-count_delimiters-count : goal.slice_bounds-count_delimiters-count

@@ -7,7 +7,7 @@ pub returns-in_err-left-clause-err : goal.returns-in_err-left-clause-err
 returns-in_err-left-clause-err g c = fault_is _ _ _ c.from_residual.ensures.1 (c.in_err-left.ensures.err c.args.line.now)
 
 pub loop-cut-init : goal.loop-cut-init
-loop-cut-init g c = c.in_ok-left.ensures.ok.spreading c.args.line.now
+loop-cut-init g c = (c.in_ok-left.ensures.ok c.args.line.now).spreading
 
 pub try_last-requires-clause-few : goal.try_last-requires-clause-few
 try_last-requires-clause-few g c = omega arith
@@ -23,10 +23,10 @@ returns-in_err-left-2-clause-err g c = fault_is _ _ _ c.from_residual-in_err-lef
     (spread_stopped c.loop-cut.invariant c.try_last.ensures.same c.in-Some.ensures.tries c.in-Some.ensures.cuts (c.in_err-left-2.ensures.err c.args.line.now))
 
 pub loop-cut-smaller : goal.loop-cut-smaller
-loop-cut-smaller g c = search rules
+loop-cut-smaller g c = let one = c.in_ok-left-2.ensures.ok c.args.line.now in search (rules, one.fewer)
 
 pub loop-cut-preserved : goal.loop-cut-preserved
-loop-cut-preserved g c = spread_more c.loop-cut.invariant c.try_last.ensures.same c.in-Some.ensures.tries c.in-Some.ensures.cuts c.in_ok-left-2.ensures.ok
+loop-cut-preserved g c = spread_more c.loop-cut.invariant c.try_last.ensures.same c.in-Some.ensures.tries c.in-Some.ensures.cuts (c.in_ok-left-2.ensures.ok c.args.line.now)
 
 pub returns-clause-ok : goal.returns-clause-ok
 returns-clause-ok g c = search rules

@@ -17,7 +17,7 @@ returns-else-self-past_last-clause-tries c x whole live =
     let both = above_cuts (all_lines x) (marked c.args.line.now) live.ends.ending (lines_are live) (ends_as live.ends.runs)
     (rw c.in-Above.is at live.ends.aims) (omega (arith, c.past_last.ensures, c.if-self-past_last.false)) (omega (arith, c.requires.few)) in (
       rw (all_lines-line c.args.line.now whole c.requires.line) both.0,
-      omega (arith, both.1, search_past c.args.self.now.style.suppress (record { matched = c.in-Above.matched; line = c.in-Above.line })),
+      omega (arith, both.1, search_past c.args.self.now.style.suppress c.in-Above.cut),
     )
 
 pub returns-in-Missed-clause-tries : goal.returns-in-Missed-clause-tries

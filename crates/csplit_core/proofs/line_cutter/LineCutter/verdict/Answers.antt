@@ -9,7 +9,7 @@ pub returns-in-Missed : goal.returns-in-Missed
 returns-in-Missed c x judged = judged_next c.in_ok-operand.ensures.lookup.3.0 c.in_ok-operand.ensures.lookup.1 c.in-Missed.is c.verdict_of_miss.ensures judged
 
 pub returns-in-Above : goal.returns-in-Above
-returns-in-Above c x judged = judged_next c.in_ok-operand.ensures.lookup.3.0 c.in_ok-operand.ensures.lookup.1 c.in-Above.is (c.verdict_of_range.ensures 0 0) judged
+returns-in-Above c x judged = judged_next c.in_ok-operand.ensures.lookup.3.0 c.in_ok-operand.ensures.lookup.1 c.in-Above.is (c.verdict_of_range.ensures (record { matched = 0; line = 0 })) judged
 
 pub returns-in-Below : goal.returns-in-Below
 returns-in-Below c x judged = judged_next c.in_ok-operand.ensures.lookup.3.0 c.in_ok-operand.ensures.lookup.1 c.in-Below.is refl judged

@@ -27,14 +27,14 @@ returns-then-not-found-clause-says c lines seen =
 pub returns-in-Number-clause-says : goal.returns-in-Number-clause-says
 returns-in-Number-clause-says c lines seen = falls c.args.style.now lines
     (left_is c.args.operands.now c.args.self.now.done c.in-Some.ensures.lookup.3.0 c.in-Some.ensures.lookup.1) seen
-    c.args.self.now.matched (c.in-Number.number * (c.args.self.now.repetition + 1)) (rw c.in-Number.is (refl, refl))
-    c.saturating_mul-cut.ensures (rw c.past_last.ensures refl)
+    (record { matched = c.args.self.now.matched; line = c.in-Number.number * (c.args.self.now.repetition + 1) }) _
+    (rw c.in-Number.is (refl, refl)) (rw c.saturating_mul-line.ensures refl) (rw c.past_last.ensures refl)
     (omega (arith, c.past_last.ensures, past_near c.args.style.now c.in-Some.operand.now.target)) c.requires.current c.fall.result c.fall.ensures
 
 pub returns-else-not-found-clause-says : goal.returns-else-not-found-clause-says
 returns-else-not-found-clause-says c lines seen = falls_search c.args.style.now lines
     (left_is c.args.operands.now c.args.self.now.done c.in-Some.ensures.lookup.3.0 c.in-Some.ensures.lookup.1) seen
-    c.in-Search.offset c.in-Search.is
+    c.in-Search.offset _ c.in-Search.is
     (omega (arith, rw (ap (λ (s : Style). s.suppress) c.style.view_is) at (c.search_line.ensures c.args.operands.now))) c.if-not-found.false
-    c.line_at.ensures (rw c.past_last.ensures refl)
+    (rw c.line_at-line.ensures refl) (rw c.past_last.ensures refl)
     (omega (arith, c.past_last.ensures, past_near c.args.style.now c.in-Some.operand.now.target)) c.requires.current c.fall-in-Search.result c.fall-in-Search.ensures
