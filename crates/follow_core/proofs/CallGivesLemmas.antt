@@ -6,7 +6,7 @@ use Rattle.std.proofs.{
   Common.rules,
 }
 use Rattle.ports_core.{
-  specs.{Slot.{Slot, is_open, changed_at}, declared.fault.Fault.Fault},
+  specs.{Slot.{Slot, is_open, changed_at}, declared.{fault.Fault.Fault, reason.Reason.Reason}},
   proofs.{InputsLemmas.changed_elsewhere, SlotLemmas.{changed_at-again, length-changed_at, changed_there}},
 }
 use Rattle.follow_core.specs.{
@@ -18,10 +18,11 @@ use Rattle.follow_core.specs.{
   inner.Visits.KeepsOthers,
   Reading.{AreRead, IsLong, Saw, none_read, one_more, read_all, read_part, read_some},
   Event.{begins_none, Event, bytes_in, gives},
-  Look.{Fate, sound, unread, failed_by},
+  Look.{Fate, call_of, sound, unread},
+  Telling.Remark,
 }
 use Rattle.follow_core.proofs.{
-  EventLemmas.{begins_after, begins_bytes, bytes-append, lines-append},
+  EventLemmas.{begins_after, begins_bytes, bytes-append, remarks-append},
   CallLemmas.{tells_state, came_none, came_after, puts_after, puts_nothing},
 }
 use Rattle.watch_core.{
@@ -74,7 +75,7 @@ module _ {told is_opened : Bool} {fate : Fate} {name : List ℕ} where
   gives_both {Two = Two} {Both} {stop = stop} join one two = record {
     events = one.events ++ two.events;
     given = by stop two.events two.given;
-    came = rw (bytes-append one.events two.events, lines-append name one.events two.events)
+    came = rw (bytes-append one.events two.events, remarks-append name one.events two.events)
         (came_after one.came two.came);
   } where
     by : (stop : Option Stop) (events : List Event) → ByStop Two fate stop events
@@ -84,9 +85,9 @@ module _ {told is_opened : Bool} {fate : Fate} {name : List ℕ} where
     by (Some (Over why)) events (all, is, begins) =
         (one.events ++ all, join None one.events all one.given is, begins_after one.events begins)
 
-fails_not : {fate : Fate} → is_some (failed_by fate None) ≡ true → Some fate ≡ Some sound → ⊥
+fails_not : {fate : Fate} → is_some (call_of fate) ≡ true → Some fate ≡ Some sound → ⊥
 fails_not {fate} broke is = let same : fate ≡ sound = cc in
-    false≢true (subst (λ those. is_some (failed_by those None) ≡ true) same broke)
+    false≢true (subst (λ those. is_some (call_of those) ≡ true) same broke)
 
 -- a stop of the first of two steps stops both
 pub gives_early : {told is_opened : Bool} {One Both : Option Fate → List Event → Type 0} {fate : Fate} {name : List ℕ}
@@ -186,7 +187,7 @@ use_after told text output error others new (Some (Broke why)) is can = search r
 use_after told text output error others new (Some (Over why)) (short_broke n part) can = grind (arith, common_steps)
 use_after told text output error others new (Some (Over why)) (no_room n within is) can = grind (arith, common_steps)
 
-came_can : {told is_opened : Bool} {name bytes : List ℕ} {lines : List (List ℕ)} {old new : Pen} (stop : Option Stop)
+came_can : {told is_opened : Bool} {name bytes : List ℕ} {lines : List Remark} {old new : Pen} (stop : Option Stop)
     → Came told is_opened name bytes lines old new (over_by stop) → CanPrint old.slots → CanGoOn stop new.slots
 came_can {told} {lines = lines} {old = old} {new} stop came can = by old.slots refl can where
   by : (slots : List Slot) → old.slots ≡ slots → CanPrint slots → CanGoOn stop new.slots
@@ -238,7 +239,7 @@ none_of (Some x) is = cc
 
 -- a call failed on the names as they were, and broke one
 pub broke_at : {place : ℕ} {old now new : List Watched} {fate : Fate} {why : Fault} (how : Option ℕ → Broken)
-    → failed_by fate None ≡ Some (how (watched_at old place).opened)
+    → call_of fate ≡ Some (how (watched_at old place).opened)
     → now ≡ old → why ≡ fault_by place fate → NameBreaks how place now new → BrokeAt place old new fate why
 broke_at {place} {old} {fate} how is same fault (reason, broken) = record {
   broke = ap is_some is;
@@ -246,6 +247,16 @@ broke_at {place} {old} {fate} how is same fault (reason, broken) = record {
   reason = reason;
   names = rw (broken, same, is) (sym (broke_so reason old place how refl));
 }
+
+-- the reason that the watch has for the name
+pub broke_why : {place : ℕ} {old new : List Watched} {fate : Fate} {fault : Fault} {why : Reason}
+    → IsTrue (is_watchable old place) → (broke : BrokeAt place old new fate fault)
+    → (is_some (watched_at new place).failed ≡ true → why ≡ (watched_at new place).reason) → why ≡ broke.reason
+broke_why {place} {old} {new} {fate} can broke told =
+    told (ap (λ (w : Watched). is_some w.failed) there ∙ broke.broke) ∙ ap (λ (w : Watched). w.reason) there where
+      there : watched_at new place
+          ≡ record (watched_at old place) { opened = None; failed = call_of fate; reason = broke.reason }
+      there = rw broke.names (changed_there no_name place _ old (watchable_within old place can))
 
 -- a file was opened, and then a call on it kept the names or broke this name: that is one call that follows the name
 pub follows_from : {told : Bool} {led file : Option ℕ} (place : ℕ) (old : List Watched) {mid : List Watched}

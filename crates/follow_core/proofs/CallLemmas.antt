@@ -1,74 +1,51 @@
 -- Lemmas on what a call on a name gives, by what the calls in it give: bytes under headers, and lines.
 use Rattle.std.proofs.{
   lemmas.{Grind.common_steps, List.{append-nil, take-append-le}},
-  Common.{◌≡◌, ℕ, Bool, List, [], ◌∷◌, ◌++◌, inl, inr, ◌⊎◌, ◌∙◌, ◌+◌, length, take, true, false, not, codes},
+  Common.{◌≡◌, ℕ, Bool, List, [], ◌∷◌, ◌++◌, ◌∙◌, ◌+◌, length, take, true, false, not},
   Common.{if◌then◌else◌, Some, None, Option, refl, arith, append_assoc, length-append, bytes_eq, is_none, rules},
   Math.{Seq.take-append-add, Bool.and-false},
 }
 use Rattle.ports_core.specs.{
   Slot.{Slot, with_written, told_of},
   Message.{OnError, SaysOn},
-  Text.{line_of, message_of, header_of},
-  Reason.is_endless,
-  declared.{calling.Calling.{Calling, TheVariants.{Cutters, OwnName}}, reason.Reason.Reason, fault.Fault.Fault},
+  Text.header_of,
+  declared.{calling.Calling.Calling, reason.Reason.Reason, fault.Fault.Fault},
 }
 use Rattle.ports_core.proofs.{MessageLemmas.printed_open, WriteLemmas.{broke_later, none_written, written_both}}
 use Rattle.follow_core.specs.{
   Sharing.{CameTo, WroteBy},
-  Telling.{IsFailure, SaysFailure, Tells, TellsAll, failure_message, failure_text, tail_by},
+  Telling.{Remark, Tells, TellsAll, failed, failure_message, found, tail_by},
   Followed.{has_header, is_empty, is_last},
   Printing.{PrinterState, Short, broke as short_broke, no_room},
   inner.Giving.{IsFront, Came, Pen, Puts, printer_under, text_under},
-  Notice.notice_of,
   Title.title,
-  declared.notice.Notice.Notice,
 }
 use Rattle.ports_core.specs.declared.fault.Fault.TheVariants as fault
 
 -- Lines that following writes to standard error, one after another.
 
--- The message of a failure that was written.
-
--- the message that there is no memory has no reason, and is the same by both ways to call the program
-alike : {A : Type 0} (b : Bool) (x : A) → (if b then x else x) ≡ x
-alike true x = refl
-alike false x = refl
-
-unreasoned : (calling : Calling) (why : Reason) {said : List ℕ}
-    → said ≡ line_of (tail_by calling) why (message_of fault.Memory []) → said ≡ failure_text fault.Memory []
-unreasoned OwnName why is = rw (alike (is_endless why) (codes "memory exhausted")) at is
-unreasoned Cutters why is = rw (alike (is_endless why) (codes "memory exhausted")) at is
-
--- the message that a name can't be read, or opened
+-- the message that a name can't be read, or opened; it doesn't have the number of the name
 pub failure_said : {told : Bool} {calling : Calling} {why : Reason} (read : Bool) (place : ℕ) (name : List ℕ)
     {old new : List Slot}
     → SaysOn told (tail_by calling) why (failure_message (if read then fault.Read place else fault.Open place) name)
     old new
-    → OnError (Tells told calling (failure_text (if read then fault.Read place else fault.Open place) name)) old new
-failure_said {calling} {why} read place name says = λ output error others are.
-    let said = says output error others are in
-    (said.0, record { said = said.1.said; is = inr (name, by read said.1.is); printed = said.1.printed }, said.2) where
-      by : (read : Bool) {text : List ℕ} → (text ≡ line_of (tail_by calling) why
-          (failure_message (if read then fault.Read place else fault.Open place) name))
-          ⊎ (text ≡ line_of (tail_by calling) why (message_of fault.Memory []))
-          → let line = failure_text (if read then fault.Read place else fault.Open place) name in SaysFailure calling
-          (fault.Open 0) name line text ⊎ SaysFailure calling (fault.Read 0) name line text
-      by true (inl is) = inr (refl, inl (why, is))
-      by true (inr is) = inr (refl, inr (unreasoned calling why is))
-      by false (inl is) = inl (refl, inl (why, is))
-      by false (inr is) = inl (refl, inr (unreasoned calling why is))
+    → let fault = if read then fault.Read 0 else fault.Open 0 in
+    OnError (Tells told calling (failed (record { fault = fault; why = why }) name)) old new
+failure_said true place name says = says
+failure_said false place name says = says
 
--- no notice is the message of a failure
-pub no_failure : (notice : Notice) (name : List ℕ) → IsFailure (notice_of notice name) → ⊥
-no_failure notice name failure = grind (arith, common_steps)
+tell_state : (told : Bool) (calling : Calling) (remark : Remark) (old new : Slot)
+    → Tells told calling remark old new → new.state ≡ old.state
+tell_state told calling (found notice name) old new tells = printed_open told _ old new tells
+tell_state told calling (failed failure name) old new tells = printed_open told tells.said old new tells.printed
 
-pub tells_state : (told : Bool) (calling : Calling) (lines : List (List ℕ)) (old new : Slot)
+pub tells_state : (told : Bool) (calling : Calling) (lines : List Remark) (old new : Slot)
     → TellsAll told calling lines old new → new.state ≡ old.state
 tells_state told calling [] old new is = cc
 tells_state told calling (line ∷ lines) old new tells = tells_state told calling lines tells.0 new tells.2
-    ∙ printed_open told tells.1.said old tells.0 tells.1.printed
+    ∙ tell_state told calling line old tells.0 tells.1
 
-pub tells_after : (told : Bool) (calling : Calling) (lines more : List (List ℕ)) (old mid new : Slot)
+pub tells_after : (told : Bool) (calling : Calling) (lines more : List Remark) (old mid new : Slot)
     → TellsAll told calling lines old mid → TellsAll told calling more mid new
     → TellsAll told calling (lines ++ more) old new
 tells_after told calling [] more old mid new so_far tells = grind (arith, common_steps)
@@ -136,13 +113,13 @@ pub wrote_text : (told : Bool) (calling : Calling) (text : List ℕ) {old : List
     (over : Option Fault) → CameTo told text old new over → WroteBy told calling text [] old new over
 wrote_text told calling text new over came = grind (arith, common_steps)
 
-pub wrote_line : {told : Bool} {calling : Calling} {line : List ℕ} {old new : List Slot}
+pub wrote_line : (told : Bool) (calling : Calling) (line : Remark) {old new : List Slot}
     → OnError (Tells told calling line) old new → WroteBy told calling [] (line ∷ []) old new None
-wrote_line {told} {calling} tells = search rules
+wrote_line told calling line tells = search rules
 
 -- a text and lines after others, or a beginning of them, are one text and its lines
-pub wrote_after : (told : Bool) (calling : Calling) (text more : List ℕ) {both : List ℕ} (lines further : List (List ℕ))
-    {all : List (List ℕ)} {old mid : List Slot} (new : List Slot)
+pub wrote_after : (told : Bool) (calling : Calling) (text more : List ℕ) {both : List ℕ} (lines further : List Remark)
+    {all : List Remark} {old mid : List Slot} (new : List Slot)
     (over : Option Fault) → text ++ more ≡ both → lines ++ further ≡ all → WroteBy told calling text lines old mid None
     → WroteBy told calling more further mid new over
     → WroteBy told calling both all old new over
@@ -153,7 +130,7 @@ wrote_after told calling text more lines further {old} new over same also first 
 pub came_none : {told : Bool} {name : List ℕ} {now : Pen} → Came told false name [] [] now now None
 came_none {told} {now = now} = search rules
 
-pub came_after : {told opened : Bool} {name first second : List ℕ} {lines more : List (List ℕ)} {old mid new : Pen}
+pub came_after : {told opened : Bool} {name first second : List ℕ} {lines more : List Remark} {old mid new : Pen}
     {over : Option Fault} → Came told opened name first lines old mid None
     → Came told false name second more mid new over
     → Came told opened name (first ++ second) (lines ++ more) old new over

@@ -2,7 +2,7 @@
 use Rattle.std.proofs.{Common.{◌≡◌, ℕ, List, [], ◌∷◌, ◌++◌, refl, sym, append_assoc}}
 use Rattle.follow_core.specs.{
   Event.{Begins, begins_none, begins_within, begins_on, Event, bytes_in, gives},
-  Event.{lines_in, notes},
+  Event.{remarks_in, notes},
   inner.Giving.IsFront,
 }
 
@@ -12,11 +12,11 @@ bytes-append (notes notice ∷ events) more = bytes-append events more
 bytes-append (gives bytes ∷ events) more =
     rw (bytes-append events more) (sym (append_assoc bytes (bytes_in events) (bytes_in more)))
 
-pub lines-append : (name : List ℕ) (events more : List Event)
-    → lines_in name (events ++ more) ≡ lines_in name events ++ lines_in name more
-lines-append name [] more = refl
-lines-append name (notes notice ∷ events) more = rw (lines-append name events more) refl
-lines-append name (gives bytes ∷ events) more = lines-append name events more
+pub remarks-append : (name : List ℕ) (events more : List Event)
+    → remarks_in name (events ++ more) ≡ remarks_in name events ++ remarks_in name more
+remarks-append name [] more = refl
+remarks-append name (notes notice ∷ events) more = rw (remarks-append name events more) refl
+remarks-append name (gives bytes ∷ events) more = remarks-append name events more
 
 -- Beginnings.
 

@@ -3,7 +3,7 @@ use Rattle.std.proofs.{
   lemmas.Grind.common_steps,
   Common.{◌≡◌, ℕ, zero, suc, ◌<◌, ◌≤◌, ◌+◌, Bool, true, false, ◌||◌, List, [], ◌∷◌, ◌++◌, length, take, set},
   Common.{get_or, slice_index_or, refl, sym, ◌∙◌, ap, subst, arith, append_assoc, inl, inr, ◌⊎◌, Option, Err, Ok},
-  Common.{None, rules},
+  Common.{None, Some, rules},
   Math.{Bool.or-false, Seq.{get_or-append_seam, map-set_same, take-suc}},
   lemmas.Bool.{cases_eq, cases_lt},
   lemmas.List.{append-nil, get_or-map, get_or-set_other, get_or-set_same, length-append, length-map},
@@ -12,13 +12,13 @@ use Rattle.std.proofs.{
 use Rattle.ports_core.specs.{Slot.{Slot, changed_at}, declared.fault.Fault.Fault}
 use Rattle.follow_core.specs.{
   FollowState.{AllReady, Begun, up_to},
-  Look.{Fate, Look, Ways, failed_in, is_dropped, sound},
+  Look.{Look, Visit, Ways, failed_for, failed_in, is_dropped, sound_visit},
   Share.{BeginsShare, Share, share_by, share_of},
   inner.{Visits.{KeepsOthers, Opened, Stopped, Visited, VisitedTo, Visits}, Giving.{IsFront, Moment, Sight}},
   Printing.PrinterState,
   Reading.{AreAtLook, IsGiven, names_more, no_names},
   Sharing.{AllShared, AllShort},
-  Standing.{CanVisit, NameState, Stands, StandsAmong, no_state, state_at, texts, IsWatched},
+  Standing.{CanVisit, NameState, Stands, StandsAmong, failed_of, no_state, state_at, texts, IsWatched},
   declared.name.Standing.{Standing, TheVariants.{New, Followed, Left}},
 }
 use Rattle.follow_core.proofs.{
@@ -27,7 +27,7 @@ use Rattle.follow_core.proofs.{
   LookLemmas.{broken_sound, met_none},
   RunLemmas.{failed-append, last-append, messages-append, text-append},
 }
-use Rattle.watch_core.specs.Watched.{Watched, opens, watched_at}
+use Rattle.watch_core.specs.{Watched.{Watched, opens, watched_at}, declared.watch.Broken.Broken}
 
 -- A look at one name after another.
 
@@ -48,14 +48,14 @@ all_both {printer} {shares} {more} all rest = record {
 
 -- One name more.
 
-fate_there : (fates : List Fate) (fate : Fate) {all : List Fate} → IsFront (fates ++ fate ∷ []) all → {place : ℕ}
-    → length fates ≡ place → slice_index_or all place sound ≡ fate
-fate_there fates fate (rest, is) count =
-    rw (is, append_assoc fates (fate ∷ []) rest, ← count) (get_or-append_seam fates fate rest sound)
+visit_there : (visits : List Visit) (visit : Visit) {all : List Visit} → IsFront (visits ++ visit ∷ []) all
+    → {place : ℕ} → length visits ≡ place → slice_index_or all place sound_visit ≡ visit
+visit_there visits visit (rest, is) count =
+    rw (is, append_assoc visits (visit ∷ []) rest, ← count) (get_or-append_seam visits visit rest sound_visit)
 
-front_before : (fates : List Fate) (fate : Fate) {all : List Fate} → IsFront (fates ++ fate ∷ []) all
-    → IsFront fates all
-front_before fates fate (rest, is) = (fate ∷ rest, is ∙ append_assoc fates (fate ∷ []) rest)
+front_before : (visits : List Visit) (visit : Visit) {all : List Visit} → IsFront (visits ++ visit ∷ []) all
+    → IsFront visits all
+front_before visits visit (rest, is) = (visit ∷ rest, is ∙ append_assoc visits (visit ∷ []) rest)
 
 pub text_there : (names : List NameState) {place : ℕ} → place < length names
     → get_or (texts names) place [] ≡ (state_at names place).text
@@ -92,13 +92,13 @@ pub visited_more : {see : Sight} {ways : Ways} {looks : List Look} {now : List N
     → one.text ≡ (state_at now place).text → VisitedTo see ways looks place now old mid before
     → VisitedTo see ways looks (place + 1) (set now place one) old new (before || failed)
 visited_more {see} {ways} {looks} {now} {one} {place} {mid = mid} {new} {failed = failed} within visits same sofar = record {
-  fates = sofar.fates ++ visited.fate ∷ [];
+  visits = sofar.visits ++ visited.visit ∷ [];
   shares = sofar.shares ++ visited.share ∷ [];
-  count = length-append sofar.fates (visited.fate ∷ []) ∙ ap (λ n. n + 1) sofar.count ∙ omega arith;
+  count = length-append sofar.visits (visited.visit ∷ []) ∙ ap (λ n. n + 1) sofar.count ∙ omega arith;
   found = λ all front. rw (texts_set now no_state one within same, ← names_next now within)
-      (one_given ways.first (take place (texts now)) (sofar.found all (front_before sofar.fates visited.fate front))
+      (one_given ways.first (take place (texts now)) (sofar.found all (front_before sofar.visits visited.visit front))
       (rw (length-take-le place (texts now) (rw (length_texts now) (omega arith)))
-      (visited.found all (fate_there sofar.fates visited.fate front sofar.count))));
+      (visited.found all (visit_there sofar.visits visited.visit front sofar.count))));
   is_failed = rw (failed-append sofar.shares (visited.share ∷ []), sofar.is_failed, visited.is_failed, or-false failed)
       refl;
   shared = all_both sofar.shared (record {
@@ -121,14 +121,21 @@ visited_more {see} {ways} {looks} {now} {one} {place} {mid = mid} {new} {failed 
     visits.others.others (ways.first + other) (λ at. elsewhere (omega arith)),
   ) stands
 
-  there : (all : List Fate) → IsFront (sofar.fates ++ visited.fate ∷ []) all → (other : ℕ) → other < place + 1
+  there : (all : List Visit) → IsFront (sofar.visits ++ visited.visit ∷ []) all → (other : ℕ) → other < place + 1
       → (other ≡ place) ⊎ (other ≡ place → ⊥)
-      → StandsAmong see.told_in ways (looks ++ record { snapshot = see.snapshot; fates = all } ∷ []) (set now place one)
-      new.watched other
-  there all front other below (inr elsewhere) = stays (looks ++ record { snapshot = see.snapshot; fates = all } ∷ []) other elsewhere
-      (sofar.done all (front_before sofar.fates visited.fate front) other (omega arith))
+      → StandsAmong see.told_in ways (looks ++ record { snapshot = see.snapshot; visits = all } ∷ [])
+      (set now place one) new.watched other
+  there all front other below (inr elsewhere) = stays (looks ++ record { snapshot = see.snapshot; visits = all } ∷ []) other elsewhere
+      (sofar.done all (front_before sofar.visits visited.visit front) other (omega arith))
   there all front other below (inl at) = rw (at, get_or-set_same now place one no_state within, same)
-      (visited.stands all (fate_there sofar.fates visited.fate front sofar.count))
+      (visited.stands all (visit_there sofar.visits visited.visit front sofar.count))
+
+-- whether a name broke doesn't depend on the reason
+none_failed : (watched : Watched) → failed_of watched ≡ None → watched.failed ≡ None
+none_failed watched = by watched.failed where
+  by : (failed : Option Broken) → failed_for watched.reason failed ≡ None → failed ≡ None
+  by None none = refl
+  by (Some call) none = absurd (cc)
 
 -- a name that isn't broken is watched as the looks say
 pub unbroken_watched : {ways : Ways} {looks : List Look} {place : ℕ} {name : List ℕ} {watched : Watched}
@@ -170,10 +177,10 @@ pub visited_short : {see : Sight} {ways : Ways} {looks : List Look} {now : List 
 visited_short {see} {ways} {looks} {now} {place = place} {mid = mid} {new} {why = why} within visits sofar many = (
   sofar.shares,
   stopped.1.share ∷ [],
-  up_to sofar.fates place sofar.shares stopped.1.share sofar.count (omega (arith, within, size))
+  up_to sofar.visits place sofar.shares stopped.1.share sofar.count (omega (arith, within, size))
       (omega (arith, many, size), λ above. omega (arith, many, size), λ other inside. still other (omega (arith, inside, many, size)))
-      (sofar.found sofar.fates front) (rw (text_there now within) stopped.1.found)
-      (λ t. subst (BeginsShare stopped.1.share) (share_is t) (stopped.1.begins t sofar.fates)),
+      (sofar.found sofar.visits front) (rw (text_there now within) stopped.1.found)
+      (λ t. subst (BeginsShare stopped.1.share) (share_is t) (stopped.1.begins t sofar.visits)),
   mid.pen.printer,
   mid.pen.slots,
   sofar.shared,
@@ -188,38 +195,39 @@ visited_short {see} {ways} {looks} {now} {place = place} {mid = mid} {new} {why 
   size : length (texts now) ≡ length now
   size = length_texts now
 
-  front : IsFront sofar.fates sofar.fates
-  front = ([], sym (append-nil sofar.fates))
+  front : IsFront sofar.visits sofar.visits
+  front = ([], sym (append-nil sofar.visits))
 
   stopped : (is_dropped number looks ≡ false) × Stopped see ways looks (state_at now place).text mid new why
   stopped = visits.stopped looks (sofar.rest place (omega arith) within)
 
   look : Look
-  look = record { snapshot = see.snapshot; fates = sofar.fates }
+  look = record { snapshot = see.snapshot; visits = sofar.visits }
 
   share_is : see.told_in ≡ true
-      → share_by ways (state_at now place).text looks look sound
+      → share_by ways (state_at now place).text looks look sound_visit
       ≡ share_of ways looks look number (get_or (texts now) place [])
   share_is t =
       let count = sofar.count in
-      rw (text_there now within, stopped.0, get_or_past sofar.fates number sound (omega arith)) refl
+      rw (text_there now within, stopped.0, get_or_past sofar.visits number sound_visit (omega arith)) refl
 
   watched_now : (other : ℕ) → other < length now → (other < place) ⊎ (place ≤ other)
       → IsWatched ways (looks ++ look ∷ []) (ways.first + other) (state_at now other).text
       (watched_at mid.watched (ways.first + other))
-  watched_now other inside (inl less) = watched_there see.told_in _ _ (state_at now other).standing (sofar.done sofar.fates front other less)
+  watched_now other inside (inl less) = watched_there see.told_in _ _ (state_at now other).standing (sofar.done sofar.visits front other less)
   watched_now other inside (inr more) =
       let count = sofar.count in
       let is = watched_there see.told_in _ _ (state_at now other).standing (sofar.rest other more inside) in record {
         named = is.named;
-        broke = broken_sound looks look (get_or_past sofar.fates (ways.first + other) sound (omega arith)) is.broke;
+        broke = broken_sound looks look (ap (λ (v : Visit). v.fate) (get_or_past sofar.visits (ways.first + other) sound_visit (omega arith))) is.broke;
         closed = is.closed;
       }
 
   -- the name at which the look was stopped isn't broken
   unbroken : (other : ℕ) → other ≡ place → (watched_at mid.watched (ways.first + other)).failed ≡ None
-  unbroken other at = rw at ((watched_there see.told_in _ _ (state_at now place).standing (sofar.rest place (omega arith) within)).broke.call
-      ∙ none_of (failed_in number looks) stopped.0)
+  unbroken other at = rw at (none_failed (watched_at mid.watched number)
+      ((watched_there see.told_in _ _ (state_at now place).standing (sofar.rest place (omega arith) within)).broke.call
+      ∙ none_of (failed_in number looks) stopped.0))
 
   still : (other : ℕ) → other < length now
       → IsWatched ways (looks ++ look ∷ []) (ways.first + other) (slice_index_or (texts now) other [])

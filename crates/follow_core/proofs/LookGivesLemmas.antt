@@ -5,35 +5,36 @@ use Rattle.follow_core.specs.{
     visitor.Stop.{Stop, TheVariants.{Broke, Over}},
     name.Standing.{Standing, TheVariants.{New, Followed, Left}},
   },
-  Reading.{AreAtLook, AreFound, Caught, First, IsFound, IsLong, IsMissing, LedTo, LookGives, NoneBreaks, ReadOn, Saw},
+  Reading.{AreAtLook, AreFound, CallsFind, Caught, First, IsFound, IsLong, IsMissing, LedTo, LookGives, NoneBreaks, ReadOn, Saw},
   Reading.{at_first, at_later, begun, came_all, came_early, first_unmeasured, first_unsought, looks_more, measured},
   Reading.names_more,
   Reading.{no_looks, not_asked, not_begun, not_led, not_measured, not_open, not_opened, not_told, opened_there},
   Reading.read_all,
   Reading.{read_none, read_part, read_some, unchanged},
-  Event.{Begins, Event, came_of, gives, lines_in},
+  Event.{Begins, Event, came_of, gives, remarks_in},
   Version.{entries_led, held_at, open_after_later, open_after_look},
   Gain.gains_after,
   inner.{
     Giving.{Are, BrokeAt, ByStop, Came, Follows, Gives, Moment, Pen, Shared, Sight, Starts, fault_by, is_read, moment},
     Giving.{stop_in, text_under},
-    Visits.{Visits, TellsStop, Visited},
+    Visits.{SaysFailed, TellsStop, Visited, Visits},
   },
-  Look.{Fate, Look, Ways, can_meet, entries_in, failed_by, failed_in, fate_at, is_dropped, snapshots, sound},
-  Look.{unopened, is_first},
+  Look.{Fate, Look, Visit, Ways, call_of, can_meet, entries_in, failed_by, failed_in, fate_at, is_dropped, is_first},
+  Look.{snapshots, sound, sound_visit, unopened, visit_at},
   Notice.is_missing,
-  Share.{Due, Share, due_at, due_later, events_at, failure_line, failure_of, given_by, is_unopened, missing_share},
+  Share.{Due, Share, due_at, due_later, events_at, failure_of, failure_remark, given_at, given_by, is_unopened},
+  Share.missing_share,
   Share.{no_share, opened_in, share_by},
   Printing.PrinterState,
-  Telling.{Tells, failure_message, failure_text, tail_by},
+  Telling.{Failure, Remark, Tells, failed, failure_message, tail_by},
 }
 use Rattle.follow_core.proofs.{
   CallLemmas.{came_none, failure_said, wrote_after, wrote_line},
-  CallGivesLemmas.{broke_at, gives_both, gives_none, gives_so, keeps_others, none_of, opened_now, some_of},
+  CallGivesLemmas.{broke_at, broke_why, gives_both, gives_none, gives_so, keeps_others, none_of, opened_now, some_of},
   CatchLemmas.{LooksAgain, long_by},
   EventLemmas.begins_trans,
   ShownLemmas.{AreBy, first_are, later_are},
-  LookLemmas.{open_more, failed_more, failed_sound, broken_sound, broken_more, seeing},
+  LookLemmas.{broke_by, broken_more, broken_sound, failed_more, failed_sound, open_more, seeing},
 }
 use Rattle.std.proofs.{
   lemmas.Grind.common_steps,
@@ -59,31 +60,37 @@ use Rattle.ports_core.{
 }
 use Rattle.watch_core.specs.declared.watch.Broken.TheVariants as broken
 
--- The outputs have what the look gives for the name, by its fate. If what looks see isn't visible, they have a share.
+-- The outputs have what the look gives for the name, by its visit. If what looks see isn't visible, they have a share.
 pub record Looked (see : Sight) (ways : Ways) (before : List Look) (name : List ℕ) (old new : Moment)
-    (has_failed : Bool) (fate : Fate) : Type 0 where
+    (has_failed : Bool) (visit : Visit) : Type 0 where
   pub share : Share
-  pub is_share : see.told_in ≡ true → (fates : List Fate)
-      → share ≡ share_by ways name before (seeing see.snapshot fates) fate
-  pub found : IsFound see.told_in ways before see.snapshot name fate share
-      ⊎ IsMissing see.told_in before see.snapshot name fate share
+  pub is_share : see.told_in ≡ true → (visits : List Visit)
+      → share ≡ share_by ways name before (seeing see.snapshot visits) visit
+  pub found : IsFound see.told_in ways before see.snapshot name visit share
+      ⊎ IsMissing see.told_in before see.snapshot name visit share
   pub failed : is_some share.failure ≡ has_failed
   pub shared : Shared see.told share old.pen new.pen None
 
 -- the message of a failure is written after what was given
-said_after : {told opened : Bool} {name bytes line : List ℕ} {lines : List (List ℕ)} {old mid : Pen} {slots : List Slot}
+said_after : {told opened : Bool} {name bytes : List ℕ} (line : Remark) {lines : List Remark} {old mid : Pen}
+    {slots : List Slot}
     → Came told opened name bytes lines old mid None
     → OnError (Tells told old.printer.calling line) mid.slots slots
     → Came told opened name bytes (lines ++ line ∷ []) old (record mid { slots = slots }) None
-said_after {opened = opened} {name} {bytes} {old = old} came says = record {
+said_after {told} {opened} {name} {bytes} line {old = old} came says = record {
   printer_is = came.printer_is;
-  slots = wrote_after _ _ _ _ _ _ _ None (append-nil (text_under old.printer opened name bytes)) refl came.slots (wrote_line says);
+  slots = wrote_after _ _ _ _ _ _ _ None (append-nil (text_under old.printer opened name bytes)) refl came.slots (wrote_line told _ line says);
 }
 
-fault_line : (place : ℕ) (name : List ℕ) (fate : Fate) → is_some (failed_by fate None) ≡ true
-    → (failure_text (fault_by place fate) name ∷ [] ≡ failure_line name (failure_of fate))
-    × (is_some (failure_of fate) ≡ true)
-fault_line place name fate broke = grind (arith, common_steps)
+fault_line : (name : List ℕ) (visit : Visit) → is_some (call_of visit.fate) ≡ true
+    → (failed (record { fault = fault_by 0 visit.fate; why = visit.why }) name ∷ []
+    ≡ failure_remark name (failure_of visit)) × (is_some (failure_of visit) ≡ true)
+fault_line name visit = by visit.fate where
+  by : (fate : Fate) → is_some (call_of fate) ≡ true → let those : Visit = record { fate = fate; why = visit.why } in
+      (failed (record { fault = fault_by 0 fate; why = visit.why }) name ∷ []
+      ≡ failure_remark name (failure_of those)) × (is_some (failure_of those) ≡ true)
+  by sound broke = absurd (false≢true broke)
+  by fate broke = (refl, refl)
 
 -- what a call that failed has to fit: the look, whether it opened the file, and whether calls can fail
 abbrev Fits : (first by_name seeks can : Bool) → Option Fate → Type 0
@@ -144,12 +151,12 @@ are_by fate before (Some (Over why)) events whole so (all, is, begins) = begins_
 
 -- the events are those of a look after these by the snapshot and by this fate, at which the name isn't missing
 abbrev IsShown : Ways → List Look → Snapshot → List ℕ → Fate → Option Stop → List Event → Type 0
-IsShown ways before snapshot name fate stop events = (fates : List Fate) → let look = seeing snapshot fates in
+IsShown ways before snapshot name fate stop events = (visits : List Visit) → let look = seeing snapshot visits in
     ((is_first before && is_missing (entries_in ways name (before ++ look ∷ []))) ≡ false)
     × AreGiven stop events (events_at ways name before look)
     (given_by (due_at ways name before look) snapshot (opened_in ways name before) fate)
 
-abbrev shared_as : (opened : Bool) → List ℕ → List Event → Option Fault → Share
+abbrev shared_as : (opened : Bool) → List ℕ → List Event → Option Failure → Share
 shared_as opened name events failure = record { name = name; is_opened = opened; events = events; failure = failure }
 
 module _ {see : Sight} {ways : Ways} {before : List Look} {name : List ℕ} {old mid : Moment} where
@@ -157,7 +164,7 @@ module _ {see : Sight} {ways : Ways} {before : List Look} {name : List ℕ} {old
   pub looked_whole : {fate : Fate} (ends : Gives see.told (LookGives see.told_in ways before see.snapshot name) fate
       (is_first before) name old mid None)
       → (see.told_in ≡ true → IsShown ways before see.snapshot name fate None ends.events)
-      → Looked see ways before name old mid false sound
+      → Looked see ways before name old mid false sound_visit
   looked_whole ends shown = record {
     share = shared_as (is_first before) name ends.events None;
     found = inl (record {
@@ -167,24 +174,23 @@ module _ {see : Sight} {ways : Ways} {before : List Look} {name : List ℕ} {old
       events = inr ends.given;
       broke = inl refl;
     });
-    is_share = λ t fates. let (kept, are) = shown t fates in rw (are, kept) refl;
+    is_share = λ t visits. let (kept, are) = shown t visits in rw (are, kept) refl;
     failed = refl;
-    shared = rw (append-nil (lines_in name ends.events)) ends.came;
+    shared = rw (append-nil (remarks_in name ends.events)) ends.came;
   }
 
   -- a call failed: what comes before it was given, and the message follows
-  pub looked_broke : (place : ℕ) {slots : List Slot} {why : Fault} (fate : Fate) → is_some (failed_by fate None) ≡ true
-      → why ≡ fault_by place fate
-      → (ends : Gives see.told (LookGives see.told_in ways before see.snapshot name) fate (is_first before) name old mid
-      (Some (Broke why)))
-      → (see.told_in ≡ true → IsShown ways before see.snapshot name fate (Some (Broke why)) ends.events)
-      → ((reason : Reason)
-      × SaysOn see.told (tail_by old.pen.printer.calling) reason (failure_message why name) mid.pen.slots slots)
-      → Looked see ways before name old (record mid { pen = record mid.pen { slots = slots } }) true fate
-  looked_broke place fate broke fault ends shown says =
-      let line = fault_line place name fate broke in let (met, openly, can) = look_fits before ends.given in record {
-        share = shared_as (is_first before) name ends.events (failure_of fate);
-        is_share = λ t fates. let (kept, are) = shown t fates in rw (line.1, openly, are) refl;
+  pub looked_broke : (place : ℕ) {slots : List Slot} {fault : Fault} (visit : Visit)
+      → is_some (call_of visit.fate) ≡ true → fault ≡ fault_by place visit.fate
+      → (ends : Gives see.told (LookGives see.told_in ways before see.snapshot name) visit.fate (is_first before) name
+      old mid (Some (Broke fault)))
+      → (see.told_in ≡ true → IsShown ways before see.snapshot name visit.fate (Some (Broke fault)) ends.events)
+      → SaysFailed see.told old.pen.printer.calling name visit.why fault mid.pen.slots slots
+      → Looked see ways before name old (record mid { pen = record mid.pen { slots = slots } }) true visit
+  looked_broke place visit broke is ends shown says =
+      let line = fault_line name visit broke in let (met, openly, can) = look_fits before ends.given in record {
+        share = shared_as (is_first before) name ends.events (failure_of visit);
+        is_share = λ t visits. let (kept, are) = shown t visits in rw (line.1, openly, are) refl;
         found = inl (record {
           named = refl;
           opened = sym openly;
@@ -193,7 +199,7 @@ module _ {see : Sight} {ways : Ways} {before : List Look} {name : List ℕ} {old
           broke = can;
         });
         failed = line.1;
-        shared = rw (← line.0) (said_after ends.came (failure_said (is_read fate) place name (rw fault at says.1)));
+        shared = rw (← line.0) (said_after _ ends.came (failure_said (is_read visit.fate) place name (rw is at says)));
       }
 
 -- The first look.
@@ -202,6 +208,22 @@ module _ {see : Sight} {ways : Ways} {before : List Look} {name : List ℕ} {old
 entries_first : (ways : Ways) {name : List ℕ} (look : Look) {led : Option ℕ} → look.snapshot.leads name ≡ led
     → entries_in ways name (look ∷ []) ≡ entries_led look.snapshot None led
 entries_first ways look is = append-nil _ ∙ ap (entries_led look.snapshot None) is
+
+-- what is due at the first look of the file to which the name leads
+due_first : (ways : Ways) {name : List ℕ} (look : Look) {file : ℕ} → look.snapshot.leads name ≡ Some file
+    → record { came = []; led = gives (ways.start (held_at look.snapshot (look.snapshot.leads name))) ∷ [] }
+    ≡ due_at ways name [] look
+due_first ways look leads = ap (λ those. record { came = []; led = gives those ∷ [] })
+    (ap (λ those. ways.start (held_at look.snapshot those)) leads
+    ∙ sym (ap (gains_after ways.start []) (entries_first ways look leads) ∙ append-nil _))
+
+-- what calls find is what is due
+pub calls_find : (ways : Ways) (name : List ℕ) (before : List Look) (look : Look) (fate : Fate) (events : List Event)
+    → CallsFind ways name before look (Some fate) events → events ≡ given_at ways name before look fate
+calls_find ways name [] look fate events (file, leads, first) =
+    subst (λ due. events ≡ given_by due look.snapshot None fate) (due_first ways look leads)
+    (first_are {snapshot = look.snapshot} {name = name} {file = Some file} (sym leads) first)
+calls_find ways name (first ∷ looks) look fate events later = later_are {snapshot = look.snapshot} {name = name} later
 
 -- A later look.
 
@@ -214,16 +236,23 @@ pub record Gave (see : Sight) (ways : Ways) (looks : List Look) (place : ℕ) (n
       (stop_in result)
   pub shown : see.told_in ≡ true → IsShown ways looks see.snapshot name fate (stop_in result) ends.events
   pub last : see.told_in ≡ true → (ways.by_name ≡ false → is_some led ≡ true)
-      × ((fates : List Fate) → led ≡ opened_in ways name (looks ++ seeing see.snapshot fates ∷ []))
+      × ((visits : List Visit) → led ≡ opened_in ways name (looks ++ seeing see.snapshot visits ∷ []))
 
 -- One look more.
 begun_more : (looks : List Look) (look : Look) → is_first (looks ++ look ∷ []) ≡ false
 begun_more [] look = refl
 begun_more (before ∷ looks) look = refl
 
-kept_more : (place : ℕ) (looks : List Look) (look : Look) {fate : Fate} → is_dropped place looks ≡ false
-    → fate_at place look ≡ fate → is_dropped place (looks ++ look ∷ []) ≡ is_some (failed_by fate None)
-kept_more place looks look kept at = ap is_some (failed_more place looks look (none_of (failed_in place looks) kept) at)
+some_call : (visit : Visit) → is_some (failed_by visit None) ≡ is_some (call_of visit.fate)
+some_call visit = by visit.fate where
+  by : (fate : Fate) → is_some (failed_by (record { fate = fate; why = visit.why }) None) ≡ is_some (call_of fate)
+  by sound = refl
+  by fate = refl
+
+kept_more : (place : ℕ) (looks : List Look) (look : Look) {visit : Visit} → is_dropped place looks ≡ false
+    → visit_at place look ≡ visit → is_dropped place (looks ++ look ∷ []) ≡ is_some (call_of visit.fate)
+kept_more place looks look {visit} kept at =
+    ap is_some (failed_more place looks look (none_of (failed_in place looks) kept) at) ∙ some_call visit
 
 -- a name on which no call failed at the last look is looked at again
 through_stands : {told : Bool} {ways : Ways} (looks : List Look) (look : Look) {place : ℕ} {name : List ℕ}
@@ -234,21 +263,21 @@ through_stands : {told : Bool} {ways : Ways} (looks : List Look) (look : Look) {
     → IsLong told ways.by_name look.snapshot name file len
     → IsFollowed told ways (looks ++ look ∷ []) place name (record watched { opened = file }) len
 through_stands looks look watched named can kept at leads last long = grind
-    (arith, common_steps, none_of, not-true, kept_more, begun_more, map-append, latest-last)
+    (arith, common_steps, none_of, not-true, failed_sound, begun_more, map-append, latest-last)
 
 -- what a look gave, and how the name stands after it
 looked_visited : {see : Sight} {ways : Ways} {looks : List Look} {place : ℕ} {name : List ℕ} {old new : Moment}
-    {has_failed : Bool} {standing : Standing} (fate : Fate) → is_dropped place looks ≡ false
-    → Looked see ways looks name old new has_failed fate
-    → ((fates : List Fate) → fate_at place (seeing see.snapshot fates) ≡ fate
-    → Stands see.told_in ways (looks ++ seeing see.snapshot fates ∷ []) place name (watched_at new.watched place)
+    {has_failed : Bool} {standing : Standing} (visit : Visit) → is_dropped place looks ≡ false
+    → Looked see ways looks name old new has_failed visit
+    → ((visits : List Visit) → visit_at place (seeing see.snapshot visits) ≡ visit
+    → Stands see.told_in ways (looks ++ seeing see.snapshot visits ∷ []) place name (watched_at new.watched place)
     standing)
     → Visited see ways looks place (record { text = name; standing = standing }) old new has_failed
-looked_visited fate kept looked stands = record {
-  fate = fate;
+looked_visited visit kept looked stands = record {
+  visit = visit;
   share = looked.share;
-  found = λ fates at. record {
-    is = λ t. rw (kept, at) (looked.is_share t fates);
+  found = λ visits at. record {
+    is = λ t. rw (kept, at) (looked.is_share t visits);
     found = inr (kept, rw at looked.found);
   };
   is_failed = looked.failed;
@@ -275,18 +304,20 @@ module _ {see : Sight} {ways : Ways} {place : ℕ} {one : NameState} {old new : 
     there = rw is (changed_there no_name place change old.watched (watchable_within old.watched place can))
 
   -- the name broke
-  drops : (fate : Fate) (why : Fault) → (watched_at old.watched place).name ≡ one.text
-      → IsTrue (is_watchable old.watched place) → BrokeAt place old.watched new.watched fate why
+  drops : (fate : Fate) (fault : Fault) → (watched_at old.watched place).name ≡ one.text
+      → IsTrue (is_watchable old.watched place) → (broke : BrokeAt place old.watched new.watched fate fault)
       → ((looks : List Look) → Stands see.told_in ways looks place one.text (watched_at old.watched place) one.standing
-      → (is_dropped place looks ≡ false) × Looked see ways looks one.text old new true fate
+      → (is_dropped place looks ≡ false)
+      × Looked see ways looks one.text old new true (record { fate = fate; why = broke.reason })
       × (can_meet (is_first looks) ways.by_name ways.seeks fate ≡ true))
       → Visits see ways place one old Left new (Ok true)
-  drops fate why named can broke gave = visits_by Left _ broke.names can tt (λ there looks stands.
+  drops fate fault named can broke gave = visits_by Left _ broke.names can tt (λ there looks stands.
+      let visit : Visit = record { fate = fate; why = broke.reason } in
       let (kept, looked, met) = gave looks stands in
-      looked_visited fate kept looked (λ fates at. rw there (record {
-        begun = begun_more looks (seeing see.snapshot fates);
+      looked_visited visit kept looked (λ visits at. rw there (record {
+        begun = begun_more looks (seeing see.snapshot visits);
         named = named;
-        why = inl (kept_more place looks _ kept at ∙ broke.broke, broken_more looks _ refl kept at met, refl);
+        why = inl (kept_more place looks _ kept at ∙ broke.broke, broken_more looks _ (sym (broke_by visit)) kept at met, refl);
       })))
 
   -- no call on the name failed
@@ -299,32 +330,34 @@ module _ {see : Sight} {ways : Ways} {place : ℕ} {one : NameState} {old new : 
   gave_through {len = len} fate named can (file, is, leads) gave long =
       visits_by (Followed len) (opens file) is can (named, none_of (watched_at old.watched place).failed (not-true _ can))
       (λ there looks stands.
-      let made = gave looks stands in looked_visited sound made.kept (looked_whole made.ends made.shown)
-      (λ fates at. rw there (through_stands looks (seeing see.snapshot fates) (watched_at old.watched place) named can made.kept at
-      leads (λ t. let (some, opened) = made.last t in (some, opened fates)) (rw (opened_now place old.watched is can, named) at long))))
+      let made = gave looks stands in looked_visited sound_visit made.kept (looked_whole made.ends made.shown)
+      (λ visits at. rw there (through_stands looks (seeing see.snapshot visits) (watched_at old.watched place) named can made.kept
+      (ap (λ (v : Visit). v.fate) at) leads (λ t. let (some, opened) = made.last t in (some, opened visits)) (rw (opened_now place old.watched is can, named) at long))))
 
-  pub gave_fails : {led : Option ℕ} {slots : List Slot} (fate : Fate) (stop : Stop) {now : Standing}
+  pub gave_fails : {led : Option ℕ} {slots : List Slot} {why : Reason} (fate : Fate) (stop : Stop) {now : Standing}
       {result : Result Bool Fault} → (watched_at old.watched place).name ≡ one.text
       → IsTrue (is_watchable old.watched place) → Follows see.told_in led place old.watched new.watched fate (Some stop)
       → ((looks : List Look) → Stands see.told_in ways looks place one.text (watched_at old.watched place) one.standing
       → Gave see ways looks place one.text led old (record new { pen = record new.pen { slots = slots } }) fate
       (Err stop))
-      → TellsStop see.told new.pen.printer.calling one.text slots now new.pen.slots stop result
+      → (is_some (watched_at new.watched place).failed ≡ true → why ≡ (watched_at new.watched place).reason)
+      → TellsStop (SaysFailed see.told new.pen.printer.calling one.text why) slots now new.pen.slots stop result
       → Visits see ways place one old now new result
-  gave_fails {slots = slots} fate (Broke why) named can broke gave (tells, left, says) = rw (tells, left) (drops fate why named can broke (λ looks stands.
+  gave_fails {slots = slots} fate (Broke fault) named can broke gave reason (tells, left, says) = rw (tells, left) (drops fate fault named can broke (λ looks stands.
       let made = gave looks stands in (
         made.kept,
-        looked_broke {mid = record new { pen = record new.pen { slots = slots } }} place fate broke.broke broke.fault_is made.ends made.shown
-            (says.0, rw (made.ends.came.printer_is refl) at says.1),
+        looked_broke {mid = record new { pen = record new.pen { slots = slots } }} place (record { fate = fate; why = broke.reason })
+            broke.broke broke.fault_is made.ends made.shown
+            (rw (made.ends.came.printer_is refl, broke_why can broke reason) at says),
         (look_fits looks made.ends.given).0,
       )))
-  gave_fails fate (Over why) named can follows gave (tells, same) = rw tells (record {
+  gave_fails fate (Over fault) named can follows gave reason (tells, same) = rw tells (record {
     visited = tt;
     stopped = λ looks stands. let made = gave looks stands in (
       made.kept,
       record {
         share = shared_as (is_first looks) one.text made.ends.events None;
-        begins = λ t fates. let (kept, are) = made.shown t fates in
+        begins = λ t visits. let (kept, are) = made.shown t visits in
             rw kept (record { name = refl; opened = refl; events = are; unfailed = refl });
         found = record {
           named = refl;
@@ -334,7 +367,7 @@ module _ {see : Sight} {ways : Ways} {place : ℕ} {one : NameState} {old new : 
           begins = made.ends.given.2;
           events = made.ends.given.1;
         };
-        short = rw (append-nil (lines_in one.text made.ends.events), same) made.ends.came;
+        short = rw (append-nil (remarks_in one.text made.ends.events), same) made.ends.came;
       },
     );
     ready = tt;
@@ -351,9 +384,9 @@ pub first_missing : {see : Sight} {ways : Ways} {place : ℕ} {name : List ℕ} 
     → SaysOn see.told (tail_by old.pen.printer.calling) reason (failure_message (Open place) name) old.pen.slots slots
     → Visits see ways place (record { text = name; standing = New }) old (if ways.by_name then Followed 0 else Left)
     (moment watched old.pen.printer slots) (Ok true)
-first_missing {see} {ways} {place} {name} {old} {watched} {slots} reopens gone named can says =
+first_missing {see} {ways} {place} {name} {old} {watched} {slots} {reason = reason} reopens gone named can says =
     visits_by _ (opens None) (rw none at reopens.names) can (ready ways.by_name) (λ there looks fresh. rw fresh.0
-    (looked_visited sound refl looked (λ fates at. rw there (stands fates at ways.by_name refl)))) where
+    (looked_visited _ refl looked (λ visits at. rw there (stands visits at ways.by_name refl)))) where
       none : reopens.file ≡ None
       none = none_of reopens.file (reopens.found ∙ gone)
 
@@ -363,13 +396,13 @@ first_missing {see} {ways} {place} {name} {old} {watched} {slots} reopens gone n
       lost : Saw see.told_in see.snapshot name (opens_as None)
       lost = (rw (none, named) at reopens.opens, λ t. sym (nowhere t))
 
-      looked : Looked see ways [] name old (moment watched old.pen.printer slots) true sound
+      looked : Looked see ways [] name old (moment watched old.pen.printer slots) true (record { fate = sound; why = reason })
       looked = record {
-        share = missing_share name;
-        is_share = λ is fates. grind (arith, common_steps, entries_first);
+        share = missing_share name reason;
+        is_share = λ is visits. grind (arith, common_steps, entries_first);
         found = inr (record { first = refl; kept = refl; nowhere = lost; is = refl });
         failed = refl;
-        shared = said_after came_none (failure_said false place name says);
+        shared = said_after _ came_none (failure_said false place name says);
       }
 
       unbroken : (watched_at old.watched place).failed ≡ None
@@ -381,43 +414,45 @@ first_missing {see} {ways} {place} {name} {old} {watched} {slots} reopens gone n
       ready true = (named, unbroken)
       ready false = tt
 
-      stands : (fates : List Fate) → fate_at place (seeing see.snapshot fates) ≡ sound → (by_name : Bool)
+      stands : (visits : List Visit)
+          → visit_at place (seeing see.snapshot visits) ≡ record { fate = sound; why = reason } → (by_name : Bool)
           → ways.by_name ≡ by_name
-          → Stands see.told_in ways (seeing see.snapshot fates ∷ []) place name
+          → Stands see.told_in ways (seeing see.snapshot visits ∷ []) place name
           (opens None (watched_at old.watched place))
           (if by_name then Followed 0 else Left)
-      stands fates at true way = through_stands [] (seeing see.snapshot fates) (watched_at old.watched place) named can refl at
-          (λ t. refl) (λ t. (
+      stands visits at true way = through_stands [] (seeing see.snapshot visits) (watched_at old.watched place) named can refl
+          (ap (λ (v : Visit). v.fate) at) (λ t. refl) (λ t. (
             λ other. absurd (false≢true (sym other ∙ way)),
             sym (nowhere t),
           )) (λ by. inr lost)
-      stands fates at false way = record {
+      stands visits at false way = record {
         begun = refl;
         named = named;
         why = inr (record {
           way = way;
           unbroken = unbroken;
-          kept = kept_more place [] (seeing see.snapshot fates) refl at;
+          kept = kept_more place [] (seeing see.snapshot visits) refl at;
           closed = refl;
           unopened = nowhere;
         });
       }
 
 pub first_unopened : {see : Sight} {ways : Ways} {place : ℕ} {name : List ℕ} {old : Moment} {watched : List Watched}
-    {slots : List Slot} {why : Fault} {now : Standing} {result : Result Bool Fault}
+    {slots : List Slot} {fault : Fault} {why : Reason} {now : Standing} {result : Result Bool Fault}
     → (watched_at old.watched place).name ≡ name → IsTrue (is_watchable old.watched place)
-    → why ≡ Open place → NameBreaks (λ file. broken.Open) place old.watched watched
+    → fault ≡ Open place → NameBreaks (λ file. broken.Open) place old.watched watched
     → see.snapshot.breaks (watched_at old.watched place).name ≡ true
-    → TellsStop see.told old.pen.printer.calling name old.pen.slots now slots (Broke why) result
+    → (is_some (watched_at watched place).failed ≡ true → why ≡ (watched_at watched place).reason)
+    → TellsStop (SaysFailed see.told old.pen.printer.calling name why) old.pen.slots now slots (Broke fault) result
     → Visits see ways place (record { text = name; standing = New }) old now (moment watched old.pen.printer slots)
     result
-first_unopened {place = place} {name} {why = why} named can is broke fails (tells, left, says) =
-    rw (tells, left) (drops unopened why named can (broke_at (λ file. broken.Open) refl refl is broke)
-    (λ looks fresh. rw fresh.0 (
+first_unopened {place = place} {name} {old} {watched} {fault = fault} named can is call fails reason (tells, left, says) =
+    let broke : BrokeAt place old.watched watched unopened fault = broke_at (λ file. broken.Open) refl refl is call in
+    rw (tells, left) (drops unopened fault named can broke (λ looks fresh. rw fresh.0 (
       refl,
       record {
-        share = missing_share name;
-        is_share = λ is fates. refl;
+        share = missing_share name broke.reason;
+        is_share = λ is visits. refl;
         found = inl (record {
           named = refl;
           opened = refl;
@@ -426,7 +461,7 @@ first_unopened {place = place} {name} {why = why} named can is broke fails (tell
           broke = inr (rw named at fails);
         });
         failed = refl;
-        shared = said_after came_none (failure_said false place name (rw is at says.1));
+        shared = said_after _ came_none (failure_said false place name (rw (is, broke_why can broke reason) at says));
       },
       refl,
     )))
@@ -449,20 +484,17 @@ first_gave {see} {ways} {name = name} {old = old} {new} {fate = fate} {result} v
     let ends = rw (viewed, is) at gave in rw fresh.0 (record {
       kept = refl;
       ends = gives_so (λ reach events. at_first file saw) ends;
-      shown = λ t fates.
-          let look = seeing see.snapshot fates in
+      shown = λ t visits.
+          let look = seeing see.snapshot visits in
           let leads = sym (saw.1 t) in
-          let entries = entries_first ways look leads in
-          let same : due ≡ due_at ways name [] look = ap (λ those. record { came = []; led = gives those ∷ [] })
-          (ap (λ those. ways.start (held_at see.snapshot those)) leads
-          ∙ sym (ap (gains_after ways.start []) entries ∙ append-nil _)) in (
-            ap is_missing entries,
+          let same : due ≡ due_at ways name [] look = due_first ways look leads in (
+            ap is_missing (entries_first ways look leads),
             subst (λ those. AreGiven (stop_in result) ends.events (those.came ++ those.led) (given_by those see.snapshot None fate))
                 same (are_by fate (given_by due see.snapshot None) (stop_in result) ends.events refl
                 (λ reach events. first_are {snapshot = see.snapshot} {name = name} {file = Some file} {seeks = ways.seeks}
                 {start = ways.start} (saw.1 t)) (rw t at ends.given)),
           );
-      last = λ t. (λ way. ap is_some (sym (saw.1 t)), λ fates. refl);
+      last = λ t. (λ way. ap is_some (sym (saw.1 t)), λ visits. refl);
     }) where
       due : Due
       due = record { came = []; led = gives (ways.start (held_at see.snapshot (see.snapshot.leads name))) ∷ [] }
@@ -508,7 +540,7 @@ later_gave {see} {ways} {place} {name} {position} {old} {result = result} again 
     let ends = rw followed.named at again.ends in record {
       kept = followed.kept;
       ends = gives_so (λ reach events. at_later opened position followed.long) ends;
-      shown = λ t fates. (
+      shown = λ t visits. (
         refl,
         rw (
           ← (followed.stands t),
@@ -520,8 +552,8 @@ later_gave {see} {ways} {place} {name} {position} {old} {result = result} again 
       );
       last = λ t. (
         λ way. ap (λ by_name. is_some (open_after_look by_name name opened see.snapshot)) way ∙ followed.there t way,
-        λ fates. ap (λ those. open_after_look ways.by_name name those see.snapshot) (followed.stands t)
-            ∙ sym (open_more ways name before looks (seeing see.snapshot fates)),
+        λ visits. ap (λ those. open_after_look ways.by_name name those see.snapshot) (followed.stands t)
+            ∙ sym (open_more ways name before looks (seeing see.snapshot visits)),
       );
     } where
       opened : Option ℕ
@@ -573,19 +605,19 @@ pub left_visited : {see : Sight} {ways : Ways} {place : ℕ} {name : List ℕ} {
 left_visited [] left = absurd (false≢true (sym left.begun))
 left_visited {see} {ways} {place} {name} (first ∷ looks) left = elim left.why [
   | inl dropped ↦ record {
-    fate = sound;
+    visit = sound_visit;
     share = no_share name;
-    found = λ fates at. record { is = λ t. rw dropped.0 refl; found = inl (dropped.0, refl) };
+    found = λ visits at. record { is = λ t. rw dropped.0 refl; found = inl (dropped.0, refl) };
     is_failed = refl;
     shared = came_none;
-    stands = λ fates at. still_left (first ∷ looks) (seeing see.snapshot fates) at left;
+    stands = λ visits at. still_left (first ∷ looks) (seeing see.snapshot visits) (ap (λ (v : Visit). v.fate) at) left;
   }
   -- if no file is open and names aren't followed, nothing is due
   | inr missed ↦
-      looked_visited sound missed.kept (looked_whole (gives_none sound
+      looked_visited sound_visit missed.kept (looked_whole (gives_none sound
       (at_later None 0 (λ by. absurd (false≢true (sym missed.way ∙ by))) (came_all (not_open refl) (not_asked missed.way))))
-      (λ t fates. (refl, grind (arith, common_steps, missed.unopened t, missed.way))))
-      (λ fates at. still_left (first ∷ looks) (seeing see.snapshot fates) at left)
+      (λ t visits. (refl, grind (arith, common_steps, missed.unopened t, missed.way))))
+      (λ visits at. still_left (first ∷ looks) (seeing see.snapshot visits) (ap (λ (v : Visit). v.fate) at) left)
 ]
 
 -- Names on which no call can fail.

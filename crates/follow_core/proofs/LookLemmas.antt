@@ -6,7 +6,8 @@ use Rattle.follow_core.specs.{
   Version.open_after_later,
   Version.{open_after_look, version, version_in},
   Gain.{last_from, gains_after, gains_later},
-  Look.{Fate, Look, Ways, can_meet, are_met, entries_in, failed_by, failed_in, fate_at, is_dropped, snapshots, sound},
+  Look.{Failed, Fate, Look, Visit, Ways, are_met, call_of, can_meet, entries_in, failed_by, failed_for},
+  Look.{failed_in, fate_at, is_dropped, snapshots, sound, visit_at},
   Look.is_first,
   Run.{AreKept, name_text},
   Share.{gain, gains_from, opened_in},
@@ -23,7 +24,7 @@ use Rattle.std.proofs.{
   lemmas.{List.{append-nil, map-append}, Bool.{and_parts, eq-eqb, Decides.nat_tests}},
   Math.Bool.{and-false, and-true},
 }
-use Rattle.watch_core.specs.{Snapshot.{Snapshot, latest}, declared.watch.Broken.Broken}
+use Rattle.watch_core.specs.Snapshot.{Snapshot, latest}
 
 -- What a look gives for a name, after the looks before it.
 
@@ -156,24 +157,38 @@ open_more ways name before looks look =
     ap (open_after_later ways.by_name name (before.snapshot.leads name)) (map-append (λ (one : Look). one.snapshot) looks (look ∷ []))
     ∙ open_append ways.by_name name (before.snapshot.leads name) (snapshots looks) look.snapshot
 
+-- the call of a visit by which a name broke
+pub broke_by : (visit : Visit) → failed_by visit None ≡ failed_for visit.why (call_of visit.fate)
+broke_by visit = by visit.fate where
+  by : (fate : Fate) → failed_by (record { fate = fate; why = visit.why }) None ≡ failed_for visit.why (call_of fate)
+  by sound = refl
+  by fate = refl
+
 -- if no call on a name failed, its fate at each look is sound
-pub came_through : (fate : Fate) (later : Option Broken) → failed_by fate later ≡ None → fate ≡ sound
-came_through fate later none = grind (arith, common_steps)
+pub came_through : (visit : Visit) (later : Option Failed) → failed_by visit later ≡ None → visit.fate ≡ sound
+came_through visit later = by visit.fate where
+  by : (fate : Fate) → failed_by (record visit { fate = fate }) later ≡ None → fate ≡ sound
+  by sound none = refl
+  by fate none = absurd (cc)
+
+-- a sound visit breaks no name
+pub failed_later : (visit : Visit) (later : Option Failed) → visit.fate ≡ sound → failed_by visit later ≡ later
+failed_later visit later fine = rw fine refl
 
 -- the call by which a name broke at the last look, if none failed at the looks before
-pub failed_more : (place : ℕ) (looks : List Look) (look : Look) {fate : Fate} → failed_in place looks ≡ None
-    → fate_at place look ≡ fate → failed_in place (looks ++ look ∷ []) ≡ failed_by fate None
+pub failed_more : (place : ℕ) (looks : List Look) (look : Look) {visit : Visit} → failed_in place looks ≡ None
+    → visit_at place look ≡ visit → failed_in place (looks ++ look ∷ []) ≡ failed_by visit None
 failed_more place [] look kept at = ap (λ those. failed_by those None) at
 failed_more place (first ∷ looks) look kept at =
-    let through = came_through (fate_at place first) (failed_in place looks) kept in
-    ap (λ those. failed_by those (failed_in place (looks ++ look ∷ []))) through
-    ∙ failed_more place looks look (sym (ap (λ those. failed_by those (failed_in place looks)) through) ∙ kept) at
+    let fine = came_through (visit_at place first) (failed_in place looks) kept in
+    failed_later (visit_at place first) (failed_in place (looks ++ look ∷ [])) fine
+    ∙ failed_more place looks look (sym (failed_later (visit_at place first) (failed_in place looks) fine) ∙ kept) at
 
 -- a look at which no call failed breaks no name
 pub failed_sound : (place : ℕ) (looks : List Look) (look : Look) → fate_at place look ≡ sound
     → failed_in place (looks ++ look ∷ []) ≡ failed_in place looks
-failed_sound place [] look fine = ap (λ those. failed_by those None) fine
-failed_sound place (first ∷ looks) look fine = ap (failed_by (fate_at place first)) (failed_sound place looks look fine)
+failed_sound place [] look fine = failed_later (visit_at place look) None fine
+failed_sound place (first ∷ looks) look fine = ap (failed_by (visit_at place first)) (failed_sound place looks look fine)
 
 -- The fates that looks can meet.
 
@@ -181,8 +196,9 @@ pub met_none : (is_first by_name seeks : Bool) (place : ℕ) (looks : List Look)
     → are_met is_first by_name seeks place looks ≡ true
 met_none is_first by_name seeks place [] none = refl
 met_none is_first by_name seeks place (look ∷ looks) none =
-    let through = came_through (fate_at place look) (failed_in place looks) none in
-    rw through (met_none false by_name seeks place looks (rw through at none))
+    let through = came_through (visit_at place look) (failed_in place looks) none in
+    rw through (met_none false by_name seeks place looks
+    (sym (failed_later (visit_at place look) (failed_in place looks) through) ∙ none))
 
 met_more : (first by_name seeks : Bool) (place : ℕ) (looks : List Look) (look : Look)
     → are_met first by_name seeks place looks ≡ true
@@ -194,17 +210,23 @@ met_more first by_name seeks place (one ∷ looks) look so_far met =
     rw both.0 (met_more false by_name seeks place looks look both.1 (rw (and-false (is_first looks)) met))
 
 -- no call failed at one look more
-pub broken_sound : {ways : Ways} (looks : List Look) (look : Look) {place : ℕ} {failed : Option Broken}
+pub broken_sound : {ways : Ways} (looks : List Look) (look : Look) {place : ℕ} {failed : Option Failed}
     → fate_at place look ≡ sound → BrokeIn ways looks place failed → BrokeIn ways (looks ++ look ∷ []) place failed
 broken_sound {ways} looks look {place} fine so_far = grind (arith, common_steps, failed_sound, met_more)
 
 -- the name broke at one look more
-pub broken_more : {ways : Ways} (looks : List Look) (look : Look) {place : ℕ} {failed : Option Broken} {fate : Fate}
-    → failed ≡ failed_by fate None → is_dropped place looks ≡ false → fate_at place look ≡ fate
-    → can_meet (is_first looks) ways.by_name ways.seeks fate ≡ true → BrokeIn ways (looks ++ look ∷ []) place failed
-broken_more {ways} looks look {place} {fate} broke kept at met = grind (arith, common_steps, none_of, failed_more, met_more, met_none, and-true)
+pub broken_more : {ways : Ways} (looks : List Look) (look : Look) {place : ℕ} {failed : Option Failed} {visit : Visit}
+    → failed ≡ failed_by visit None → is_dropped place looks ≡ false → visit_at place look ≡ visit
+    → can_meet (is_first looks) ways.by_name ways.seeks visit.fate ≡ true
+    → BrokeIn ways (looks ++ look ∷ []) place failed
+broken_more {ways} looks look {place} broke kept at met =
+    let none : failed_in place looks ≡ None = none_of (failed_in place looks) kept in record {
+      call = broke ∙ sym (failed_more place looks look none at);
+      met = met_more true ways.by_name ways.seeks place looks look (met_none true ways.by_name ways.seeks place looks none)
+          (rw (and-true (is_first looks), ap (λ (v : Visit). v.fate) at) met);
+    }
 
 -- What a look gives for a name.
 
-abbrev pub seeing : Snapshot → List Fate → Look
-seeing snapshot fates = record { snapshot = snapshot; fates = fates }
+abbrev pub seeing : Snapshot → List Visit → Look
+seeing snapshot visits = record { snapshot = snapshot; visits = visits }

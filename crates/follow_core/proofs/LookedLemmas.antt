@@ -289,22 +289,22 @@ makes_look {see} {seen} {seen_new} {old} {mid} {watched} {watched_mid} {slots} {
             let stood = stand_from holds begins.phase in
             let visited : VisitedTo see asked.ways looks (length mid.names) names (moment watched_mid mid.printer slots) new failed =
             rw holds.way (visits.visited asked.ways.first looks stood) in
-            let look : Look = record { snapshot = see.snapshot; fates = visited.fates } in
-            let front : IsFront visited.fates visited.fates = ([], sym (append-nil visited.fates)) in
+            let look : Look = record { snapshot = see.snapshot; visits = visited.visits } in
+            let front : IsFront visited.visits visited.visits = ([], sym (append-nil visited.visits)) in
             let many = same_length mid.names names visits.same in
             let taken : take (length mid.names) (texts names) ≡ asked.names = (let size = length_texts names in
             take_all (length mid.names) (texts names) (omega arith) ∙ visits.same ∙ holds.same) in (
-              visited.fates,
+              visited.visits,
               record {
                 way = holds.way;
                 same = visits.same ∙ holds.same;
                 numbered = holds.numbered;
                 stand = subst (StandsIn see.told_in asked.ways (looks ++ look ∷ []) names new.watched) (sym begins.phase) (
-                  (λ place within. visited.done visited.fates front place (omega (arith, within, many))),
+                  (λ place within. visited.done visited.visits front place (omega (arith, within, many))),
                   rw (← many) (visits.count ∙ stood.many),
                 );
                 shares = holds.shares ++ visited.shares;
-                found = looks_more holds.found (rw taken at (visited.found visited.fates front));
+                found = looks_more holds.found (rw taken at (visited.found visited.visits front));
                 shared = all_both holds.shared visited.shared;
                 failed = rw (failed-append holds.shares visited.shares, holds.failed, visited.is_failed) refl;
               },
@@ -369,8 +369,8 @@ module _ {told_in told : Bool} {asked : Asked} {shows : ℕ → Snapshot} where
       → NoneGoesOn asked.ways watched)
       → Progress told_in told asked shows (made + 1) going (point new watched slots) seen_new
   one_more {now} {seen} {watched} {slots} same p looks_on more alive none =
-      let (fates, holds) = looks_on asked p.looks p.holds in
-      let look : Look = record { snapshot = now (length seen); fates = fates } in record {
+      let (visits, holds) = looks_on asked p.looks p.holds in
+      let look : Look = record { snapshot = now (length seen); visits = visits } in record {
         looks = p.looks ++ look ∷ [];
         count = length-append p.looks (look ∷ []) ∙ ap (λ n. n + 1) p.count;
         observed = grind (arith, common_steps, map-append, p.observed);

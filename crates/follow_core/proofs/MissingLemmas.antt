@@ -8,12 +8,10 @@ use Rattle.std.proofs.{
 }
 use Rattle.watch_core.specs.{
   Snapshot.{Snapshot, Finding, Found, clinging, first_led, forgiving, is_nowhere, leads_to, opens_as, or_else},
-  declared.watch.Broken.Broken,
 }
 use Rattle.follow_core.specs.{
   Event.{Event},
-  Look.{Fate, Look, Ways, fate_at, failed_by, failed_in, is_dropped, sound, unled, unopened, unmeasured},
-  Look.{unsought, unread},
+  Look.{Failed, Fate, Look, Visit, Ways, fate_at, failed_by, failed_in, is_dropped, sound, visit_at},
   Reading.{AllInsist, AreAtLook, AreFound, IsFound, IsGiven, LeadsNowhere, LedTo, LookGives, at_first, at_later},
   Reading.came_all,
   Reading.{came_early, looks_more},
@@ -51,7 +49,7 @@ look_told snapshot (at_later opened seen long (came_all came led)) is by insists
     led_told snapshot led is by insists leads
 
 found_sound : (ways : Ways) (before : List Look) (look : Look) (place : ℕ) {name : List ℕ} {share : Share}
-    → IsFound true ways before look.snapshot name (fate_at place look) share → ways.by_name ≡ true
+    → IsFound true ways before look.snapshot name (visit_at place look) share → ways.by_name ≡ true
     → look.snapshot.insists ≡ true → look.snapshot.leads name ≡ None → fate_at place look ≡ sound → ⊥
 found_sound ways before look place found by insists leads fine = elim found.events [
   | inl (first, other, none) ↦ absurd (cc)
@@ -83,36 +81,33 @@ among_sound ways before look from (name ∷ names) (names_more given rest) by in
 
 -- A name that was dropped stays dropped.
 
-dropped_by : (fate : Fate) (later more : Option Broken) → (is_some later ≡ true → is_some more ≡ true)
-    → is_some (failed_by fate later) ≡ true → is_some (failed_by fate more) ≡ true
-dropped_by sound later more on dropped = on dropped
-dropped_by unled later more on dropped = refl
-dropped_by unopened later more on dropped = refl
-dropped_by (unmeasured file) later more on dropped = refl
-dropped_by (unsought file from) later more on dropped = refl
-dropped_by (unread file from) later more on dropped = refl
+dropped_by : (visit : Visit) (later more : Option Failed) → (is_some later ≡ true → is_some more ≡ true)
+    → is_some (failed_by visit later) ≡ true → is_some (failed_by visit more) ≡ true
+dropped_by visit later more on = by visit.fate where
+  by : (fate : Fate) → is_some (failed_by (record visit { fate = fate }) later) ≡ true
+      → is_some (failed_by (record visit { fate = fate }) more) ≡ true
+  by sound dropped = on dropped
+  by fate dropped = refl
 
 still_dropped : (place : ℕ) (looks : List Look) (look : Look) → is_dropped place looks ≡ true
     → is_dropped place (looks ++ look ∷ []) ≡ true
 still_dropped place [] look dropped = absurd (cc)
 still_dropped place (first ∷ looks) look dropped =
-    dropped_by (fate_at place first) (failed_in place looks) (failed_in place (looks ++ look ∷ [])) (still_dropped place looks look) dropped
+    dropped_by (visit_at place first) (failed_in place looks) (failed_in place (looks ++ look ∷ [])) (still_dropped place looks look) dropped
 
 -- a name on which a call failed at a look is dropped by this look
 now_dropped : (place : ℕ) (looks : List Look) (look : Look) → is_dropped place looks ≡ false
     → (fate_at place look ≡ sound → ⊥) → is_dropped place (looks ++ look ∷ []) ≡ true
-now_dropped place looks look kept failed = by (fate_at place look) refl where
-  none : (broken : Option Broken) → is_some broken ≡ false → broken ≡ None
-  none None is = refl
-  none (Some call) is = absurd (cc)
+now_dropped place looks look kept failed =
+    ap is_some (failed_more place looks look (none (failed_in place looks) kept) refl) ∙ by (fate_at place look) failed where
+      none : (broken : Option Failed) → is_some broken ≡ false → broken ≡ None
+      none None is = refl
+      none (Some call) is = absurd (cc)
 
-  by : (fate : Fate) → fate_at place look ≡ fate → is_dropped place (looks ++ look ∷ []) ≡ true
-  by sound at = absurd (failed at)
-  by unled at = ap is_some (failed_more place looks look (none _ kept) at)
-  by unopened at = ap is_some (failed_more place looks look (none _ kept) at)
-  by (unmeasured file) at = ap is_some (failed_more place looks look (none _ kept) at)
-  by (unsought file from) at = ap is_some (failed_more place looks look (none _ kept) at)
-  by (unread file from) at = ap is_some (failed_more place looks look (none _ kept) at)
+      by : (fate : Fate) → (fate ≡ sound → ⊥)
+          → is_some (failed_by (record (visit_at place look) { fate = fate }) None) ≡ true
+      by sound failed = absurd (failed refl)
+      by fate failed = refl
 
 nowhere_before : {name : List ℕ} (looks : List Look) (look : Look) → LeadsNowhere name (looks ++ look ∷ [])
     → LeadsNowhere name looks ⊎ (look.snapshot.leads name ≡ None)

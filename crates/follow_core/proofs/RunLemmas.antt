@@ -123,12 +123,13 @@ pub shares_more : (ways : Ways) (names : List (List ℕ)) (looks : List Look) (l
     → shares_of ways names (looks ++ look ∷ []) ≡ shares_of ways names looks ++ shares_at_look ways names looks look
 shares_more ways names looks look = shares_from-append ways names [] looks look
 
-at_look_are : {ways : Ways} {before : List Look} {look : Look} {from : ℕ} {names : List (List ℕ)} {shares : List Share}
-    → AreAtLook true ways before look from names shares → shares ≡ shares_at_look_from ways before look from names
+pub at_look_are : {ways : Ways} {before : List Look} {look : Look} {from : ℕ} {names : List (List ℕ)}
+    {shares : List Share} → AreAtLook true ways before look from names shares
+    → shares ≡ shares_at_look_from ways before look from names
 at_look_are no_names = refl
 at_look_are (names_more given rest) = λ i. given.is refl i ∷ at_look_are rest i
 
--- if what looks see is visible, their snapshots and fates decide what they give
+-- if what looks see is visible, their snapshots and visits decide what they give
 pub found_are : (ways : Ways) (names : List (List ℕ)) (looks : List Look) (shares : List Share)
     → AreFound true ways names looks shares → shares ≡ shares_of ways names looks
 found_are ways names looks shares no_looks = refl

@@ -5,7 +5,7 @@ use Rattle.ports_core.specs.Part.{IsBeginning}
 use Rattle.watch_core.specs.Snapshot.{Snapshot}
 use Rattle.follow_core.specs.{
   declared.notice.Notice.{Notice, TheVariants.{Truncated, Replaced, Inaccessible, Appeared}},
-  Notice.notice_of,
+  Telling.{Remark, found},
   Version.is_file,
 }
 
@@ -21,11 +21,11 @@ bytes_in [] = []
 bytes_in (notes notice ∷ events) = bytes_in events
 bytes_in (gives bytes ∷ events) = bytes ++ bytes_in events
 
--- the lines of all events, about this name, for standard error
-abbrev pub lines_in : List ℕ → List Event → List (List ℕ)
-lines_in name [] = []
-lines_in name (notes notice ∷ events) = notice_of notice name ∷ lines_in name events
-lines_in name (gives bytes ∷ events) = lines_in name events
+-- what all events say of this name, for standard error
+abbrev pub remarks_in : List ℕ → List Event → List Remark
+remarks_in name [] = []
+remarks_in name (notes notice ∷ events) = found notice name ∷ remarks_in name events
+remarks_in name (gives bytes ∷ events) = remarks_in name events
 
 -- the line that an open file is shorter than what was seen of it, if it is
 abbrev pub notes_past : (seen len : ℕ) → List Event

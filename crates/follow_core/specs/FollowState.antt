@@ -16,7 +16,7 @@ use Rattle.follow_core.specs.{
   },
   Sharing.{CanPrint, AllShared, AllShort},
   Followed.any_failed,
-  Look.{Fate, Look, Ways, is_dropped, snapshots, ways_of},
+  Look.{Look, Visit, Ways, is_dropped, snapshots, ways_of},
   Share.{BeginsShare, Share, share_of},
   Printing.{PrinterState, fresh_printer},
   Reading.{AreAtLook, AreFound, IsBegun},
@@ -123,21 +123,21 @@ pub record Holds (told_in told : Bool) (asked : Asked) (looks : List Look) (now 
       now.slots
   pub failed : any_failed shares ≡ now.follow.has_failed
 
--- What a look that was stopped gave: nothing; or it came to the name at a place. There are fates for the names before
+-- What a look that was stopped gave: nothing; or it came to the name at a place. There are visits for the names before
 -- this place, and no call on this name or a later name failed. The names before it have all that the look gives them,
 -- in `whole`. This name has a beginning of what the look gives it, the only share in `part`. Names broke exactly if one
 -- of these looks says so.
 pub data Begun (told_in : Bool) (ways : Ways) (names : List (List ℕ)) (looks : List Look) (snapshot : Snapshot)
     (watched : List Watched) : (whole part : List Share) → Type 0 where
   nothing : AreWatched ways looks names watched → Begun told_in ways names looks snapshot watched [] []
-  up_to : (fates : List Fate) (place : ℕ) (shares : List Share) (share : Share)
-      → length fates ≡ ways.first + place → place < length names
-      → AreWatched ways (looks ++ record { snapshot = snapshot; fates = fates } ∷ []) names watched
-      → AreAtLook told_in ways looks (record { snapshot = snapshot; fates = fates }) ways.first (take place names)
+  up_to : (visits : List Visit) (place : ℕ) (shares : List Share) (share : Share)
+      → length visits ≡ ways.first + place → place < length names
+      → AreWatched ways (looks ++ record { snapshot = snapshot; visits = visits } ∷ []) names watched
+      → AreAtLook told_in ways looks (record { snapshot = snapshot; visits = visits }) ways.first (take place names)
       shares
       → IsBegun told_in ways looks snapshot (slice_index_or names place []) share
       → (told_in ≡ true → BeginsShare share
-      (share_of ways looks (record { snapshot = snapshot; fates = fates }) (ways.first + place)
+      (share_of ways looks (record { snapshot = snapshot; visits = visits }) (ways.first + place)
       (slice_index_or names place [])))
       → Begun told_in ways names looks snapshot watched shares (share ∷ [])
 
@@ -168,7 +168,8 @@ SawOrNot seen snapshot seen_new = (seen_new ≡ seen) ⊎ (seen_new ≡ seen ++ 
 -- whatever looks were made before, one more look was made, which saw this
 abbrev pub LooksOn : (told_in told : Bool) → Snapshot → (old new : Point) → Type 0
 LooksOn told_in told snapshot old new = (asked : Asked) (looks : List Look) → Holds told_in told asked looks old
-    → (fates : List Fate) × Holds told_in told asked (looks ++ record { snapshot = snapshot; fates = fates } ∷ []) new
+    → (visits : List Visit)
+    × Holds told_in told asked (looks ++ record { snapshot = snapshot; visits = visits } ∷ []) new
 
 -- whatever looks were made before, the next look was stopped
 abbrev pub StopsOn : (told_in told : Bool) → Snapshot → Point → List Watched → List Slot → Fault → Type 0

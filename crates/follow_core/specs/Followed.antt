@@ -4,7 +4,7 @@ use Rattle.std.specs.{
   Prelude.{bytes_eq, if◌then◌else◌},
 }
 use Rattle.ports_core.specs.Text.{header_of}
-use Rattle.follow_core.specs.{Look.{Ways, Look}, Share.{Share, bytes_of, lines_of, shares_of}, Title.title}
+use Rattle.follow_core.specs.{Look.{Ways, Look}, Share.{Share, bytes_of, remarks_of, shares_of}, Telling.Remark, Title.title}
 
 abbrev pub is_empty : List ℕ → Bool
 is_empty [] = true
@@ -46,9 +46,9 @@ abbrev pub last_header_from : Bool → Option (List ℕ) → List Share → Opti
 last_header_from headers last [] = last
 last_header_from headers last (share ∷ shares) = last_header_from headers (header_after headers last share) shares
 
-abbrev pub messages_of : List Share → List (List ℕ)
+abbrev pub messages_of : List Share → List Remark
 messages_of [] = []
-messages_of (share ∷ shares) = lines_of share ++ messages_of shares
+messages_of (share ∷ shares) = remarks_of share ++ messages_of shares
 
 -- some name could not be opened or read, or was missing at the first look
 abbrev pub any_failed : List Share → Bool
@@ -58,8 +58,8 @@ any_failed (share ∷ shares) = is_some share.failure || any_failed shares
 pub record Followed : Type 0 where
   -- the text on standard output
   pub out : List ℕ
-  -- the lines on standard error
-  pub messages : List (List ℕ)
+  -- what is said on standard error
+  pub messages : List Remark
   -- the status is 1 in place of 0
   pub has_failed : Bool
 

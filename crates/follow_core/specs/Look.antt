@@ -1,8 +1,10 @@
 -- The looks that were made, and how each name came through them.
 use Rattle.std.specs.{
   Prelude.{is_some, ℕ, Bool, true, false, not, ◌&&◌, ◌||◌, List, [], ◌∷◌, Option, Some, None, map, slice_index_or},
+  Prelude.option_map,
 }
 use Rattle.ends_core.specs.Ends.{tail_of}
+use Rattle.ports_core.specs.declared.reason.Reason.{Reason, TheVariants.Other}
 use Rattle.seg_core.specs.declared.unit.Unit.{Unit, TheVariants.{Lines, Bytes}}
 use Rattle.watch_core.specs.{Snapshot.Snapshot, declared.watch.Broken.Broken}
 use Rattle.follow_core.specs.{declared.start.Start.Start, Version.{Entry, entries_of}}
@@ -22,28 +24,56 @@ pub data Fate : Type 0 where
   -- a read of this file from a place on, whose bytes were to be written
   unread : Option ℕ → ℕ → Fate
 
+-- the call of this fate that failed
+abbrev pub call_of : Fate → Option Broken
+call_of sound = None
+call_of unled = Some broken.Look
+call_of unopened = Some broken.Open
+call_of (unmeasured file) = Some (broken.Len file)
+call_of (unsought file from) = Some (broken.Read file from)
+call_of (unread file from) = Some (broken.Read file from)
+
+-- how a look at one name ended
+pub record Visit : Type 0 where
+  pub fate : Fate
+  -- the system's reason: why the call failed, or why the name is missing at the first look; it says nothing otherwise
+  pub why : Reason
+
+abbrev pub sound_visit : Visit
+sound_visit = record { fate = sound; why = Other }
+
 pub record Look : Type 0 where
   pub snapshot : Snapshot
-  -- the fate of each watched name, by its number; a name past the end of the list is sound, and a fate of others' names
-  -- says nothing
-  pub fates : List Fate
+  -- the visit of each watched name, by its number; a name past the end of the list is sound, and a visit of others'
+  -- names says nothing
+  pub visits : List Visit
+
+abbrev pub visit_at : ℕ → Look → Visit
+visit_at place look = slice_index_or look.visits place sound_visit
 
 abbrev pub fate_at : ℕ → Look → Fate
-fate_at place look = slice_index_or look.fates place sound
+fate_at place look = (visit_at place look).fate
 
--- the call by which a name broke: that of this fate, or if it is sound that of a later look
-abbrev pub failed_by : Fate → Option Broken → Option Broken
-failed_by sound later = later
-failed_by unled later = Some broken.Look
-failed_by unopened later = Some broken.Open
-failed_by (unmeasured file) later = Some (broken.Len file)
-failed_by (unsought file from) later = Some (broken.Read file from)
-failed_by (unread file from) later = Some (broken.Read file from)
+-- a call that failed, and why
+pub record Failed : Type 0 where
+  pub call : Broken
+  pub why : Reason
+
+-- this call failed for this reason, if there is a call
+abbrev pub failed_for : Reason → Option Broken → Option Failed
+failed_for why call = option_map (λ call. record { call = call; why = why }) call
+
+-- how a name broke: as this visit says, or if its fate is sound as a later look says
+abbrev pub failed_by : Visit → Option Failed → Option Failed
+failed_by visit later = elim (failed_for visit.why (call_of visit.fate)) [
+  | None ↦ later
+  | Some failed ↦ Some failed
+]
 
 -- the first call on the name of this number that failed in these looks; the name broke by it
-abbrev pub failed_in : ℕ → List Look → Option Broken
+abbrev pub failed_in : ℕ → List Look → Option Failed
 failed_in place [] = None
-failed_in place (look ∷ looks) = failed_by (fate_at place look) (failed_in place looks)
+failed_in place (look ∷ looks) = failed_by (visit_at place look) (failed_in place looks)
 
 -- whether the name of this number broke at one of these looks; it is dropped from then on
 abbrev pub is_dropped : ℕ → List Look → Bool

@@ -7,8 +7,9 @@ use Rattle.watch_core.specs.Snapshot.{Finding, Snapshot, Found, latest, holds_ma
 use Rattle.follow_core.specs.{
   declared.notice.Notice.Notice,
   Event.{Begins, Event, change_between, due_from, gives, notes, notes_past},
-  Look.{Fate, Look, Ways, sound, unled, unmeasured, unopened, unread, unsought, fate_at, is_dropped, is_first, snapshots},
-  Share.{Share, failure_of, is_unopened, missing_share, no_share, share_of},
+  Look.{Fate, Look, Visit, Ways, sound, unled, unmeasured, unopened, unread, unsought, is_dropped, is_first, snapshots},
+  Look.visit_at,
+  Share.{Share, failure_of, is_unopened, missing_share, no_share, opened_in, seen_in, share_of},
   Version.held_at,
 }
 
@@ -125,25 +126,33 @@ pub data LookGives (told : Bool) (ways : Ways) : List Look → Snapshot → List
       → Later told ways.by_name snapshot name opened seen reach events
       → LookGives told ways (first ∷ looks) snapshot name reach events
 
--- what a look after these gives for a name that wasn't dropped, by its fate and by what its calls found
-pub record IsFound (told : Bool) (ways : Ways) (before : List Look) (snapshot : Snapshot) (name : List ℕ) (fate : Fate)
-    (share : Share) : Type 0 where
+-- What calls of a look after these find on a name, if that is visible: at the first look, of the file to which the name
+-- leads; at a later look, of the file that the looks before left open.
+abbrev pub CallsFind : Ways → List ℕ → List Look → Look → Option Fate → List Event → Type 0
+CallsFind ways name [] look reach events = (file : ℕ) × (look.snapshot.leads name ≡ Some file)
+    × First true look.snapshot name (Some file) ways.seeks ways.start reach events
+CallsFind ways name (first ∷ looks) look reach events = Later true ways.by_name look.snapshot name
+    (opened_in ways name (first ∷ looks)) (seen_in ways name (first ∷ looks)) reach events
+
+-- what a look after these gives for a name that wasn't dropped, by its visit and by what its calls found
+pub record IsFound (told : Bool) (ways : Ways) (before : List Look) (snapshot : Snapshot) (name : List ℕ)
+    (visit : Visit) (share : Share) : Type 0 where
   pub named : share.name ≡ name
-  pub opened : share.is_opened ≡ (not (is_unopened fate) && is_first before)
-  pub failed : share.failure ≡ failure_of fate
+  pub opened : share.is_opened ≡ (not (is_unopened visit.fate) && is_first before)
+  pub failed : share.failure ≡ failure_of visit
   -- the first look gives nothing of a name that it can't open
-  pub events : ((is_first before ≡ true) × (fate ≡ unopened) × (share.events ≡ []))
-      ⊎ LookGives told ways before snapshot name (Some fate) share.events
+  pub events : ((is_first before ≡ true) × (visit.fate ≡ unopened) × (share.events ≡ []))
+      ⊎ LookGives told ways before snapshot name (Some visit.fate) share.events
   -- a call on the name failed only if a call on it can fail in this look
-  pub broke : (fate ≡ sound) ⊎ (snapshot.breaks name ≡ true)
+  pub broke : (visit.fate ≡ sound) ⊎ (snapshot.breaks name ≡ true)
 
 -- the name was found to lead nowhere at the first look, and the look gives the message about that
-pub record IsMissing (told : Bool) (before : List Look) (snapshot : Snapshot) (name : List ℕ) (fate : Fate)
+pub record IsMissing (told : Bool) (before : List Look) (snapshot : Snapshot) (name : List ℕ) (visit : Visit)
     (share : Share) : Type 0 where
   pub first : is_first before ≡ true
-  pub kept : fate ≡ sound
+  pub kept : visit.fate ≡ sound
   pub nowhere : Saw told snapshot name (opens_as None)
-  pub is : share ≡ missing_share name
+  pub is : share ≡ missing_share name visit.why
 
 -- What a look after these gives for the name of this number, by what its calls found. If what the look sees is visible,
 -- that is its share.
@@ -151,8 +160,8 @@ pub record IsGiven (told : Bool) (ways : Ways) (before : List Look) (look : Look
     (share : Share) : Type 0 where
   pub is : told ≡ true → share ≡ share_of ways before look place name
   pub found : ((is_dropped place before ≡ true) × (share ≡ no_share name))
-      ⊎ ((is_dropped place before ≡ false) × (IsFound told ways before look.snapshot name (fate_at place look) share
-      ⊎ IsMissing told before look.snapshot name (fate_at place look) share))
+      ⊎ ((is_dropped place before ≡ false) × (IsFound told ways before look.snapshot name (visit_at place look) share
+      ⊎ IsMissing told before look.snapshot name (visit_at place look) share))
 
 -- what a look after these gives for the names in order; the first name has this number
 pub data AreAtLook (told : Bool) (ways : Ways) (before : List Look) (look : Look) : ℕ → List (List ℕ) → List Share

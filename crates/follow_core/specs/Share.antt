@@ -1,18 +1,19 @@
 -- What one look gives for one name.
 use Rattle.std.specs.{
   Prelude.{◌≡◌, ℕ, ◌+◌, ◌-◌, Bool, true, false, not, is_some, ◌&&◌, List, [], ◌∷◌, ◌++◌, Option, Some, None, length},
-  Prelude.if◌then◌else◌,
+  Prelude.{if◌then◌else◌, option_map},
 }
-use Rattle.ports_core.specs.declared.fault.Fault.{Fault, TheVariants.{Open, Read}}
+use Rattle.ports_core.specs.declared.{fault.Fault.{Fault, TheVariants.{Open, Read}}, reason.Reason.Reason}
 use Rattle.watch_core.specs.Snapshot.{Snapshot, latest}
 use Rattle.follow_core.specs.{
-  Event.{Begins, Event, after_change, all_but, all_held, bytes_in, came_of, change_between, gives, lines_in, notes_in},
+  Event.{Begins, Event, after_change, all_but, all_held, bytes_in, came_of, change_between, gives, notes_in},
+  Event.remarks_in,
   Gain.gains_after,
   Notice.is_missing,
   Version.{held_at, is_same, open_after, open_after_look},
-  Telling.failure_text,
-  Look.{Look, Ways, Fate, sound, unled, unopened, unmeasured, unsought, unread, fate_at, is_dropped, is_first},
-  Look.{entries_in, snapshots},
+  Telling.{Failure, Remark, failed},
+  Look.{Look, Ways, Fate, Visit, sound, unled, unopened, unmeasured, unsought, unread, is_dropped, is_first},
+  Look.{entries_in, snapshots, visit_at},
 }
 
 pub record Share : Type 0 where
@@ -21,18 +22,18 @@ pub record Share : Type 0 where
   pub is_opened : Bool
   pub events : List Event
   -- why nothing more came: a call failed, or the name was missing at the first look
-  pub failure : Option Fault
+  pub failure : Option Failure
 
 abbrev pub bytes_of : Share → List ℕ
 bytes_of share = bytes_in share.events
 
-abbrev pub failure_line : List ℕ → Option Fault → List (List ℕ)
-failure_line name None = []
-failure_line name (Some fault) = failure_text fault name ∷ []
+abbrev pub failure_remark : List ℕ → Option Failure → List Remark
+failure_remark name None = []
+failure_remark name (Some failure) = failed failure name ∷ []
 
--- the lines about a name: what the look found, and after that the failure
-abbrev pub lines_of : Share → List (List ℕ)
-lines_of share = lines_in share.name share.events ++ failure_line share.name share.failure
+-- what is said of a name: what the look found, and after that the failure
+abbrev pub remarks_of : Share → List Remark
+remarks_of share = remarks_in share.name share.events ++ failure_remark share.name share.failure
 
 -- What is due of a name at a look, in two parts: what came of the file that was open; and, if the name leads elsewhere,
 -- a line about that and what the file there holds.
@@ -98,6 +99,11 @@ abbrev pub given_by : Due → Snapshot → Option ℕ → Fate → List Event
 given_by due snapshot opened fate = if is_kept opened fate then came_before snapshot fate due.came
     else due.came ++ led_before snapshot fate due.led
 
+-- what a look after these gives for a name with this fate
+abbrev pub given_at : Ways → List ℕ → List Look → Look → Fate → List Event
+given_at ways name before look fate =
+    given_by (due_at ways name before look) look.snapshot (opened_in ways name before) fate
+
 -- what a look adds to a name's text
 abbrev pub gain : Ways → List ℕ → List Look → Look → List ℕ
 gain ways name before look = bytes_in (events_at ways name before look)
@@ -112,39 +118,48 @@ gains_from ways name before (look ∷ looks) =
 abbrev pub no_share : List ℕ → Share
 no_share name = record { name = name; is_opened = false; events = []; failure = None }
 
--- what the first look gives for a name that leads nowhere: the message that it can't be opened
-abbrev pub missing_share : List ℕ → Share
-missing_share name = record { name = name; is_opened = false; events = []; failure = Some (Open 0) }
+-- what the first look gives for a name that leads nowhere: the message that it can't be opened, for this reason
+abbrev pub missing_share : List ℕ → Reason → Share
+missing_share name why = record {
+  name = name;
+  is_opened = false;
+  events = [];
+  failure = Some (record { fault = Open 0; why = why });
+}
 
 -- the fault that is reported for a name with this fate
-abbrev pub failure_of : Fate → Option Fault
-failure_of sound = None
-failure_of unled = Some (Open 0)
-failure_of unopened = Some (Open 0)
-failure_of (unmeasured file) = Some (Read 0)
-failure_of (unsought file from) = Some (Read 0)
-failure_of (unread file from) = Some (Read 0)
+abbrev pub fault_of : Fate → Option Fault
+fault_of sound = None
+fault_of unled = Some (Open 0)
+fault_of unopened = Some (Open 0)
+fault_of (unmeasured file) = Some (Read 0)
+fault_of (unsought file from) = Some (Read 0)
+fault_of (unread file from) = Some (Read 0)
+
+-- the failure that is reported after such a visit
+abbrev pub failure_of : Visit → Option Failure
+failure_of visit = option_map (λ fault. record { fault = fault; why = visit.why }) (fault_of visit.fate)
 
 abbrev pub is_unopened : Fate → Bool
 is_unopened unopened = true
 is_unopened fate = false
 
--- what a look after these gives for a name with this fate
-abbrev pub share_by : Ways → List ℕ → List Look → Look → Fate → Share
-share_by ways name before look fate =
-    if not (is_some (failure_of fate)) && is_first before && is_missing (entries_in ways name (before ++ look ∷ []))
-    then missing_share name
+-- what a look after these gives for a name by such a visit
+abbrev pub share_by : Ways → List ℕ → List Look → Look → Visit → Share
+share_by ways name before look visit =
+    if not (is_some (failure_of visit)) && is_first before && is_missing (entries_in ways name (before ++ look ∷ []))
+    then missing_share name visit.why
     else record {
       name = name;
-      is_opened = not (is_unopened fate) && is_first before;
-      events = given_by (due_at ways name before look) look.snapshot (opened_in ways name before) fate;
-      failure = failure_of fate;
+      is_opened = not (is_unopened visit.fate) && is_first before;
+      events = given_at ways name before look visit.fate;
+      failure = failure_of visit;
     }
 
 -- what a look after these gives for the name of this number; nothing if the name was dropped before
 abbrev pub share_of : Ways → List Look → Look → ℕ → List ℕ → Share
 share_of ways before look place name = if is_dropped place before then no_share name
-    else share_by ways name before look (fate_at place look)
+    else share_by ways name before look (visit_at place look)
 
 abbrev pub shares_at_look_from : Ways → List Look → Look → ℕ → List (List ℕ) → List Share
 shares_at_look_from ways before look place [] = []

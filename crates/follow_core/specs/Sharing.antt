@@ -6,7 +6,7 @@ use Rattle.ports_core.specs.{
   declared.{calling.Calling.Calling, fault.Fault.Fault},
 }
 use Rattle.follow_core.specs.{
-  Telling.TellsAll,
+  Telling.{Remark, TellsAll},
   Followed.{last_header_from, messages_of, text_from},
   Printing.{PrinterState, Short},
   Share.Share,
@@ -17,16 +17,16 @@ abbrev pub CameTo : Bool → List ℕ → List Slot → List Slot → Option Fau
 CameTo told text old new None = new ≡ with_written 0 (told_of told text) old
 CameTo told text old new (Some fault) = Short told text old new fault
 
--- standard output got the text, or a beginning of it before this fault; standard error got these lines; no other output
--- changed
-abbrev pub WroteBy : Bool → Calling → List ℕ → List (List ℕ) → List Slot → List Slot → Option Fault → Type 0
-WroteBy told calling text lines old new fault = (output error : Slot) (others : List Slot)
-    → old ≡ output ∷ error ∷ others → (error_after : Slot) × TellsAll told calling lines error error_after
+-- standard output got the text, or a beginning of it before this fault; standard error got the lines of these remarks;
+-- no other output changed
+abbrev pub WroteBy : Bool → Calling → List ℕ → List Remark → List Slot → List Slot → Option Fault → Type 0
+WroteBy told calling text remarks old new fault = (output error : Slot) (others : List Slot)
+    → old ≡ output ∷ error ∷ others → (error_after : Slot) × TellsAll told calling remarks error error_after
     × CameTo told text (output ∷ error_after ∷ others) new fault
 
--- standard output got the text, and standard error the lines
-abbrev pub Wrote : Bool → Calling → List ℕ → List (List ℕ) → List Slot → List Slot → Type 0
-Wrote told calling text lines old new = WroteBy told calling text lines old new None
+-- standard output got the text, and standard error the lines of the remarks
+abbrev pub Wrote : Bool → Calling → List ℕ → List Remark → List Slot → List Slot → Type 0
+Wrote told calling text remarks old new = WroteBy told calling text remarks old new None
 
 -- the outputs got all shares, one after another
 pub record AllShared (told : Bool) (printer : PrinterState) (shares : List Share) (old : List Slot)

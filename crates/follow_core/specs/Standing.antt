@@ -3,10 +3,10 @@ use Rattle.std.specs.{
   Prelude.{◌≡◌, ◌<◌, ◌≤◌, ◌+◌, ℕ, Bool, true, false, List, [], Option, None, ◌⊎◌, length, map, slice_index_or},
   Prelude.is_some,
 }
-use Rattle.watch_core.specs.{declared.watch.Broken.Broken, Snapshot.{latest}, Watched.{Watched, added, watched_at}}
+use Rattle.watch_core.specs.{Snapshot.{latest}, Watched.{Watched, added, watched_at}}
 use Rattle.follow_core.specs.{
   declared.name.Standing.{Standing, TheVariants.{New, Followed, Left}},
-  Look.{Look, Ways, are_met, failed_in, is_dropped, is_first, snapshots},
+  Look.{Failed, Look, Ways, are_met, failed_for, failed_in, is_dropped, is_first, snapshots},
   Reading.IsLong,
   Share.opened_in,
   Version.open_after,
@@ -34,15 +34,20 @@ CanVisit name watched = elim name.standing [
   | Left ↦ Unit {0}
 ]
 
--- The name of this number broke exactly if these looks say so. Each look can meet the fate that it has for the name.
-pub record BrokeIn (ways : Ways) (looks : List Look) (place : ℕ) (failed : Option Broken) : Type 0 where
+-- the call by which a watched name broke, and why
+abbrev pub failed_of : Watched → Option Failed
+failed_of watched = failed_for watched.reason watched.failed
+
+-- The name of this number broke exactly if these looks say so, and for the reason that they say. Each look can meet the
+-- fate that it has for the name.
+pub record BrokeIn (ways : Ways) (looks : List Look) (place : ℕ) (failed : Option Failed) : Type 0 where
   pub call : failed ≡ failed_in place looks
   pub met : are_met true ways.by_name ways.seeks place looks ≡ true
 
 -- This name is watched at this number. It broke exactly if these looks say so, and no file of a broken name is open.
 pub record IsWatched (ways : Ways) (looks : List Look) (place : ℕ) (name : List ℕ) (watched : Watched) : Type 0 where
   pub named : watched.name ≡ name
-  pub broke : BrokeIn ways looks place watched.failed
+  pub broke : BrokeIn ways looks place (failed_of watched)
   pub closed : is_some watched.failed ≡ true → watched.opened ≡ None
 
 -- The watched names end with these names, from the number `first` on. Once a look was made, all of them are watched.
@@ -78,7 +83,7 @@ pub record IsLeft (told : Bool) (ways : Ways) (looks : List Look) (place : ℕ) 
     (watched : Watched) : Type 0 where
   pub begun : is_first looks ≡ false
   pub named : watched.name ≡ name
-  pub why : ((is_dropped place looks ≡ true) × BrokeIn ways looks place watched.failed × (watched.opened ≡ None))
+  pub why : ((is_dropped place looks ≡ true) × BrokeIn ways looks place (failed_of watched) × (watched.opened ≡ None))
       ⊎ IsMissed told ways looks place name watched
 
 abbrev pub Stands : Bool → Ways → List Look → ℕ → List ℕ → Watched → Standing → Type 0

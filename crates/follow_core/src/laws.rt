@@ -17,18 +17,27 @@ ghost use Rattle.std.specs.Prelude.{
   length,
   slice_index_or,
 };
+ghost use Rattle.ports_core.specs.{
+  Text.line_of,
+  declared.{
+    calling.Calling.TheVariants.Cutters,
+    fault.Fault.TheVariants.{Open, Read},
+    reason.Reason.TheVariants.Other,
+  },
+};
 ghost use Rattle.watch_core.specs.{Edits.{Edit}, Snapshot.{Snapshot, clinging}};
 ghost use Rattle.follow_core.specs.{
   Version.Entry,
   Run.{AreKept, name_text},
+  Event.Event,
   Gain.gains_after,
-  Look.{Look, Ways, entries_in, failed_in, is_dropped},
-  Reading.{AllInsist, AreFound, LeadsNowhere, NoneBreaks},
-  Share.{Share, gain, gains_from, shares_at_look, shares_of},
+  Look.{Fate, Look, Ways, entries_in, failed_in, is_dropped},
+  Reading.{AllInsist, AreAtLook, AreFound, CallsFind, LeadsNowhere, NoneBreaks},
+  Share.{Share, gain, gains_from, given_at, shares_at_look, shares_of},
   Followed.{any_failed, followed, last_header, messages_of, text_from},
   Placing.Agree,
   Notice.notice_of,
-  Telling.IsFailure,
+  Telling.{failure_message, tail_by},
   declared.notice.Notice.Notice,
 };
 
@@ -69,10 +78,19 @@ pub fn looks_agree()
         (one other : List (List Edit)) → Agree forgives start by_name name first one other }
 {}
 
-/// If what looks see is visible, their snapshots and fates decide all that they give: text, messages and status follow.
+/// If what looks see is visible, their snapshots and visits decide all that they give: text, messages and status follow.
+/// That is also true of the first names of a look that was stopped.
 pub fn snapshots_decide()
-    ensures { (ways : Ways) (names : List (List ℕ)) (looks : List Look) (shares : List Share)
+    ensures looks { (ways : Ways) (names : List (List ℕ)) (looks : List Look) (shares : List Share)
         → AreFound true ways names looks shares → shares ≡ shares_of ways names looks }
+    ensures stopped { (ways : Ways) (names : List (List ℕ)) (looks : List Look) (look : Look) (shares : List Share)
+        → AreAtLook true ways looks look ways.first names shares → shares ≡ shares_at_look ways names looks look }
+{}
+
+/// If what calls on a name find is visible, it is what `share_of` gives, and nothing else.
+pub fn calls_find_the_share()
+    ensures { (ways : Ways) (name : List ℕ) (before : List Look) (look : Look) (fate : Fate) (events : List Event)
+        → CallsFind ways name before look (Some fate) events → events ≡ given_at ways name before look fate }
 {}
 
 /// A name on which no call can fail isn't dropped: no call on it failed in these looks.
@@ -98,8 +116,10 @@ pub fn first_files_stay()
         → (clinging shows n).leads name ≡ Some file → (clinging shows later).leads name ≡ Some file }
 {}
 
-/// A line about what a look found is never the message of a failure. So it is written whole, or following ends before
-/// it.
+/// A line about what a look found is never the line of a failure by `cutters`, which has no reason.
 pub fn notices_are_no_failures()
-    ensures { (notice : Notice) (name : List ℕ) → IsFailure (notice_of notice name) → ⊥ }
+    ensures open { (notice : Notice) (name other : List ℕ)
+        → notice_of notice name ≡ line_of (tail_by Cutters) Other (failure_message (Open 0) other) → ⊥ }
+    ensures read { (notice : Notice) (name other : List ℕ)
+        → notice_of notice name ≡ line_of (tail_by Cutters) Other (failure_message (Read 0) other) → ⊥ }
 {}

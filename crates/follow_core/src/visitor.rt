@@ -4,7 +4,7 @@ ghost use Rattle.std.specs.{
   Prelude.{IfErr, Some},
 };
 ghost use Rattle.ends_core.specs.Ends.{tail_of};
-ghost use Rattle.ports_core.specs.{Slot.{is_open, is_writable, slot_at}, Message.SaysOn};
+ghost use Rattle.ports_core.specs.Slot.{is_open, is_writable, slot_at};
 ghost use Rattle.watch_core.specs.{Snapshot.latest, Watched.{Watched, is_readable, is_watchable, watched_at}};
 ghost use Rattle.follow_core.specs.{
   declared.name.Standing.TheVariants.{New, Followed},
@@ -12,11 +12,10 @@ ghost use Rattle.follow_core.specs.{
   Printing.{PrinterState, fresh_printer},
   inner.{
     Giving.{Adds, Are, CanGoOn, Copies, Gives, HoldsMany, Leads, Starts, moment, over_in, sight, stop_in},
-    Visits.{TellsStop, Visits},
+    Visits.{SaysFailed, TellsStop, Visits},
   },
   Sharing.CanPrint,
   Look.{is_sought, sound, ways_of},
-  Telling.{failure_message, tail_by},
 };
 
 use crate::name::Standing;
@@ -318,8 +317,8 @@ impl Visitor {
         outs: &mut O,
     ) -> Result<bool, Fault>
         requires can { CanGoOn (Some stop) (O.slots outs.old) }
-        ensures tells { TellsStop O.told self.now.calling name.now (O.slots outs.old) standing.new (O.slots outs.new)
-            stop result }
+        ensures tells { TellsStop (SaysFailed O.told self.now.calling name.now why) (O.slots outs.old) standing.new
+            (O.slots outs.new) stop result }
         ensures can { CanGoOn (over_in result) (O.slots outs.new) }
     {
         match stop {
@@ -335,8 +334,7 @@ impl Visitor {
     /// Tells that a call on a name failed, and why, if `tail` was called by its own name.
     fn say_failure<O: Outs>(&self, fault: &Fault, why: Reason, name: &str, outs: &mut O)
         requires { is_open (slot_at (O.slots outs.old) 1).state ≡ true }
-        ensures { SaysOn O.told (tail_by self.now.calling) why (failure_message fault.now name.now) (O.slots outs.old)
-            (O.slots outs.new) }
+        ensures { SaysFailed O.told self.now.calling name.now why fault.now (O.slots outs.old) (O.slots outs.new) }
     {
         let speaker = Speaker {
             calling: self.printer.calling(),

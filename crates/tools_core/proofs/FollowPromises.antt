@@ -12,11 +12,11 @@ use Rattle.follow_core.specs.{
   Run.{AreKept, name_text},
   Version.{Entry, entries_later, entries_of, open_after, open_after_later, version_in},
   Followed.{any_failed, text_from},
-  Look.{Fate, Look, Ways, fate_at, is_dropped, sound, snapshots, ways_of},
+  Look.{Fate, Look, Ways, fate_at, is_dropped, sound, snapshots, visit_at, ways_of},
   Share.{bytes_of, gain, gains_from, no_share, share_by, share_of, shares_from},
   FollowState.is_alive,
 }
-use Rattle.follow_core.proofs.{AgreeLemmas.grown, RunLemmas.{found_are, text_is_gains}, LookLemmas.{failed_sound, looks_give_text}}
+use Rattle.follow_core.proofs.{AgreeLemmas.grown, RunLemmas.{found_are, text_is_gains}, LookLemmas.{failed_later, failed_sound, looks_give_text}}
 use Rattle.tools_core.{
   specs.Promises.{AsksToFollow, OnlyGrows, Follows, IsBare, IsOfProgram, Run, showing},
   specs.Following.{is_name, pause_by, start_of},
@@ -25,7 +25,11 @@ use Rattle.tools_core.{
   proofs.LeftLemmas.{status_some},
 }
 use Rattle.ends_core.specs.Ends.{tail_of}
-use Rattle.ports_core.specs.{Slot.{Slot, slot_at, streams}, declared.calling.Calling.Calling, Source.source_of}
+use Rattle.ports_core.specs.{
+  Slot.{Slot, slot_at, streams},
+  Source.source_of,
+  declared.{calling.Calling.Calling, reason.Reason.Reason},
+}
 use Rattle.words_core.specs.{
   EndsWords.EndsAsked,
   declared.{value.Followed.Followed},
@@ -119,12 +123,12 @@ stays_open by_name {name} shows {file} {count} n within grows = by by_name 1 n (
 -- A name on which no call failed got all that the look gives.
 
 fine_share : (ways : Ways) (name : List ℕ) (before : List Look) (look : Look) (dropped : Bool) (fate : Fate)
-    → dropped ≡ false → is_some (cond dropped (no_share name) (share_by ways name before look fate)).failure ≡ false
-    → (fate ≡ sound)
-    × (bytes_of (cond dropped (no_share name) (share_by ways name before look fate)) ≡ gain ways name before look)
-fine_share ways name before look true fate kept well = absurd (cc)
-fine_share ways name before look false sound kept well = grind (arith, common_steps)
-fine_share ways name before look false fate kept well = absurd (cc)
+    (why : Reason) → let share = share_by ways name before look (record { fate = fate; why = why }) in
+    dropped ≡ false → is_some (cond dropped (no_share name) share).failure ≡ false
+    → (fate ≡ sound) × (bytes_of (cond dropped (no_share name) share) ≡ gain ways name before look)
+fine_share ways name before look true fate why kept well = absurd (cc)
+fine_share ways name before look false sound why kept well = grind (arith, common_steps)
+fine_share ways name before look false fate why kept well = absurd (cc)
 
 -- further looks wrote all that they give, and the name is still followed
 record WroteAll (ways : Ways) (name : List ℕ) (before looks : List Look) (text : List ℕ) : Type 0 where
@@ -138,10 +142,11 @@ wrote_all ways name before [] last kept well = search rules
 wrote_all ways name before (look ∷ looks) last kept well =
     let here = before ++ look ∷ [] in
     let both = or_parts (is_some (share_of ways before look ways.first name).failure) (any_failed (shares_from ways (name ∷ []) here looks)) well in
-    let fine = fine_share ways name before look (is_dropped ways.first before) (fate_at ways.first look) kept both.0 in
+    let fine = fine_share ways name before look (is_dropped ways.first before) (fate_at ways.first look)
+    (visit_at ways.first look).why kept both.0 in
     let rest = wrote_all ways name here looks last (ap is_some (failed_sound ways.first before look fine.0) ∙ kept) both.1 in record {
       is = rw (fine.1, rest.is);
-      kept = rw (fine.0, rest.kept);
+      kept = ap is_some (failed_later (visit_at ways.first look) _ fine.0) ∙ rest.kept;
     }
 
 -- a further look can always give something of a name whose file is open

@@ -8,12 +8,13 @@ use Rattle.ports_core.specs.{declared.{reason.Reason.Reason, fault.Fault.Fault},
 use Rattle.watch_core.specs.{Snapshot.Snapshot, Watched.{NameBreaks, Watched, opens, watched_at}}
 use Rattle.follow_core.specs.{
   declared.visitor.Stop.{Stop, TheVariants.{Broke, Over}},
-  Event.{Begins, Event, bytes_in, lines_in},
+  Event.{Begins, Event, bytes_in, remarks_in},
   Followed.{last_with, text_with},
-  Look.{Fate, sound, unmeasured, unsought, unread, failed_by},
+  Look.{Fate, call_of, sound, unmeasured, unsought, unread},
   Printing.PrinterState,
   Reading.{Caught, First, IsLong, LedTo, ReadOn},
-  Share.{Share, bytes_of, lines_of},
+  Share.{Share, bytes_of, remarks_of},
+  Telling.Remark,
   Sharing.{WroteBy, CanPrint, HasError},
   Version.open_after_look,
 }
@@ -39,16 +40,16 @@ pub record Pen : Type 0 where
 abbrev pub pen : PrinterState → List Slot → Pen
 pen printer slots = record { printer = printer; slots = slots }
 
--- the outputs got bytes and lines of a name, or the lines and a beginning of the bytes before this fault
-pub record Came (told is_opened : Bool) (name bytes : List ℕ) (lines : List (List ℕ)) (old new : Pen)
+-- the outputs got bytes and remarks of a name, or the remarks and a beginning of the bytes before this fault
+pub record Came (told is_opened : Bool) (name bytes : List ℕ) (remarks : List Remark) (old new : Pen)
     (over : Option Fault) : Type 0 where
   pub printer_is : over ≡ None → new.printer ≡ printer_under old.printer is_opened name bytes
-  pub slots : WroteBy told old.printer.calling (text_under old.printer is_opened name bytes) lines old.slots new.slots
+  pub slots : WroteBy told old.printer.calling (text_under old.printer is_opened name bytes) remarks old.slots new.slots
       over
 
 -- the outputs got a share, or its lines and a beginning of its bytes before this fault
 abbrev pub Shared : Bool → Share → (old new : Pen) → Option Fault → Type 0
-Shared told share old new over = Came told share.is_opened share.name (bytes_of share) (lines_of share) old new over
+Shared told share old new over = Came told share.is_opened share.name (bytes_of share) (remarks_of share) old new over
 
 -- what stopped a call on a name, if anything did
 abbrev pub stop_in : {T : Type 0} → Result T Stop → Option Stop
@@ -104,11 +105,11 @@ fault_by place fate = if is_read fate then fault.Read place else fault.Open plac
 
 -- a call on the name of this number failed with this fate, and the name broke
 pub record BrokeAt (place : ℕ) (old new : List Watched) (fate : Fate) (why : Fault) : Type 0 where
-  pub broke : is_some (failed_by fate None) ≡ true
+  pub broke : is_some (call_of fate) ≡ true
   pub fault_is : why ≡ fault_by place fate
   pub reason : Reason
   pub names : new ≡ changed_at place
-      (λ watched. record watched { opened = None; failed = failed_by fate None; reason = reason }) old
+      (λ watched. record watched { opened = None; failed = call_of fate; reason = reason }) old
 
 -- the name of this number broke by a read of its open file, from some place on
 abbrev pub FailsToRead : ℕ → List Watched → List Watched → Type 0
@@ -156,7 +157,7 @@ pub record Gives (told : Bool) (Is : Option Fate → List Event → Type 0) (fat
     (name : List ℕ) (old new : Moment) (stop : Option Stop) : Type 0 where
   pub events : List Event
   pub given : ByStop Is fate stop events
-  pub came : Came told is_opened name (bytes_in events) (lines_in name events) old.pen new.pen (over_by stop)
+  pub came : Came told is_opened name (bytes_in events) (remarks_in name events) old.pen new.pen (over_by stop)
 
 -- these are the events, however far calls came
 abbrev pub Are : List Event → Option Fate → List Event → Type 0

@@ -5,4 +5,4 @@ use Rattle.follow_core.specs.Look.{Look}
 
 -- a look after each of these lists of edits, without a call that fails
 abbrev pub looks_after : (forgives : Bool) → List (List Edit) → List Look
-looks_after forgives looks = map (λ snapshot. record { snapshot = snapshot; fates = [] }) (snapshots_of forgives looks)
+looks_after forgives looks = map (λ snapshot. record { snapshot = snapshot; visits = [] }) (snapshots_of forgives looks)

@@ -13,7 +13,7 @@ use Rattle.follow_core.specs.{
   Standing.{NameState, NoneGoesOn, AllStand, CanVisit, Stands, StandsAmong, texts},
   Telling.{failure_message, tail_by},
   Share.{BeginsShare, Share, share_by},
-  Look.{Fate, Look, Ways, sound, fate_at, is_dropped, snapshots},
+  Look.{Look, Visit, Ways, is_dropped, snapshots, sound_visit, visit_at},
   Printing.PrinterState,
   Reading.{AreAtLook, IsBegun, IsGiven},
   inner.Giving.{IsFront, HasStopped, Moment, Shared, Sight},
@@ -45,16 +45,21 @@ any_goes_on by_name (name ∷ names) = goes_on_as by_name name.standing || any_g
 pub record Stopped (see : Sight) (ways : Ways) (before : List Look) (name : List ℕ) (old new : Moment) (why : Fault)
     : Type 0 where
   pub share : Share
-  pub begins : see.told_in ≡ true → (fates : List Fate)
-      → BeginsShare share (share_by ways name before (record { snapshot = see.snapshot; fates = fates }) sound)
+  pub begins : see.told_in ≡ true → (visits : List Visit)
+      → BeginsShare share (share_by ways name before (record { snapshot = see.snapshot; visits = visits }) sound_visit)
   pub found : IsBegun see.told_in ways before see.snapshot name share
   pub short : Shared see.told share old.pen new.pen (Some why)
 
--- A call on the name failed: that is reported, and the name is dropped. Or following ends: nothing more is reported.
-abbrev pub TellsStop : Bool → Calling → List ℕ → List Slot → Standing → List Slot → Stop → Result Bool Fault → Type 0
-TellsStop told calling name old standing new (Broke why) result = (result ≡ Ok true) × (standing ≡ Left)
-    × ((reason : Reason) × SaysOn told (tail_by calling) reason (failure_message why name) old new)
-TellsStop told calling name old standing new (Over why) result = (result ≡ Err why) × (new ≡ old)
+-- standard error got the message that a call on the name failed with this fault, and for this reason
+abbrev pub SaysFailed : Bool → Calling → List ℕ → Reason → Fault → List Slot → List Slot → Type 0
+SaysFailed told calling name why fault = SaysOn told (tail_by calling) why (failure_message fault name)
+
+-- A call on the name failed: that is reported, as `Says` says, and the name is dropped. Or following ends: nothing more
+-- is reported.
+abbrev pub TellsStop : (Says : Fault → List Slot → List Slot → Type 0) → List Slot → Standing → List Slot → Stop
+    → Result Bool Fault → Type 0
+TellsStop Says old standing new (Broke why) result = (result ≡ Ok true) × (standing ≡ Left) × Says why old new
+TellsStop Says old standing new (Over why) result = (result ≡ Err why) × (new ≡ old)
 
 -- the open file of the name at this place may be another, and nothing else changed
 abbrev pub Opened : ℕ → List Watched → List Watched → Type 0
@@ -65,17 +70,17 @@ pub record KeepsOthers (place : ℕ) (old new : List Watched) : Type 0 where
   pub count : length new ≡ length old
   pub others : (other : ℕ) → (other ≡ place → ⊥) → watched_at new other ≡ watched_at old other
 
--- The outputs have what the look gives for the name of this number by its fate, and the name stands as after that look.
+-- The outputs have what the look gives for the name of this number by its visit, and the name stands as after that look.
 pub record Visited (see : Sight) (ways : Ways) (looks : List Look) (place : ℕ) (now : NameState) (old new : Moment)
     (failed : Bool) : Type 0 where
-  pub fate : Fate
+  pub visit : Visit
   pub share : Share
-  pub found : (fates : List Fate) → fate_at place (record { snapshot = see.snapshot; fates = fates }) ≡ fate
-      → IsGiven see.told_in ways looks (record { snapshot = see.snapshot; fates = fates }) place now.text share
+  pub found : (visits : List Visit) → visit_at place (record { snapshot = see.snapshot; visits = visits }) ≡ visit
+      → IsGiven see.told_in ways looks (record { snapshot = see.snapshot; visits = visits }) place now.text share
   pub is_failed : is_some share.failure ≡ failed
   pub shared : Shared see.told share old.pen new.pen None
-  pub stands : (fates : List Fate) → fate_at place (record { snapshot = see.snapshot; fates = fates }) ≡ fate
-      → Stands see.told_in ways (looks ++ record { snapshot = see.snapshot; fates = fates } ∷ []) place now.text
+  pub stands : (visits : List Visit) → visit_at place (record { snapshot = see.snapshot; visits = visits }) ≡ visit
+      → Stands see.told_in ways (looks ++ record { snapshot = see.snapshot; visits = visits } ∷ []) place now.text
       (watched_at new.watched place) now.standing
 
 -- What a look leaves at one name, by how the name stood, whatever looks were made before. The outputs have what the
@@ -93,20 +98,20 @@ pub record Visits (see : Sight) (ways : Ways) (place : ℕ) (one : NameState) (o
   pub others : OnOk result (KeepsOthers place old.watched new.watched)
   pub halts : IfErr result (λ why. Opened place old.watched new.watched)
 
--- The outputs have what the look gives for the names before this place, whatever fates the other names have. The names
+-- The outputs have what the look gives for the names before this place, whatever visits the other names have. The names
 -- before this place stand as after that look, and the others as before it.
 pub record VisitedTo (see : Sight) (ways : Ways) (looks : List Look) (place : ℕ) (names : List NameState)
     (old new : Moment) (failed : Bool) : Type 0 where
-  pub fates : List Fate
+  pub visits : List Visit
   pub shares : List Share
-  pub count : length fates ≡ ways.first + place
-  pub found : (all : List Fate) → IsFront fates all
-      → AreAtLook see.told_in ways looks (record { snapshot = see.snapshot; fates = all }) ways.first
+  pub count : length visits ≡ ways.first + place
+  pub found : (all : List Visit) → IsFront visits all
+      → AreAtLook see.told_in ways looks (record { snapshot = see.snapshot; visits = all }) ways.first
       (take place (texts names)) shares
   pub is_failed : any_failed shares ≡ failed
   pub shared : AllShared see.told old.pen.printer shares old.pen.slots new.pen.printer new.pen.slots
-  pub done : (all : List Fate) → IsFront fates all → (other : ℕ) → other < place
-      → StandsAmong see.told_in ways (looks ++ record { snapshot = see.snapshot; fates = all } ∷ []) names new.watched
+  pub done : (all : List Visit) → IsFront visits all → (other : ℕ) → other < place
+      → StandsAmong see.told_in ways (looks ++ record { snapshot = see.snapshot; visits = all } ∷ []) names new.watched
       other
   pub rest : (other : ℕ) → place ≤ other → other < length names
       → StandsAmong see.told_in ways looks names new.watched other

@@ -8,7 +8,7 @@ use Rattle.follow_core.{
     CallGivesLemmas.keeps_others,
     FollowLemmas.{next_ready, same_length, texts_set, visited_more, nothing_shared, visited_short},
   },
-  specs.{Standing.no_state, Look.sound, Reading.no_names},
+  specs.{Standing.no_state, Look.sound_visit, Reading.no_names},
 }
 use Rattle.follow_core.proofs.name.visit_all.Goals as goal
 
@@ -18,9 +18,9 @@ loop-place-init g c = record {
   same = refl;
   ready = c.requires.ready;
   visited = λ from looks stood. record {
-    fates = replicate from sound;
+    visits = replicate from sound_visit;
     shares = [];
-    count = length-replicate from sound ∙ omega arith;
+    count = length-replicate from sound_visit ∙ omega arith;
     found = λ all front. no_names;
     is_failed = refl;
     shared = nothing_shared;

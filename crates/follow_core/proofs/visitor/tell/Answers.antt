@@ -1,7 +1,7 @@
-use Rattle.std.proofs.{Common.{◌∙◌, refl, sym, inl, ◌∷◌, [], Some}, lemmas.Option.none-some, Math.Bool.and-false}
+use Rattle.std.proofs.{Common.{◌∙◌, refl, sym, ◌∷◌, [], Some}, lemmas.Option.none-some, Math.Bool.and-false}
 use Rattle.follow_core.{
-  proofs.CallLemmas.{no_failure, no_memory, wrote_line, wrote_text},
-  specs.Event.{begins_none, notes},
+  proofs.CallLemmas.{no_memory, wrote_line, wrote_text},
+  specs.{Event.{begins_none, notes}, Telling.found},
 }
 use Rattle.ports_core.specs.declared.fault.Fault.TheVariants as fault
 use Rattle.follow_core.proofs.visitor.tell.Goals as goal
@@ -12,12 +12,9 @@ returns-in-Ok-clause-ends g c watched printer = record {
   given = refl;
   came = record {
     printer_is = λ none. rw (and-false printer.headers) refl;
-    slots = rw (and-false printer.headers) (wrote_line (λ output error others are.
-        let said = c.print.ensures output error others are in (
-          said.0,
-          record { said = _; is = inl (no_failure c.args.found c.args.name.now, c.deref.ensures.value ∙ c.in-Ok.ensures.ok); printed = said.1 },
-          said.2,
-        )));
+    slots = rw (and-false printer.headers) (wrote_line g.O.Outs.told printer.calling (found c.args.found c.args.name.now) (λ output error others are.
+        let said = c.print.ensures output error others are in
+        (said.0, rw (c.deref.ensures.value ∙ c.in-Ok.ensures.ok) at said.1, said.2)));
   };
 }
 

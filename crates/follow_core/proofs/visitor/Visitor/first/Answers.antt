@@ -24,14 +24,14 @@ returns-else-by_name-clause-visits g c first =
 
 pub returns-in-Err-clause-visits : goal.returns-in-Err-clause-visits
 returns-in-Err-clause-visits g c first = first_unopened c.requires.name c.requires.watchable c.in-Err.ensures.err.0 c.in-Err.ensures.err.1
-    c.in-Err.ensures.breaks c.stop.ensures.tells
+    c.in-Err.ensures.breaks c.reason-why.ensures c.stop.ensures.tells
 
 pub returns-in-Err-put-clause-visits : goal.returns-in-Err-put-clause-visits
 returns-in-Err-put-clause-visits g c first = gave_fails sound (Over c.in-Err-put.fault) c.requires.name c.requires.watchable
     (c.in-Ok-true.ensures.ok.file, c.in-Ok-true.ensures.ok.names)
     (first_gave c.self.view_is c.in-Ok-true.ensures.ok c.in-Ok-true.field-0-test c.requires.name
     (gives_over (λ events are. rw are not_begun) (header_only (Some c.in-Err-put.fault) c.in-Err-put.ensures.puts)))
-    (refl, refl)
+    (λ broke. refl) (refl, refl)
 
 pub write_start-requires-clause-readable : goal.write_start-requires-clause-readable
 write_start-requires-clause-readable g c = grind (arith, common_steps, opened_there)
@@ -58,7 +58,7 @@ returns-in-Err-write_start-clause-visits g c first = gave_fails c.in-Err-write_s
     (λ none. absurd (cc)) c.in-Err-write_start.ensures.starts.keeps)
     (first_started c.self.view_is c.in-Ok-true.ensures.ok c.in-Ok-true.field-0-test c.requires.name c.requires.watchable
     (ap latest c.reopen.ensures.seen) (header_only None c.in_default.ensures.puts) c.in-Err-write_start.ensures.starts)
-    c.stop-in-Err-write_start.ensures.tells
+    c.reason-in-Err-write_start.ensures c.stop-in-Err-write_start.ensures.tells
 
 pub returns-in-Err-put-clause-can : goal.returns-in-Err-put-clause-can
 returns-in-Err-put-clause-can g c = puts_can (Some c.in-Err-put.fault) c.in-Err-put.ensures.puts c.requires.can
