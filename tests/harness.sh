@@ -44,6 +44,31 @@ is_run() {
     [ "$status" = "$1" ] && cmp -s out "$2" && [ "$(cat err)" = "$3" ]
 }
 
+# until_so COMMAND..: waits until this command holds, a minute at the most, and says whether it does. Once that was waited for in vain,
+# it is five seconds for those that follow.
+patience=60
+until_so() {
+    local end=$((SECONDS + patience))
+    until "$@"; do
+        [ "$SECONDS" -lt "$end" ] || { patience=5; return 1; }
+        sleep 0.05
+    done
+}
+
+# unread: waits until nobody reads standard output any more, which is a pipe, a minute at the most.
+unread() {
+    python3 -c 'import select; ends = select.poll(); ends.register(1, 0); ends.poll(60000)'
+}
+
+# taken: waits until all that was written to standard output, a pipe, has been read, a minute at the most.
+taken() {
+    python3 -c '
+import fcntl, termios, time
+end = time.monotonic() + 60
+while any(fcntl.ioctl(1, termios.FIONREAD, bytes(4))) and time.monotonic() < end:
+    time.sleep(0.005)'
+}
+
 # pipes FOLDER NAME..: makes named pipes in this folder, each with a reader that puts into the folder `read` what it gets.
 pipes() {
     local folder=$1 name
@@ -52,19 +77,25 @@ pipes() {
     readers=
     for name in "$@"; do
         mkfifo "$folder/$name"
-        timeout 20 cat "$folder/$name" >"read/$name" &
+        timeout 60 cat "$folder/$name" >"read/$name" &
         readers="$readers $!"
     done
 }
 
 # unpiped FOLDER: lets readers go whose pipe nobody opened, waits for all, and puts what they got in the place of the pipes.
 unpiped() {
+    until_so are_let_go "$1"
+    wait $readers
+    mv -f read/* "$1"
+}
+
+# are_let_go FOLDER: opens each pipe, and says whether all readers have gone: one that hasn't opened its pipe yet is let go later.
+are_let_go() {
     local file
     for file in read/*; do
         : <>"$1/${file#read/}"
     done
-    wait $readers
-    mv -f read/* "$1"
+    ! kill -0 $readers 2>/dev/null
 }
 
 # end: the last line, and the status.
