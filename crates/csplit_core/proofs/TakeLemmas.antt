@@ -413,11 +413,11 @@ pub cut_drained : {told : Bool} {cutter next : CutterState} {window : Window} {c
 cut_drained {cutter = cutter} {window = window} {line = line} {fault = fault} waiting_is items_is long count_is place_is cuts =
     let all = rw (waiting_is, drained_place cutter.lines cutter.window.held line items_is long count_is place_is) at cuts in record {
       keeps = all.keeps;
-      reaches = λ x at here. all.reaches x at (record { last = here.last; near = here.near; place_is = here.place_is; before = here.before; goes = here.goes });
+      reaches = λ x at here. all.reaches x at (search rules);
       went = where_well fault all.went (λ went. record {
         lines = went.lines;
         sound = went.sound;
-        stands = λ x at here. went.stands x at (record { last = here.last; near = here.near; place_is = here.place_is; before = here.before; goes = here.goes });
+        stands = λ x at here. went.stands x at (search rules);
         size = went.size;
       });
     }

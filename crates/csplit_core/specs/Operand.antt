@@ -32,9 +32,8 @@ is_kept (Search pattern kept offset) = kept
 
 -- How many of the last lines may belong to the next section while no line matches: as many as the offset goes back.
 abbrev pub most_held : Target → ℕ
-most_held (Number n) = 0
-most_held (Search pattern kept (Plus count)) = 0
 most_held (Search pattern kept (Minus count)) = count
+most_held target = 0
 
 -- whether the operand is performed again after this repetition, counted from 0
 abbrev pub has_more : Times → (repetition : ℕ) → Bool

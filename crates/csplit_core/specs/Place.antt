@@ -41,8 +41,7 @@ IsUndecided places = DifferOn CanCome (λ x i at. places x (i + 1) ≡ at)
 
 abbrev pub is_in : (section : ℕ) → Place → Bool
 is_in section (in_section other) = eqb section other
-is_in section (left_out cut) = false
-is_in section nowhere = false
+is_in section place = false
 
 -- those of the lines that go into a section; the first line of the list has the number `number`
 abbrev pub lines_into : (section : ℕ) → (ℕ → Place) → (number : ℕ) → List Line → List Line

@@ -87,7 +87,7 @@ CutsAt style lines state operand (Number n) cut = (cut.matched ≡ state.matched
 CutsAt style lines state operand (Search pattern kept offset) cut =
     IsFirst operand lines (search_line style.suppress state) cut.matched × (cut.line ≡ moved offset cut.matched)
 
--- the first operand that is left cuts here
+-- the first operand that is left cuts here; `operands` are those after it
 pub record IsCut (style : Style) (lines : List Line) (state : State) (cut : CutPoint) : Type 0 where
   pub operand : Operand
   pub operands : List Operand
@@ -111,7 +111,7 @@ abbrev pub line_after : (suppress : Bool) → (cut : ℕ) → ℕ
 line_after true cut = suc cut
 line_after false cut = cut
 
--- where the run stands after a step of this operand, which may be performed again; `operands` are those after it
+-- Where the run stands after this cut of the operand, which may be performed again. `operands` are those after it.
 abbrev pub state_after : (suppress : Bool) → Operand → List Operand → (repetition : ℕ) → CutPoint → State
 state_after suppress operand operands repetition cut = let again = has_more operand.times repetition in record {
   operands = if again then operand ∷ operands else operands;

@@ -25,7 +25,7 @@ pub data PlannedAttempt : Type 0 where
   ends : Ending → PlannedAttempt
   goes : Step → State → PlannedAttempt
 
--- where the operand cuts, if it is no pattern without a match
+-- where the operand cuts; nowhere if it is a pattern that no line matches
 abbrev pub cut_by : Style → List Line → State → Operand → Target → Option CutPoint
 cut_by style lines state operand (Number n) =
     Some (record { matched = state.matched; line = n * (state.repetition + 1) })
@@ -33,7 +33,7 @@ cut_by style lines state operand (Search pattern kept offset) =
     option_map (λ line. record { matched = line; line = moved offset line })
     (first_match operand lines (search_line style.suppress state))
 
--- the attempt of an operand whose cut is known, if there are `total` lines
+-- What the operand does that cuts here, or nowhere, if there are `total` lines. `operands` are those after it.
 abbrev pub attempt_at : Style → (total : ℕ) → State → Operand → List Operand → Option CutPoint → PlannedAttempt
 attempt_at style total state operand operands None = ends (missed operand state.repetition)
 attempt_at style total state operand operands (Some cut) =
