@@ -1,5 +1,10 @@
 -- Lemmas on a first word that is a number with letters: a hyphen or a `+`, digits and letters.
-use Rattle.std.proofs.{lemmas.{Grind.common_steps, Bool.{and_parts, lt-ltb, ne_eqb}, List.Elements.All-head}, Math.Seq.{drop-append_seam, take-append_seam}, Common.{◌≡◌, refl, ℕ, ◌≤◌, ◌<◌, ◌==◌, ◌||◌, Bool, true, false, arith, List, [], ◌∷◌, ◌++◌}, Common.{length, append_assoc, None, Result, Ok, Err, sym, ◌∙◌, rules, All}}
+use Rattle.std.proofs.{
+  lemmas.{Grind.common_steps, Bool.{and_parts, lt-ltb, ne_eqb}, List.Elements.All-head},
+  Math.Seq.{drop-append_seam, take-append_seam},
+  Common.{◌≡◌, refl, ℕ, ◌≤◌, ◌<◌, ◌==◌, ◌||◌, Bool, true, false, arith, List, [], ◌∷◌, ◌++◌},
+  Common.{length, append_assoc, None, Result, Ok, Err, sym, ◌∙◌, rules, All},
+}
 use Rattle.std.specs.{Char.is_ascii_digit, List.{list_all, prefix_len}}
 use Rattle.seg_core.specs.{
   declared.{count.{Count.Count, Sign.Sign}, unit.Unit.Unit as Measured},
@@ -9,7 +14,16 @@ use Rattle.ports_core.specs.declared.{
   calling.Calling.{Calling, TheVariants.OwnName},
   fault.{Fault.{Fault, TheVariants.Usage}, UsageKind.{UsageKind, TheVariants.UnknownOption}},
 }
-use Rattle.words_core.specs.{declared.{table.{Letters.{Letters, TheVariants.{OfHead, OfTail}}}, spelling.State.State, choice.Choice.{TheVariants.Amount}}, Given.{Given, joined, one_option}, Laws.IsParted, Lettered.{are_known, are_of_tail, has_digits, is_lettered, is_start, others, times, unit_in, without_digits}, Spelling.{Meaning, before, cluster, mixed, with_letters}, Table.{OptionRow, head_table, is_among, option_lettered, tail_table}, inner.Spelling.Adds}
+use Rattle.words_core.specs.{
+  declared.{table.{Letters.{Letters, TheVariants.{OfHead, OfTail}}}, spelling.State.State},
+  declared.{choice.Choice.{TheVariants.Amount}},
+  Given.{Given, joined, one_option},
+  Laws.IsParted,
+  Lettered.{are_known, are_of_tail, has_digits, is_lettered, is_start, others, times, unit_in, without_digits},
+  Spelling.{Meaning, before, cluster, mixed, with_letters},
+  Table.{OptionRow, head_table, is_among, option_lettered, tail_table},
+  inner.Spelling.Adds,
+}
 
 -- What calls add one after another.
 

@@ -6,7 +6,14 @@ use Rattle.std.proofs.{
   Math.Seq.{take-append_seam, drop-append-add, take-length},
 }
 use Rattle.std.specs.List.{list_any, position_or_len, before_first}
-use Rattle.words_core.specs.{declared.{choice.{Choice.Choice, Kind.Kind}, table.Takes.Takes, spelling.State.TheVariants.Reading}, Table.{OptionRow, alone, option_called}, Choice.{choice_in, seen}, Given.bare, Spelling.{after_equals, awaiting, is_equals, long, mixed, named, reading, valued}, Laws.{Gives, IsLetter, IsLong, MayHave, kind_of}}
+use Rattle.words_core.specs.{
+  declared.{choice.{Choice.Choice, Kind.Kind}, table.Takes.Takes, spelling.State.TheVariants.Reading},
+  Table.{OptionRow, alone, option_called},
+  Choice.{choice_in, seen},
+  Given.bare,
+  Spelling.{after_equals, awaiting, is_equals, long, mixed, named, reading, valued},
+  Laws.{Gives, IsLetter, IsLong, MayHave, kind_of},
+}
 use Rattle.ports_core.specs.declared.fault.UsageKind.{UsageKind}
 use Rattle.words_core.specs.declared.table.Takes.TheVariants as takes
 

@@ -1,8 +1,19 @@
 -- What the value of an option says, or what is wrong with it. A value that isn't of its form is told before one that is
 -- too large, and that before 0.
-use Rattle.std.specs.{Prelude.{ℕ, ◌+◌, ◌-◌, ◌*◌, ◌/◌, ◌^◌, ◌==◌, ◌&&◌, nat_lt, min, codes, length, List, [], ◌∷◌}, Prelude.{Option, Some, None, Result, Ok, Err, if◌then◌else◌, bytes_eq, eqb, filter, find, ok_or, option_map}, Char.{is_ascii_digit, is_digit}, List.{list_all, list_any, starts_with}, Option.option_or, Str.Parse.digits_value}
+use Rattle.std.specs.{
+  Prelude.{ℕ, ◌+◌, ◌-◌, ◌*◌, ◌/◌, ◌^◌, ◌==◌, ◌&&◌, nat_lt, min, codes, length, List, [], ◌∷◌},
+  Prelude.{Option, Some, None, Result, Ok, Err, if◌then◌else◌, bytes_eq, eqb, filter, find, ok_or, option_map},
+  Char.{is_ascii_digit, is_digit},
+  List.{list_all, list_any, starts_with},
+  Option.option_or,
+  Str.Parse.digits_value,
+}
 use Rattle.seg_core.specs.Count.{after_digits, count_of, leading_digits, value_of}
-use Rattle.ports_core.specs.declared.{calling.Calling.{Calling, TheVariants.{Cutters, OwnName}}, on_broken.OnBroken.OnBroken, fault.UsageKind.{UsageKind, TheVariants.{BadNumber, BadSeparator, BadSuffix, BadFollow, BadMode}}}
+use Rattle.ports_core.specs.declared.{
+  calling.Calling.{Calling, TheVariants.{Cutters, OwnName}},
+  on_broken.OnBroken.OnBroken,
+  fault.UsageKind.{UsageKind, TheVariants.{BadNumber, BadSeparator, BadSuffix, BadFollow, BadMode}},
+}
 pub use Rattle.words_core.specs.Number.{counted, not_zero, number_fault, positive_in, then_check, up_to}
 use Rattle.words_core.specs.declared.value.Followed.{Followed}
 use Rattle.ports_core.specs.declared.on_broken.OnBroken.TheVariants as on_broken
