@@ -3,4 +3,5 @@ pub mod Outputs
 pub mod Run
 pub mod TeeState
 pub mod Copy
+pub mod Left
 pub mod inner

@@ -6,7 +6,7 @@ use Rattle.std.specs.{
 }
 use Rattle.ports_core.specs.{
   Slot.{Slot, adds, changed_at, closes, opened, slot_at, told_of},
-  Inputs.largest_piece,
+  Inputs.{CameFrom, OfContent, largest_piece},
   Source.{Content, Source, source_of},
   Text.message_of,
   Message.{Report, SaysAll, SaysEach},
@@ -258,6 +258,11 @@ pub data EndsAs (run : TeeRun) (told_in : Bool) (content : Content) (source : So
       → SaysAll run.told (tee_called run.calling) (message_of Memory [] ∷ []) standard_error error
       → IsAsFound told_in content source → new ≡ streams_with error → status ≡ 1
       → EndsAs run told_in content source new status
+
+-- A run ended over an input that had this source before it and has this source after it, as far as that is visible.
+abbrev pub EndsOver : TeeRun → (told_in : Bool) → (before after : Source) → List Slot → (status : ℕ) → Type 0
+EndsOver run told_in before after new status = OfContent told_in before.left
+    (λ content. EndsAs run told_in content after new status × CameFrom told_in content after)
 
 -- the outputs if nothing breaks: standard output and each file have these bytes, files are closed, nothing is reported
 abbrev pub all_copied : Bool → Mode → List (List ℕ) → List ℕ → List Slot

@@ -6,7 +6,7 @@ mod run;
 mod standing;
 mod tee;
 
-pub use laws::agreed_is_settled;
+pub use laws::{agreed_is_settled, outputs_end};
 pub use run::run_tee;
 pub use standing::Standing;
 pub use tee::Tee;

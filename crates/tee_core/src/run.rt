@@ -9,14 +9,14 @@ ghost use Rattle.ports_core.specs.{
   Text.message_of,
   Message.SaysOn,
   Source.{source_at, is_readable, IsFresh},
-  Inputs.{CameFrom, KeepsOthers, OfContent, AsksAtMost, largest_piece},
+  Inputs.{KeepsOthers, AsksAtMost, largest_piece},
 };
 ghost use Rattle.tee_core.specs.{
   Opening.Opens,
   Outputs.IsReady,
-  Run.{AreSound, ClosesAll, CopiesPiece, Copied, EndsAs, SaysTo, all_copied, forgives, is_done, output_names, said_of_input},
+  Run.{AreSound, ClosesAll, CopiesPiece, Copied, EndsOver, SaysTo, all_copied, forgives, is_done, output_names, said_of_input},
   Run.{output_slot, said_since, standings_of, stands_as, tee_called, tells},
-  inner.Steps.{CopiesRead, HasStreams, IsTeeOf, run_for},
+  inner.Steps.{CopiesOver, HasStreams, IsTeeOf, run_for},
   declared.standing.Standing.TheVariants.Sound,
 };
 
@@ -63,15 +63,13 @@ pub fn run_tee<I: Inputs, O: Outs>(
 ) -> u8
     requires fresh { IsFresh (I.sources inputs.old) }
     requires outputs { O.slots outs.old ≡ streams }
-    ensures ends { OfContent I.told (source_at (I.sources inputs.old) 0).left
-        (λ content. EndsAs (record {
-          told = O.told;
-          calling = calling;
-          mode = mode;
-          on_broken = on_broken;
-          names = map (λ name. name.now) names.now;
-        }) I.told content (source_at (I.sources inputs.new) 0) (O.slots outs.new) result
-        × CameFrom I.told content (source_at (I.sources inputs.new) 0)) }
+    ensures ends { EndsOver (record {
+      told = O.told;
+      calling = calling;
+      mode = mode;
+      on_broken = on_broken;
+      names = map (λ name. name.now) names.now;
+    }) I.told (source_at (I.sources inputs.old) 0) (source_at (I.sources inputs.new) 0) (O.slots outs.new) result }
     ensures whole { I.told ≡ true → result ≡ 0 → (forgives on_broken ≡ true → AreSound (O.slots outs.new))
         → O.slots outs.new
         ≡ all_copied O.told mode (map (λ name. name.now) names.now) (source_at (I.sources inputs.old) 0).left.bytes }
@@ -109,9 +107,8 @@ fn tee_called(calling: Calling) -> Speaker
 fn copy_input<I: Inputs, O: Outs>(job: &Job<'_>, inputs: &mut I, outs: &mut O) -> Result<u8, Fault>
     requires fresh { IsFresh (I.sources inputs.old) }
     requires outputs { O.slots outs.old ≡ streams }
-    ensures copied { IfOk result (λ status. OfContent I.told (source_at (I.sources inputs.old) 0).left
-        (λ content. EndsAs (run_for O.told job.now) I.told content (source_at (I.sources inputs.new) 0)
-        (O.slots outs.new) status × CameFrom I.told content (source_at (I.sources inputs.new) 0))) }
+    ensures copied { IfOk result (EndsOver (run_for O.told job.now) I.told (source_at (I.sources inputs.old) 0)
+        (source_at (I.sources inputs.new) 0) (O.slots outs.new)) }
     ensures err { IfErr result
         (λ fault. (fault ≡ Fault.Memory) × (O.slots outs.new ≡ O.slots outs.old)
         × (I.sources inputs.new ≡ I.sources inputs.old)) }
@@ -141,9 +138,8 @@ fn copy_all<I: Inputs, O: Outs>(
     requires tee { IsTeeOf (map (λ name. name.now) job.now.names.now) tee }
     requires opened { Opens job.now.mode (map (λ name. name.now) job.now.names.now) streams (O.slots outs.old) }
     requires unknown { known.old ≡ replicate (length job.now.names.now + 1) Sound }
-    ensures copied { OfContent I.told (source_at (I.sources inputs.old) 0).left
-        (λ content. EndsAs (run_for O.told job.now) I.told content (source_at (I.sources inputs.new) 0)
-        (O.slots outs.new) result × CameFrom I.told content (source_at (I.sources inputs.new) 0)) }
+    ensures copied { EndsOver (run_for O.told job.now) I.told (source_at (I.sources inputs.old) 0)
+        (source_at (I.sources inputs.new) 0) (O.slots outs.new) result }
     ensures others { KeepsOthers 0 (I.sources inputs.old) (I.sources inputs.new) }
     ensures asked { AsksAtMost largest_piece (I.sources inputs.new) }
 {
@@ -174,9 +170,8 @@ fn copy_pieces<I: Inputs, O: Outs>(
     requires started { Copied (run_for O.told job.now) [] (O.slots outs.old) }
     requires known { known.old ≡ standings_of (O.slots outs.old) }
     ensures same { tee.new ≡ tee.old }
-    ensures copies { OfContent I.told (source_at (I.sources inputs.old) 0).left
-        (λ content. CopiesRead (run_for O.told job.now) I.told content (source_at (I.sources inputs.new) 0)
-        (O.slots outs.new) result × CameFrom I.told content (source_at (I.sources inputs.new) 0)) }
+    ensures copies { CopiesOver (run_for O.told job.now) I.told (source_at (I.sources inputs.old) 0)
+        (source_at (I.sources inputs.new) 0) (O.slots outs.new) result }
     ensures known { known.new ≡ standings_of (O.slots outs.new) }
     ensures others { KeepsOthers 0 (I.sources inputs.old) (I.sources inputs.new) }
     ensures asked { (source_at (I.sources inputs.old) 0).asked ≤ length buffer.old

@@ -2,6 +2,7 @@
 use Rattle.std.specs.Prelude.{◌≡◌, ℕ, ◌<◌, Bool, true, false, List, ◌∷◌, length, map, Option}
 use Rattle.ports_core.specs.{
   Slot.{Slot, is_open},
+  Inputs.{CameFrom, OfContent},
   Source.{Content, Source},
   declared.fault.Fault.Fault,
 }
@@ -42,3 +43,8 @@ pub record CopiesRead (run : TeeRun) (told_in : Bool) (content : Content) (sourc
   pub pieces : List (List ℕ)
   pub read : ComesIn told_in content source (is_done run.on_broken (standings_of slots)) pieces fault
   pub copied : Copied run pieces slots
+
+-- the same of an input that had this source before and has this source after, as far as that is visible
+abbrev pub CopiesOver : TeeRun → (told_in : Bool) → (before after : Source) → List Slot → Option Fault → Type 0
+CopiesOver run told_in before after slots fault = OfContent told_in before.left
+    (λ content. CopiesRead run told_in content after slots fault × CameFrom told_in content after)
