@@ -20,8 +20,8 @@ use Rattle.ports_core.specs.{
 use Rattle.ports_core.proofs.InputsLemmas.{HasRead, changed_source}
 use Rattle.run_core.specs.{
   declared.feeding.Fed.{Fed, TheVariants.{Whole, Enough, Broken}},
-  Feeding.{is_enough, Step, Stops, ToldEnd, HasAll, to_end, enough, call_of, close_of, feeds, closes, FedAs, whole},
-  Feeding.{had_enough, broke_off, judged, stopped, IsUnread, Uses},
+  Feeding.{is_enough, Step, Stops, ToldEnd, HasAll, IsCall, to_end, enough, call_of, close_of, closes, FedAs},
+  Feeding.{BeginsAt, whole, had_enough, broke_off, judged, stopped, IsUnread, Uses},
   inner.RunSteps.{EndsSo, finished, fell_short},
 }
 use Rattle.ports_core.specs.declared.fault.Fault.TheVariants as fault_is
@@ -51,10 +51,10 @@ judges means Lacks Ends is (engine.met (fault_is.Verdict verdict) _ why) = (verd
 judges means Lacks Ends is caused = absurd (cc)
 
 -- what a fault left within an input, and what was made of its files then
-short_of_piece : {told : Bool} {opening : Needs} {most : ℕ} {work : Work} {content : Content} (WasRead : Step → Type 0)
+short_of_piece : {told : Bool} {work : Work} {content : Content} (IsStep : Step → Type 0)
     {x : List ℕ} (piece rest : List ℕ) {reached new before : List Slot} {fault : Fault} → IsLawful work
-    → content.bytes ≡ (x ++ piece) ++ rest → length piece ≤ most → work.is_complete x ≡ false
-    → WasRead (call_of work work.means.feeding (x ++ piece) (work.settled x) (work.settled (x ++ piece)))
+    → content.bytes ≡ (x ++ piece) ++ rest
+    → IsStep (call_of work work.means.feeding (x ++ piece) (work.settled x) (work.settled (x ++ piece)))
     → Ended work.means.output told before (work.settled x) (work.settled (x ++ piece)) work.clears fault reached
     → (is_verdict fault ≡ false
     → Stops
@@ -62,10 +62,11 @@ short_of_piece : {told : Bool} {opening : Needs} {most : ℕ} {work : Work} {con
     → (is_verdict fault ≡ true → OfVerdict fault (IsSettled work (x ++ piece)))
     → (is_verdict fault ≡ true → new ≡ reached)
     → (is_verdict fault ≡ false → Swept work.clears (length before) reached new)
-    → FedAs told before work opening most content WasRead new (Err fault)
-short_of_piece WasRead {x} piece rest {reached} {fault} lawful is within going read (engine.cut unjudged stop) why settles kept swept =
-    stopped fault unjudged _ (feeds x piece rest is within going) read reached (why unjudged) stop (swept unjudged)
-short_of_piece {work} WasRead {x} piece rest lawful is within going read (engine.judged judging first at cleared) why settles kept swept =
+    → FedAs told before work content IsStep new (Err fault)
+short_of_piece IsStep piece rest {reached} {fault} lawful is step (engine.cut unjudged stop) why settles kept swept =
+    stopped fault unjudged
+    (record { step = _; is = step; reached = reached; stops = why unjudged; between = stop; swept = swept unjudged })
+short_of_piece {work} IsStep {x} piece rest lawful is step (engine.judged judging first at cleared) why settles kept swept =
     let settling = settles judging in
     let stays : IsComplete work (x ++ piece) rest = lawful.stays (x ++ piece) rest settling.2.0 in
     rw settling.1 (judged settling.0 (or_right _ _ (ap work.is_complete is ∙ stays.still)) (ap work.verdict is ∙ stays.verdict_stays ∙ settling.2.1) first
@@ -117,39 +118,32 @@ got_enough content x Whole lawful got = cc
 got_enough content x Enough lawful got = grind (arith, common_steps)
 got_enough content x Broken lawful got = absurd got
 
-fed_all : {told : Bool} {opening : Needs} {most : ℕ} {work : Work} {content : Content} (WasRead : Step → Type 0)
+fed_all : {told : Bool} {work : Work} {content : Content} (IsStep : Step → Type 0)
     {x : List ℕ} {new before : List Slot} (fed : Fed) → IsLawful work → HasGot work content x fed
     → work.verdict x ≡ None → OutputsAt told before (work.whole x) new
-    → FedAs told before work opening most content WasRead new (Ok fed)
-fed_all WasRead Whole lawful got well at = whole got.0 (rw got.2 got.1) (rw got.2 well) (rw got.2 at)
-fed_all WasRead {x} Enough lawful got well at =
+    → FedAs told before work content IsStep new (Ok fed)
+fed_all IsStep Whole lawful got well at = whole got.0 (rw got.2 got.1) (rw got.2 well) (rw got.2 at)
+fed_all IsStep {x} Enough lawful got well at =
     let alike = alike_after got.1.0 lawful got.0 got.1.1 in had_enough (rw got.1.1 (lawful.stays x got.1.0 got.0).still)
     (alike.verdict ∙ well) (rw alike.whole at)
-fed_all WasRead Broken lawful got well at = absurd got
+fed_all IsStep Broken lawful got well at = absurd got
 
 -- What a fault left at the end, and what was made of its files then. The engine was fed x, of which z was used.
-short_of_end : {told : Bool} {opening : Needs} {most : ℕ} {work : Work} {content : Content} (WasRead : Step → Type 0)
+short_of_end : {told : Bool} {work : Work} {content : Content} (IsStep : Step → Type 0)
     {x z : List ℕ} {reached new before : List Slot} (fed : Fed) {fault : Fault} → IsLawful work
-    → HasGot work content x fed → HasAll work content z → MadeAlike work x z → IsNeeded work.is_complete most z
-    → WasRead (close_of work z)
+    → HasGot work content x fed → MadeAlike work x z → IsStep (close_of work z)
     → Ended work.means.output told before (work.settled x) (work.whole x) work.clears fault reached
     → (is_verdict fault ≡ false → Stops (close_of work z) reached fault)
     → (is_verdict fault ≡ true → OfVerdict fault (Judges work x))
     → (is_verdict fault ≡ true → new ≡ reached)
     → (is_verdict fault ≡ false → Swept work.clears (length before) reached new)
-    → FedAs told before work opening most content WasRead new (Err fault)
-short_of_end WasRead {z} {reached} fed {fault} lawful got all alike needed read (engine.cut unjudged stop) why verdict kept swept =
-    stopped fault unjudged _ (closes z all needed) read reached (why unjudged)
-    (rw alike.settled at (rw alike.whole at stop))
-    (swept unjudged)
-short_of_end {content} WasRead fed lawful got all alike needed read (engine.judged judging first at cleared) why verdict kept swept =
+    → FedAs told before work content IsStep new (Err fault)
+short_of_end IsStep {reached = reached} fed {fault} lawful got alike step (engine.cut unjudged stop) why verdict kept swept =
+    let between = rw alike.settled at (rw alike.whole at stop) in stopped fault unjudged
+    (record { step = _; is = step; reached = reached; stops = why unjudged; between = between; swept = swept unjudged })
+short_of_end {content} IsStep fed lawful got alike step (engine.judged judging first at cleared) why verdict kept swept =
     let same = got_alike content fed lawful got in let (given, is, ends) = verdict judging in
     rw is (judged given (got_enough content _ fed lawful got) (same.verdict ∙ ends) first (rw same.whole at) (rw (kept judging) cleared))
-
--- a loop begins there, before anything was fed
-abbrev pub BeginsAt : {S : Type 0} → Terms S → Bool → S → List Slot → List Slot → Type 0
-BeginsAt terms told stage before old = terms.Owns stage (length before) old
-    × OutputsAt told before ((terms.work stage).settled []) old
 
 module _ {S : Type 0} (terms : Terms S) where
   -- the loop has fed the engine x
@@ -180,19 +174,19 @@ module _ {S : Type 0} {terms : Terms S} {told : Bool} {start now : GuardState S}
   }
 
   -- the loop ended at a fault of the engine, within the input
-  pub stopped_feeding : (laws : (s : S) (x : List ℕ) → terms.Holds s x → IsLawful (terms.work s)) {opening : Needs}
-      {most : ℕ} (next : GuardState S) {content : Content} (WasRead : Step → Type 0) (piece rest : List ℕ)
+  pub stopped_feeding : (laws : (s : S) (x : List ℕ) → terms.Holds s x → IsLawful (terms.work s))
+      (next : GuardState S) {content : Content} (IsStep : Step → Type 0) (piece rest : List ℕ)
       {reached new before : List Slot} {fault : Fault} → BeginsAt terms told start.stage before old
-      → content.bytes ≡ (x ++ piece) ++ rest → length piece ≤ most → (terms.work now.stage).is_complete x ≡ false
-      → WasRead
+      → content.bytes ≡ (x ++ piece) ++ rest
+      → IsStep
       (call_of (terms.work now.stage) (terms.work now.stage).means.feeding (x ++ piece)
       ((terms.work now.stage).settled x) ((terms.work now.stage).settled (x ++ piece)))
       → Passes terms told piece now.stage next.stage mid reached (IsRefusedWith terms piece now) (Err fault)
       → (is_verdict fault ≡ true → new ≡ reached) → (is_verdict fault ≡ false → Clears terms next.stage reached new)
-      → FedAs told before (terms.work start.stage) opening most content WasRead new (Err fault)
-  stopped_feeding laws next WasRead piece rest {before = before} begun is within going read passes kept cleared =
+      → FedAs told before (terms.work start.stage) content IsStep new (Err fault)
+  stopped_feeding laws next IsStep piece rest {before = before} begun is step passes kept cleared =
       let why = rw so_far.holds.count at (rw so_far.holds.live at passes.met) in
-      rw (← so_far.same) (short_of_piece WasRead piece rest (laws now.stage x so_far.holds.within) is within going read
+      rw (← so_far.same) (short_of_piece IsStep piece rest (laws now.stage x so_far.holds.within) is step
       (passes.cut before x (stands begun))
       (λ unjudged. stops (terms.work now.stage) (x ++ piece) ((terms.work now.stage).settled x)
       ((terms.work now.stage).settled (x ++ piece)) false 0 _ (EndsWith terms piece now.stage) unjudged
@@ -203,20 +197,18 @@ module _ {S : Type 0} {terms : Terms S} {told : Bool} {start now : GuardState S}
       (λ unjudged. rw passes.same at (cleared unjudged (length before) (passes.owns (length before) (so_far.owns (length before) begun.0)))))
 
   -- the loop ended with the input, or as nothing more can follow
-  pub ended : (laws : (s : S) (x : List ℕ) → terms.Holds s x → IsLawful (terms.work s)) {opening : Needs} {most : ℕ}
-      {content : Content} (WasRead : Step → Type 0) {z : List ℕ} {new before : List Slot} {fed : Fed}
+  pub ended : (laws : (s : S) (x : List ℕ) → terms.Holds s x → IsLawful (terms.work s))
+      {content : Content} (IsStep : Step → Type 0) {z : List ℕ} {new before : List Slot} {fed : Fed}
       {result : Result Fed Fault} → BeginsAt terms told start.stage before old
-      → HasGot (terms.work now.stage) content x fed → HasAll (terms.work now.stage) content z
-      → MadeAlike (terms.work now.stage) x z → IsNeeded (terms.work now.stage).is_complete most z
-      → WasRead (close_of (terms.work now.stage) z)
-      → EndsSo terms told now fed mid new result
-      → FedAs told before (terms.work start.stage) opening most content WasRead new result
-  ended laws WasRead {before = before} {fed} begun got all alike needed read (finished _ finishes) =
-      rw (← so_far.same) (fed_all WasRead fed (laws now.stage x so_far.holds.within) got (finishes.well x so_far.holds.within)
+      → HasGot (terms.work now.stage) content x fed → MadeAlike (terms.work now.stage) x z
+      → IsStep (close_of (terms.work now.stage) z) → EndsSo terms told now fed mid new result
+      → FedAs told before (terms.work start.stage) content IsStep new result
+  ended laws IsStep {before = before} {fed} begun got alike step (finished _ finishes) =
+      rw (← so_far.same) (fed_all IsStep fed (laws now.stage x so_far.holds.within) got (finishes.well x so_far.holds.within)
       (finishes.outputs before x (stands begun)))
-  ended laws WasRead {z} {before} {fed} begun got all alike needed read (fell_short _ _ _ finishes kept cleared) =
+  ended laws IsStep {z} {before} {fed} begun got alike step (fell_short _ _ _ finishes kept cleared) =
       let why = rw so_far.holds.live at finishes.met in
-      rw (← so_far.same) (short_of_end WasRead fed (laws now.stage x so_far.holds.within) got all alike needed read
+      rw (← so_far.same) (short_of_end IsStep fed (laws now.stage x so_far.holds.within) got alike step
       (finishes.cut before x (stands begun))
       (λ unjudged. stops (terms.work now.stage) z ((terms.work now.stage).settled z) ((terms.work now.stage).whole z)
       (not ((terms.work now.stage).is_complete z))
@@ -230,16 +222,17 @@ module _ {S : Type 0} {terms : Terms S} {told : Bool} {start now : GuardState S}
 module _ {S : Type 0} (terms : Terms S) where
   -- an input without bytes: the engine is closed at once
   pub closed_at_start : (laws : (s : S) (x : List ℕ) → terms.Holds s x → IsLawful (terms.work s))
-      (told : Bool) {opening : Needs} {most : ℕ}
+      (told : Bool) (opening : Needs) (most : ℕ)
       {start : GuardState S} {old new before : List Slot} {fed : Fed} {result : Result Fed Fault}
       → HoldsIn terms.Holds start [] → start.fed < 2 ^ 63 → BeginsAt terms told start.stage before old
       → HasGot (terms.work start.stage) empty [] fed
       → EndsSo terms told start fed old new result
-      → FedAs told before (terms.work start.stage) opening most empty (λ call. Unit {0}) new result
-  closed_at_start laws told {start} {old = old} {fed = fed} holds bound begun got ends =
+      → FedAs told before (terms.work start.stage) empty (IsCall (terms.work start.stage) opening most empty) new result
+  closed_at_start laws told opening most {start} {old = old} {fed = fed} holds bound begun got ends =
       let begins : Feeds terms told start start [] old old = record
       { same = refl; holds = holds; owns = λ first own. own; outputs = λ before begun. begun.1; bound = bound } in
-      ended begins laws (λ call. Unit {0}) begun got (got_all fed got) (alike_itself) (inl refl) tt ends
+      ended begins laws (IsCall (terms.work start.stage) opening most empty) begun got (alike_itself)
+      (closes [] (got_all fed got) (inl refl)) ends
 
   -- an input that ended, or was enough, didn't break off
   pub ends_sound : (told : Bool) {engine : GuardState S} {fed : Fed} {old new : List Slot} {result : Result Fed Fault}
@@ -292,15 +285,21 @@ told_by_complete content source {x} rest lawful complete is ends going =
     absurd (cc (lawful.stays x rest complete).still)
 
 -- what is known of the call that a fault stopped
-pub fed_so : {told : Bool} {before : List Slot} {work : Work} {opening : Needs} {most : ℕ} {content : Content}
-    {A B : Step → Type 0} {new : List Slot} {result : Result Fed Fault} → ((call : Step) → A call → B call)
-    → FedAs told before work opening most content A new result
-    → FedAs told before work opening most content B new result
+pub fed_so : {told : Bool} {before : List Slot} {work : Work} {content : Content} {A B : Step → Type 0}
+    {new : List Slot} {result : Result Fed Fault} → ((call : Step) → A call → B call)
+    → FedAs told before work content A new result → FedAs told before work content B new result
 fed_so more (whole sound going well at) = whole sound going well at
 fed_so more (had_enough complete well at) = had_enough complete well at
 fed_so more (broke_off breaks going reached at swept) = broke_off breaks going reached at swept
 fed_so more (judged verdict all ends reached at swept) = judged verdict all ends reached at swept
-fed_so more (stopped fault is call is_call read reached why stop swept) = stopped fault is call is_call (more call read) reached why stop swept
+fed_so more (stopped fault is stop) = stopped fault is (record {
+  step = stop.step;
+  is = more stop.step stop.is;
+  reached = stop.reached;
+  stops = stop.stops;
+  between = stop.between;
+  swept = stop.swept;
+})
 
 -- an engine that took in a front of its input without a read: the loop that feeds it goes on from there
 

@@ -19,7 +19,7 @@ use Rattle.ports_core.specs.{
     calling.Speaker.Speaker,
     reason.Reason.{Reason, TheVariants.Other},
   },
-  Work.{Work, Needs},
+  Work.Work,
   Inputs.{CameFrom, KeepsOthers, OfContent, AsksAtMost, empty, largest_piece},
   Slot.{Slot, adds, is_open, slot_at, is_writable, told_of, with_written, streams},
   Part.{Part, only_out, OutputsAt},
@@ -37,22 +37,22 @@ use Rattle.ports_core.proofs.{
   MessageLemmas.{all_said_state, says_after},
 }
 use Rattle.run_core.specs.{
-  Feeding.{IsUnread, Step, ToldEnd, Uses, is_enough, FedAs, whole, had_enough, broke_off, judged, stopped},
+  Feeding.{IsCall, IsUnread, Step, ToldEnd, Uses, is_enough, FedAs, whole, had_enough, broke_off, judged, stopped},
   Input.{Input, World, IsFor, shown_of, showing, is_dash, input_of, inputs_from, next_slot, has_dash, AreFrom},
   Input.{inputs_at, file_input, standard_input, read_before},
   Reading.{AreDone, AreUntouched, IsDone, IsUntouched, Leaves, count_after, reason_of},
   inner.RunSteps.{TakesOne, OfSource, HeaderFails, no_room, broke, TookInput, took, cut_off, input_from, TookAll},
-  inner.RunSteps.{all, stopped_at, not_begun, HasStreams, OfName, standard_source},
+  inner.RunSteps.{all, stopped_at, not_begun, HasStreams, OfName, Start, TookName, TookSource, standard_source, start_at},
   declared.{inputs.RunProgress.RunProgress, feeding.Fed.{Fed, TheVariants.{Whole, Enough, Broken}}},
   RunEnds.{unheaded, heading, calling, step_after, EndsAs, as_defined, stopped as run_stopped, no_room as run_unmade},
-  RunEnds.{RunsOver, unopened, SaysFrom, SaysOf},
+  RunEnds.{RunsOver, StoppedAt, unopened, SaysFrom, SaysOf},
   RunSteps.{IsShown, OnlyLooked, world_of},
   Task.{Task, Outcome, after_part, header_text, of_content, made_by, no_outcome, joined, of_input, of_inputs},
   Task.{is_missing, are_missing},
 }
 use Rattle.run_core.proofs.{
   StopLemmas.{after_assoc, out_on, at_after, stop_after, none_to_sweep, nothing_after, swept_from, said_swept},
-  StopLemmas.{error_open, stop_error, stop_swept, said_at},
+  StopLemmas.{HasError, Reported, error_open, reported, stop_error, said_at},
 }
 use Rattle.ports_core.specs.Source as from
 use Rattle.ports_core.specs.declared.fault.Fault.TheVariants as fault_is
@@ -359,80 +359,101 @@ made_well task work is_first name content enough well = search rules
 
 -- the header could not be written
 
-pub stopped_in_header : {told_in told : Bool} {task : Task} {most : ℕ} (is_first : Bool) (name : List ℕ)
-    {source : Option ℕ} {shown : Option (List ℕ)} {content : Content} {outcome : Outcome} {failed was_read : Bool}
-    {so_far : Part} {error : Slot} {sources : List Source} {old new : List Slot} {fault : Fault}
-    → task.with_header ≡ true
+pub stopped_in_header : {told_in told : Bool} {task : Task} {most : ℕ} {progress : RunProgress} {name : List ℕ}
+    {source : Option ℕ} {shown : Option (List ℕ)} {content : Content} {found sources : List Source}
+    {old new : List Slot} {fault : Fault} (had : HasStreams told old) → task.with_header ≡ true
     → ((step : Step) → step.read ≡ [] → step.ended ≡ false → Leaves told_in content source sources step)
-    → OutputsAt told (streams_with error) so_far old
-    → HeaderFails told (header_text task.with_header is_first name) old new fault
-    → TookInput told_in told task most
-    (input_from name source shown content) outcome is_first failed was_read so_far error (length old) sources new
+    → HeaderFails told (header_text task.with_header progress.is_first name) old new fault
+    → TookInput told_in task (input_from name source shown content) (start_at had progress most found) sources new
     (Err fault)
-stopped_in_header {told} {task} is_first name {shown} {content} {so_far} {error} {old} {new} due unread at (no_room is) =
-    cut_off Memory _ new (unheaded content due (unread _ refl refl)) refl
-    (stopped_here _ told (streams_with error) so_far so_far Memory old new at (part_begins_itself so_far) is tt tt)
-    (none_to_sweep (task.work shown).clears new (omega (arith, ap length is)))
-stopped_in_header {told} {task} is_first name {shown} {content} {so_far} {error} {old} {new} due unread at (broke n after) =
-    let text = header_text task.with_header is_first name in
+stopped_in_header {told} {task} {content = content} {old = old} {new} had due unread (no_room is) = cut_off Memory (record {
+  step = _;
+  is = unheaded content refl due (unread _ refl refl);
+  reached = new;
+  stops = refl;
+  between = stopped_here _ told (streams_with had.error) had.part had.part Memory old new had.at (part_begins_itself had.part) is tt tt;
+  swept = none_to_sweep _ new (omega (arith, ap length is));
+})
+stopped_in_header {told} {task} {progress = progress} {name} {content = content} {old = old} {new} had due unread (broke n after) =
+    let text = header_text task.with_header progress.is_first name in
     let count : length new ≡ length old = simp length-changed_at at (ap length after.slots.1) in
     let lost = ap (λ those. (slot_at those 0).is_broken) after.slots.1
-    ∙ broken_at _ 0 _ (writable-written old 0 0 (told_of told (take n text)) ∙ part_writable at) in
-    cut_off (Write 0) _ new (heading content due (unread _ refl refl)) (λ _. refl, λ alone. refl, lost)
-    (rw (out_on so_far text) at (out_cut told (streams_with error) so_far old new text n at after))
-    (none_to_sweep (task.work shown).clears new (omega arith))
+    ∙ broken_at _ 0 _ (writable-written old 0 0 (told_of told (take n text)) ∙ part_writable had.at) in
+    cut_off (Write 0) (record {
+      step = _;
+      is = heading content refl due (unread _ refl refl);
+      reached = new;
+      stops = (λ _. refl, λ alone. refl, lost);
+      between = rw (out_on had.part text) at (out_cut told (streams_with had.error) had.part old new text n had.at after);
+      swept = none_to_sweep _ new (omega arith);
+    })
+
+-- one input was done, by what is made of it
+took_as : {told : Bool} {task : Task} {input : Input} {start : Start} {sources : List Source} {new : List Slot}
+    {made : Outcome} → made ≡ of_input task start.progress.is_first input
+    → (next : RunProgress) (after : Slot) (reached : List Slot)
+    → next ≡ record start.progress {
+      is_first = start.progress.is_first && is_missing input.content;
+      failed = start.progress.failed || made.failed;
+    }
+    → IsDone told (task.work input.shown) start.most input.slot input.content sources
+    → SaysFrom start.told task.speaker (reason_of input.slot sources) made.messages start.error after
+    → OutputsAt start.told (streams_with after) (after_part start.part made.part) reached
+    → Swept made.sweeps start.count reached new → TookInput told task input start sources new (Ok next)
+took_as is next after reached past done says at swept =
+    took next after reached (rw is at past) done (rw is at says) (rw is at at) (rw is at swept)
 
 -- the engine's part of an input, after the header
-module _ (told_in told : Bool) (task : Task) (most : ℕ) (is_first failed was_read : Bool) (name : List ℕ)
-    (so_far : Part) (error : Slot) (source : Option ℕ) (shown : Option (List ℕ)) (sources : List Source)
-    (start mid : List Slot) (before : OutputsAt told (streams_with error) so_far start)
-    (wrote : mid ≡ with_written 0 (told_of told (header_text task.with_header is_first name)) start) where
+module _ (told_in : Bool) {told : Bool} (task : Task) (most : ℕ) (progress : RunProgress) (name : List ℕ)
+    (source : Option ℕ) (shown : Option (List ℕ)) (found sources : List Source) {start : List Slot} (mid : List Slot)
+    (had : HasStreams told start)
+    (wrote : mid ≡ with_written 0 (told_of told (header_text task.with_header progress.is_first name)) start) where
   abbrev work : Work
   work = task.work shown
 
   abbrev header : Part
-  header = only_out (header_text task.with_header is_first name)
+  header = only_out (header_text task.with_header progress.is_first name)
 
-  at : OutputsAt told (streams_with error) (after_part so_far header) mid
-  at = headed _ before wrote
+  at : OutputsAt told (streams_with had.error) (after_part had.part header) mid
+  at = headed _ had.at wrote
 
   counted : length mid ≡ length start
   counted = headed_count told _ start wrote
 
   abbrev taken : Bool → RunProgress
-  taken fails = record { was_read = was_read; is_first = false; failed = fails }
+  taken fails = record progress { is_first = false; failed = fails }
 
   abbrev WasDone : Content → Type 0
   WasDone content = IsDone told_in work most source (Some content) sources
 
   abbrev WasFed : Content → List Slot → Result Fed Fault → Type 0
-  WasFed content = FedAs told mid work (task.opening shown) most content (Leaves told_in content source sources)
+  WasFed content = FedAs told mid work content (λ call. IsCall work (task.opening shown) most content call
+      × Leaves told_in content source sources call)
 
   abbrev pub TookSo : Content → List Slot → Result RunProgress Fault → Type 0
-  TookSo content new result = TookInput told_in told task most (input_from name source shown content)
-      (of_content task work is_first name (Some content)) is_first failed was_read so_far error (length start) sources new result
+  TookSo content new result = TookInput told_in task (input_from name source shown content)
+      (start_at had progress most found) sources new result
 
   part_after : (error_now : Slot) (part : Part) {reached : List Slot}
       → OutputsAt told (streams_with error_now)
-      (after_part (after_part so_far header) part) reached
+      (after_part (after_part had.part header) part) reached
       → OutputsAt told (streams_with error_now)
-      (after_part so_far (after_part header part)) reached
-  part_after error_now part there = rw (after_assoc so_far header part) at there
+      (after_part had.part (after_part header part)) reached
+  part_after error_now part there = rw (after_assoc had.part header part) at there
 
   -- the engine's part went well
   went_well : (content : Content) (new : List Slot)
       → WasDone content → is_enough work content ≡ true
       → work.verdict content.bytes ≡ None → OutputsAt told mid (work.whole content.bytes) new
-      → TookSo content new (Ok (taken failed))
+      → TookSo content new (Ok (taken progress.failed))
   went_well content new done enough well there =
-      rw (made_well task work is_first name content enough well)
-      (took (taken failed) error new
-      (simp (and-false, or-false)) done refl (part_after error _ (at_after at there)) refl)
+      took_as (sym (made_well task work progress.is_first name content enough well)) (taken progress.failed) had.error new
+      (simp (and-false, or-false)) done refl (part_after had.error _ (at_after at there)) refl
 
   -- a message is due
   went_badly : (content : Content) (part : Part) (message : Message) (reached old new : List Slot)
       → WasDone content
-      → of_content task work is_first name (Some content)
+      → of_content task work progress.is_first name (Some content)
       ≡ record {
         part = after_part header part;
         messages = message ∷ [];
@@ -443,17 +464,17 @@ module _ (told_in told : Bool) (task : Task) (most : ℕ) (is_first failed was_r
       → SaysOn told task.speaker (reason_of source sources) message old new
       → TookSo content new (Ok (taken true))
   went_badly content part message reached old new done made there swept says =
-      let top = adds (told_of told (after_part so_far (after_part header part)).out) standard_output in
-      let all = part_after error part (at_after at there) in
-      let said = said_swept told (SaysFor told task.speaker (reason_of source sources) message) work.clears old new (length start)
-      (part_two before) (rw all.slots at (rw counted at swept)) says in
-      rw made (took (taken true) said.after (top ∷ said.after ∷ _)
+      let top = adds (told_of told (after_part had.part (after_part header part)).out) standard_output in
+      let all = part_after had.error part (at_after at there) in
+      let said = said_swept (SaysFor told task.speaker (reason_of source sources) message) work.clears old new (length start)
+      (part_two had.at) (rw all.slots at (rw counted at swept)) says in
+      took_as (sym made) (taken true) said.after (top ∷ said.after ∷ _)
       (simp (and-false, or-true)) done (said.after, said.says, refl)
-      (record { standard = lit< tt; slots = refl }) said.swept)
+      (record { standard = lit< tt; slots = refl }) said.swept
 
   pub took_well : {content : Content} {new : List Slot} {fed : Fed}
       → WasDone content → (fed ≡ Whole) ⊎ (fed ≡ Enough)
-      → WasFed content new (Ok fed) → TookSo content new (Ok (taken failed))
+      → WasFed content new (Ok fed) → TookSo content new (Ok (taken progress.failed))
   took_well {content} {new} done good (whole sound _ well there) = went_well content new done (or_left _ _ (ap not sound)) well there
   took_well {content} {new} done good (had_enough complete well there) = went_well content new done (or_right _ _ complete) well there
   took_well done good (broke_off breaks going reached there swept) = absurd (elim good [ inl is ↦ cc | inr is ↦ cc ])
@@ -478,15 +499,20 @@ module _ (told_in told : Bool) (task : Task) (most : ℕ) (is_first failed was_r
   took_verdict {content} {old} {new} {verdict} done (judged _ enough judges reached there swept) says =
       went_badly content (work.whole content.bytes)
       (message_of (fault_is.Verdict verdict) (task.subject verdict name)) reached old new done (simp (enough, judges, and-true)) there swept says
-  took_verdict done (stopped _ unjudged call _ _ _ _ stop _) says = absurd (cc)
+  took_verdict done (stopped _ unjudged stop) says = absurd (cc)
 
   pub took_stopped : {content : Content} {new : List Slot} {fault : Fault}
       → ((verdict : Verdict) → fault ≡ fault_is.Verdict verdict → ⊥)
       → WasFed content new (Err fault) → TookSo content new (Err fault)
   took_stopped other (judged verdict enough judges reached there swept) = absurd (other verdict refl)
-  took_stopped {content} {fault} other (stopped _ is call is_call read reached why stop swept) =
-      cut_off fault (step_after (after_part so_far header) call) reached (calling content call is_call read)
-      why (stop_after at stop) (rw counted at swept)
+  took_stopped {content} {fault} other (stopped _ is stop) = cut_off fault (record {
+    step = step_after (after_part had.part header) stop.step;
+    is = calling content stop.step refl stop.is.0 stop.is.1;
+    reached = stop.reached;
+    stops = stop.stops;
+    between = stop_after at stop.between;
+    swept = rw counted at stop.swept;
+  })
 
 -- standard error is open after an input was fed
 
@@ -494,15 +520,16 @@ pub swept_open : (clears : Bool) (reached new : List Slot) {first : ℕ} → 2 �
     → is_open (slot_at reached 1).state ≡ true → Swept clears first reached new → is_open (slot_at new 1).state ≡ true
 swept_open clears reached new past opened swept = grind (arith, common_steps)
 
-pub fed_open : {told : Bool} {work : Work} {opening : Needs} {most : ℕ} {error : Slot} {part : Part}
-    {mid new : List Slot} {content : Content} (WasRead : Step → Type 0) {result : Result Fed Fault}
+pub fed_open : {told : Bool} {work : Work} {error : Slot} {part : Part} {mid new : List Slot} {content : Content}
+    (IsStep : Step → Type 0) {result : Result Fed Fault}
     → is_open error.state ≡ true → OutputsAt told (streams_with error) part mid
-    → FedAs told mid work opening most content WasRead new result → is_open (slot_at new 1).state ≡ true
-fed_open WasRead opened at (whole sound going well there) = cc
-fed_open WasRead opened at (had_enough complete well there) = cc
-fed_open WasRead opened at (broke_off breaks going _ there swept) = grind (arith, common_steps)
-fed_open WasRead opened at (judged _ enough judges _ there swept) = grind (arith, common_steps)
-fed_open WasRead opened at (stopped _ is call is_call _ _ _ stop swept) = grind (arith, common_steps)
+    → FedAs told mid work content IsStep new result → is_open (slot_at new 1).state ≡ true
+fed_open IsStep opened at (whole sound going well there) = cc
+fed_open IsStep opened at (had_enough complete well there) = cc
+fed_open IsStep opened at (broke_off breaks going _ there swept) = grind (arith, common_steps)
+fed_open IsStep opened at (judged _ enough judges _ there swept) = grind (arith, common_steps)
+fed_open IsStep opened at (stopped _ is stop) =
+    let between = stop.between in let swept = stop.swept in grind (arith, common_steps)
 
 -- Lemmas on how a run ends.
 
@@ -511,15 +538,17 @@ pub ran_through : {told_in told : Bool} {task : Task} {found : List Input}
     {sources : List Source} {new : List Slot} {failed : Bool} {status : ℕ} → status ≡ (if failed then 1 else 0)
     → TookAll told_in told task found sources new (Ok failed)
     → EndsAs told_in told task found sources new status
-ran_through is (all _ error reached same says at swept done) =
-    as_defined error reached says at swept done (rw same at is)
+ran_through is (all _ same done) = as_defined done (rw same at is)
 
 -- standard error is there for the fault that stopped the run
+stopped_error : {told_in told : Bool} {task : Task} {found : List Input} {sources : List Source} {fault : Fault}
+    {new : List Slot} (at : StoppedAt told_in told task found sources fault new) → HasError at.stop.reached
+stopped_error {told} {task} {sources = sources} at =
+    stop_error (ap is_open (said_state told task sources at.before standard_error at.error at.says)) at.stop.between
+
 pub stop_open : {told_in told : Bool} {task : Task} {found : List Input} {sources : List Source} {new : List Slot}
     {fault : Fault} → TookAll told_in told task found sources new (Err fault) → is_open (slot_at new 1).state ≡ true
-stop_open {told} {task} {sources} (stopped_at _ before _ _ error step _ among done untouched is_step stops says stop swept) =
-    let same = said_state told task sources before standard_error error says in
-    grind (arith, common_steps, swept_open, error_open, stop_error)
+stop_open (stopped_at _ at) = swept_open _ at.stop.reached _ (lit≤ tt) (error_open (stopped_error at)) at.stop.swept
 stop_open (not_begun is untouched none) = grind (arith, common_steps)
 
 -- the run that a fault stopped
@@ -529,15 +558,18 @@ pub ran_into : {told_in told : Bool} {task : Task} {found : List Input} {sources
     → TellsOn told task.speaker fault mid new
     → status ≡ status_after fault task.speaker.calling (output_reason mid fault)
     → EndsAs told_in told task found sources new status
-ran_into {told} {task} {sources} {mid} {fault} (stopped_at _ before input after error step _ among done untouched is_step stops said stop swept) tells is =
-    let told_so = stop_swept told (Tells told task.speaker (output_reason mid fault) fault (output_named mid fault))
-    step (task.work input.shown).clears (lit≤ tt)
-    (ap is_open (said_state told task sources before standard_error error said)) stop stops swept tells in
-    run_stopped fault before input after error told_so.after step told_so.reached among done untouched is_step told_so.why told_so.stop told_so.swept
-    said (rw (told_so.named, told_so.reason) told_so.says) (rw told_so.reason is)
+ran_into {mid = mid} (stopped_at fault at) tells is = run_stopped fault mid at tells is
 ran_into (not_begun at_first untouched none) tells is =
     let said = tells standard_output standard_error [] at_first in
     run_unmade said.0 (said.0, (Other, said.1), refl) said.2 untouched none is
+
+-- what its report changed
+pub told_stop : {told_in told : Bool} {task : Task} {found : List Input} {sources : List Source} {fault : Fault}
+    {mid new : List Slot} → StoppedAt told_in told task found sources fault mid
+    → TellsOn told task.speaker fault mid new
+    → Reported (Tells told task.speaker (output_reason mid fault) fault (output_named mid fault)) mid new
+told_stop {task = task} {new = new} at tells =
+    reported (task.work at.input.shown).clears (stopped_error at) _ new at.stop.swept tells
 
 -- Lemmas on taking the inputs for names, one after another.
 
@@ -549,13 +581,12 @@ none_left (word ∷ words) none = absurd (omega arith)
 
 -- which input a name stands for
 
--- this was taken for a name, whichever input it stands for
-abbrev pub Takes : Bool → Bool → Task → ℕ → Bool → Bool → Bool → (ℕ → List ℕ → Option Content) → List Source
-    → List Source → List ℕ → Part → Slot → ℕ → List Slot → Result RunProgress Fault → Type 0
-Takes told_in told task most is_first failed was_read laid old sources name so_far error first new result =
-    OfName told_in (world_of laid old) was_read (length old) name
-    (λ input. TookInput told_in told task most input (of_input task is_first input) is_first failed
-    (was_read || is_dash name) so_far error first sources new result)
+-- as much of an input, whichever sources there were before it
+elsewhere : {told : Bool} {task : Task} {input : Input} {start : Start} (found : List Source) {sources : List Source}
+    {new : List Slot} {result : Result RunProgress Fault} → TookInput told task input start sources new result
+    → TookInput told task input (record start { sources = found }) sources new result
+elsewhere found (took next after reached is done says at swept) = took next after reached is done says at swept
+elsewhere found (cut_off fault stop) = cut_off fault stop
 
 of_file : {told : Bool} (world : World) (was_read : Bool) {slot : ℕ} {name : List ℕ} {content : Option Content}
     (shown : Option (List ℕ)) (P : Input → Type 0) → is_dash name ≡ false
@@ -588,75 +619,71 @@ dash_at false laid sources slot name shown P dash says (content, there, holds) =
 )
 
 -- the file was opened
-pub took_opened : {told_in told : Bool} {task : Task} {most : ℕ} {is_first failed was_read : Bool}
-    {laid : ℕ → List ℕ → Option Content} {name : List ℕ} {old mid : List Source} {slot : ℕ} {so_far : Part}
-    {error : Slot} {first : ℕ} {sources : List Source} {new : List Slot} {result : Result RunProgress Fault}
+pub took_opened : {told_in told : Bool} {task : Task} {most : ℕ} {progress : RunProgress}
+    {laid : ℕ → List ℕ → Option Content} {name : List ℕ} {old mid : List Source} {slot : ℕ} {start : List Slot}
+    (had : HasStreams told start) {sources : List Source} {new : List Slot} {result : Result RunProgress Fault}
     → is_dash name ≡ false → OpensFile told_in laid old mid name slot
-    → (shown : Option (List ℕ)) × IsShown told_in (Some slot) mid shown
-    × OfSource told_in (Some slot) mid
-    (λ content. TookInput told_in told task most (input_from name (Some slot) shown content)
-    (of_content task (task.work shown) is_first name (Some content)) is_first failed was_read so_far error first
-    sources new result)
-    → Takes told_in told task most is_first failed was_read laid old sources name so_far error first new result
-took_opened {was_read} {laid} {name} {old} {slot} differs opened_it (shown, says, (content, there, one)) =
-    of_file (world_of laid old) was_read shown _ differs (λ t. ap (λ n. laid n name) (sym opened_it.number) ∙ opened_it.lies t
+    → TookSource told_in task name (Some slot) (start_at had progress most mid) sources new result
+    → TookName told_in laid task name (start_at had progress most old) sources new result
+took_opened {progress = progress} {laid} {name} {old} {slot = slot} had differs opened_it (shown, says, (content, there, one)) =
+    of_file (world_of laid old) progress.was_read shown _ differs (λ t. ap (λ n. laid n name) (sym opened_it.number) ∙ opened_it.lies t
     ∙ ap Some (sym (there t ∙ ap (λ (source : Source). source.left)
     (ap (λ those. source_at those slot) opened_it.sources
     ∙ ap (source_at (old ++ source_of opened_it.content ∷ [])) opened_it.number ∙ last_source old))))
     (λ t. rw (there t) (says t))
-    (rw (differs, or-false) (rw opened_it.number at one))
+    (rw (differs, or-false) (rw opened_it.number at (elsewhere old one)))
 
 -- standard input, for the operand `-`
-pub took_standard : {told_in told : Bool} {task : Task} {most : ℕ} {is_first failed : Bool} (was_read : Bool)
-    {source : Option ℕ} (laid : ℕ → List ℕ → Option Content) (name : List ℕ) (old : List Source) {sources : List Source}
-    {so_far : Part} {error : Slot} {first : ℕ} {new : List Slot} {result : Result RunProgress Fault}
-    → source ≡ standard_source was_read → is_dash name ≡ true
-    → (shown : Option (List ℕ)) × IsShown told_in source old shown
-    × OfSource told_in source old
-    (λ content. TookInput told_in told task most (input_from (codes "standard input") source shown content)
-    (of_content task (task.work shown) is_first (codes "standard input") (Some content)) is_first failed true so_far
-    error first sources new result)
-    → Takes told_in told task most is_first failed was_read laid old sources name so_far error first new result
-took_standard {told_in} {told} {task} {most} {is_first} {failed} was_read laid name old {sources} {so_far}
-    {error} {first} {new} {result} is dash (shown, says, holds) =
-    let P = λ (read : Bool) (input : Input). TookInput told_in told task most input
-    (of_input task is_first input) is_first failed read so_far error first sources new result in
-    dash_at was_read laid old (length old) name shown (P (was_read || is_dash name)) dash (rw is at says)
+pub took_standard : {told_in told : Bool} {task : Task} {most : ℕ} (progress : RunProgress) {source : Option ℕ}
+    (laid : ℕ → List ℕ → Option Content) (name : List ℕ) (old : List Source) {start : List Slot}
+    (had : HasStreams told start) {sources : List Source} {new : List Slot} {result : Result RunProgress Fault}
+    → source ≡ standard_source progress.was_read → is_dash name ≡ true
+    → TookSource told_in task (codes "standard input") source
+    (start_at had (record progress { was_read = true }) most old) sources new result
+    → TookName told_in laid task name (start_at had progress most old) sources new result
+took_standard {told_in} {task = task} {most} progress laid name old had {sources} {new} {result} is dash (shown, says, holds) =
+    let P = λ (read : Bool) (input : Input). TookInput told_in task input
+    (start_at had (record progress { was_read = read }) most old) sources new result in
+    dash_at progress.was_read laid old (length old) name shown (P (progress.was_read || is_dash name)) dash (rw is at says)
     (rw (dash, or-true) (rw is at holds))
 
 -- a name that could not be opened: it is passed over with a message
 
-pub of_missing : {told_in told : Bool} {task : Task} {most : ℕ} {is_first failed was_read : Bool}
+pub of_missing : {told_in told : Bool} {task : Task} {most : ℕ} {progress : RunProgress}
     {laid : ℕ → List ℕ → Option Content} {name : List ℕ} {sources after : List Source}
-    {fault : Fault} {slot : ℕ} {so_far : Part} {error : Slot} {old new : List Slot} → is_dash name ≡ false
+    {fault : Fault} {slot : ℕ} {old new : List Slot} (had : HasStreams told old) → is_dash name ≡ false
     → OpensNothing told_in laid sources after name fault → fault ≡ Open slot
-    → OutputsAt told (streams_with error) so_far old
     → SaysOn told task.speaker (reason_of (Some slot) after) (message_of (Open slot) name) old new
-    → Takes told_in told task most is_first failed was_read laid sources after name so_far error (length old) new
-    (Ok (record { was_read = was_read; is_first = is_first; failed = true }))
-of_missing {told_in} {told} {task} {most} {is_first} {was_read} {laid} {name} {sources} {after} {slot} {error} {new} differs
-    (from.broke _ reason number lies are) cannot at says =
-    of_file (world_of laid sources) was_read None _ differs (λ t. ap (λ n. laid n name) (sym number) ∙ lies t) (λ t. refl)
-    (let said = said_at at says in
+    → TookName told_in laid task name (start_at had progress most sources) after new
+    (Ok (record progress { failed = true }))
+of_missing {told_in} {told} {task} {most} {progress} {laid} {name} {sources} {after} {slot = slot} {new = new} had differs
+    (from.broke _ reason number lies are) cannot says =
+    of_file (world_of laid sources) progress.was_read None _ differs (λ t. ap (λ n. laid n name) (sym number) ∙ lies t) (λ t. refl)
+    (let said = said_at had.at says in
     let same : slot ≡ length sources = grind (arith, common_steps) in
-    took (record { was_read = was_read; is_first = is_first; failed = true }) said.0 new
+    took (record progress { failed = true }) said.0 new
     (simp (differs, or-false, and-true, or-true)) (missing_done told_in (task.work None) most reason sources are)
-    (said.0, subst (λ n. SaysFor told task.speaker (reason_of (Some n) after) (message_of (Open 0) name) error said.0) same said.1, refl)
+    (said.0, subst (λ n. SaysFor told task.speaker (reason_of (Some n) after) (message_of (Open 0) name) had.error said.0) same said.1, refl)
     (subst (λ part. OutputsAt told (streams_with said.0) part new) (sym nothing_after) said.2) refl)
-of_missing differs (from.no_room are) cannot at says = absurd (cc)
+of_missing had differs (from.no_room are) cannot says = absurd (cc)
 
 -- there was no room for it
-pub of_no_room : {told_in told : Bool} {task : Task} {most : ℕ} {is_first failed : Bool} (was_read : Bool)
-    {laid : ℕ → List ℕ → Option Content} {name : List ℕ} {sources after : List Source} {fault : Fault} {so_far : Part}
-    {error : Slot} {old : List Slot} → is_dash name ≡ false → OpensNothing told_in laid sources after name fault
-    → ((slot : ℕ) → fault ≡ Open slot → ⊥) → OutputsAt told (streams_with error) so_far old
-    → Takes told_in told task most is_first failed was_read laid sources after name so_far error (length old) old
-    (Err fault)
-of_no_room was_read differs (from.broke slot why number lies are) other at = absurd (other slot refl)
-of_no_room {told} was_read {laid} {name} {sources} {so_far} {error} {old} differs (from.no_room are) other at =
-    of_file (world_of laid sources) was_read (shown_of (laid (length sources) name)) _ differs (λ t. refl) (λ t. refl)
-    (cut_off Memory _ old (unopened (laid (length sources) name) (length sources) refl (omega (arith, ap length are))) refl
-    (stopped_here _ told (streams_with error) so_far so_far Memory old old at (part_begins_itself so_far) refl tt tt) (none_to_sweep _ old (omega arith)))
+pub of_no_room : {told_in told : Bool} {task : Task} {most : ℕ} (progress : RunProgress)
+    {laid : ℕ → List ℕ → Option Content} {name : List ℕ} {sources after : List Source} {fault : Fault}
+    {old : List Slot} (had : HasStreams told old) → is_dash name ≡ false
+    → OpensNothing told_in laid sources after name fault → ((slot : ℕ) → fault ≡ Open slot → ⊥)
+    → TookName told_in laid task name (start_at had progress most sources) after old (Err fault)
+of_no_room progress had differs (from.broke slot why number lies are) other = absurd (other slot refl)
+of_no_room {told = told} progress {laid} {name} {sources} {old = old} had differs (from.no_room are) other =
+    of_file (world_of laid sources) progress.was_read (shown_of (laid (length sources) name)) _ differs (λ t. refl) (λ t. refl)
+    (cut_off Memory (record {
+      step = _;
+      is = unopened (length sources) refl (omega (arith, ap length are));
+      reached = old;
+      stops = refl;
+      between = stopped_here _ told (streams_with had.error) had.part had.part Memory old old had.at (part_begins_itself had.part) refl tt tt;
+      swept = none_to_sweep _ old (omega arith);
+    }))
 
 -- the loop over names
 
@@ -763,8 +790,14 @@ module _ {told_in told : Bool} {task : Task} {world : World} {names left : List 
           are = walked.rest_are [] (rw none refl);
           there = λ t. rw none at (walked.rest_there t);
         },
-        all progress.failed walked.error walked.reached (rw made walked.failed) (rw (append-nil walked.done) walked.says) (rw made walked.at)
-            (rw made walked.swept) (rw (append-nil walked.done) (all_done _ _ _ _ _ _ walked.known)),
+        all progress.failed (rw made walked.failed) (record {
+          error = walked.error;
+          says = rw (append-nil walked.done) walked.says;
+          reached = walked.reached;
+          outputs = rw made walked.at;
+          swept = rw made walked.swept;
+          done = rw (append-nil walked.done) (all_done _ _ _ _ _ _ walked.known);
+        }),
       )
 
 -- while standard input was not read, what it holds is known
@@ -787,9 +820,9 @@ taken_alone {left} slots alone is = elim (alone is) [
 
 module _ {told_in told : Bool} {task : Task} {world : World} {names : List (List ℕ)} {name : List ℕ}
     {left : List (List ℕ)} {progress : RunProgress} {laid : ℕ → List ℕ → Option Content}
-    {sources new_sources : List Source} {slots : List Slot}
+    {sources new_sources : List Source} {slots : List Slot} {most : ℕ}
     (walked : Walked told_in told task world names (name ∷ left) progress laid sources slots)
-    (leaves : TakesOne largest_piece progress.was_read name sources new_sources) where
+    (room : most ≡ largest_piece) (leaves : TakesOne largest_piece progress.was_read name sources new_sources) where
   unread_on : (progress.was_read || is_dash name) ≡ false → source_at new_sources 0 ≡ source_of world.standard
   unread_on unread = let both = or_parts progress.was_read _ unread in leaves.unasked both.1 ∙ walked.standard both.0
 
@@ -799,11 +832,17 @@ module _ {told_in told : Bool} {task : Task} {world : World} {names : List (List
   said_on : SaysOf told task new_sources walked.done standard_error walked.error
   said_on = still_said told_in told task largest_piece walked.done standard_error walked.error leaves walked.known walked.says
 
+  abbrev pub next_streams : HasStreams told slots
+  next_streams = record { part = walked.made.part; error = walked.error; at = slots_at walked (omega arith); opened = walked_error walked }
+
+  -- what became of the name
+  abbrev pub TookNext : List Slot → Result RunProgress Fault → Type 0
+  TookNext = TookName told_in laid task name (start_at next_streams progress most sources) new_sources
+
   -- one more name was taken
   pub walk_goes_on : {next : RunProgress} {new_laid : ℕ → List ℕ → Option Content} {new : List Slot}
       → length new_sources ≡ next_slot (length sources) name → new_laid ≡ laid
-      → Takes told_in told task largest_piece progress.is_first progress.failed progress.was_read laid sources
-      new_sources name walked.made.part walked.error (length slots) new (Ok next)
+      → TookNext new (Ok next)
       → Walked told_in told task world names left next new_laid new_sources new
   walk_goes_on {next = next} {new = new} opened_it same (input, is_for, there, took _ after reached is is_done says at swept) =
       let one = of_input task progress.is_first input in
@@ -844,17 +883,17 @@ module _ {told_in told : Bool} {task : Task} {world : World} {names : List (List
         some = omega arith;
         known = rw was (done_more told_in task.work largest_piece (progress.was_read || is_dash name) walked.done input new_sources
             done_on
-            (done_with told_in (task.work input.shown) largest_piece progress.was_read name new_sources is_for walked.some is_done));
+            (done_with told_in (task.work input.shown) largest_piece progress.was_read name new_sources is_for walked.some
+            (rw room at is_done)));
         asked = leaves.asked walked.asked;
         count = rw (opened_it, walked.count);
       }
 
   -- a fault stopped the run at a name
   pub walk_stops : {new : List Slot} (fault : Fault)
-      → Takes told_in told task largest_piece progress.is_first progress.failed progress.was_read laid sources
-      new_sources name walked.made.part walked.error (length slots) new (Err fault)
+      → TookNext new (Err fault)
       → RunsOver told_in world names (λ found. TookAll told_in told task found new_sources new (Err fault))
-  walk_stops {new} fault (input, is_for, there, cut_off _ step reached is_step stops stop swept) =
+  walk_stops {new} fault (input, is_for, there, cut_off _ stop) =
       let rest = inputs_from world (progress.was_read || is_dash name) (next_slot (length sources) name) left in
       let before : made_by task walked.done ≡ walked.made
       = ap (of_inputs task true) (sym (append-nil walked.done)) ∙ walked.rest_made [] ∙ joined_nothing in (
@@ -867,13 +906,26 @@ module _ {told_in told : Bool} {task : Task} {world : World} {names : List (List
                 sources walked.laid_same walked.standard,
           ) (walked.rest_there t);
         },
-        stopped_at fault walked.done input rest walked.error step reached refl
-            (all_done _ _ _ (progress.was_read || is_dash name) _ _ done_on)
-            (rest_untouched world (progress.was_read || is_dash name) (next_slot (length sources) name) left new_sources
-            unread_on leaves.within)
-            (rw before (rw walked.first at is_step))
-            stops said_on stop
-            (swept_from (task.work input.shown).clears reached new (λ clears. (taken_alone slots (walked.alone input.shown) clears).1) swept),
+        stopped_at fault (record {
+          before = walked.done;
+          input = input;
+          after = rest;
+          are = refl;
+          done = all_done _ _ _ (progress.was_read || is_dash name) _ _ done_on;
+          untouched = rest_untouched world (progress.was_read || is_dash name) (next_slot (length sources) name) left
+              new_sources unread_on leaves.within;
+          error = walked.error;
+          says = said_on;
+          stop = record {
+            step = stop.step;
+            is = rw before (rw (room, walked.first) at stop.is);
+            reached = stop.reached;
+            stops = stop.stops;
+            between = stop.between;
+            swept = swept_from (task.work input.shown).clears stop.reached new
+                (λ clears. (taken_alone slots (walked.alone input.shown) clears).1) stop.swept;
+          };
+        }),
       )
 
 -- the words that a loop has left are the first of them and the rest
@@ -887,15 +939,16 @@ pub walked_at : {told_in : Bool} (told : Bool) {task : Task} {world : World} {na
 walked_at told none left some walked = grind (arith, common_steps)
 
 -- a run that touched no input
-pub none_touched : {told_in : Bool} {laid : ℕ → List ℕ → Option Content} {sources : List Source} {names : List (List ℕ)}
-    → IsFresh sources → RunsOver told_in (world_of laid sources) names (λ found. AreUntouched found sources)
-none_touched {laid} {sources} {names} fresh =
-    let world = world_of laid sources in
-    let at_first : source_at sources 0 ≡ source_of fresh.standard = ap (λ those. source_at those 0) fresh.only in (
-      inputs_at world names,
-      record { are = are_from world false 1 names; there = λ t. refl },
-      rest_untouched world false 1 names sources (λ _. rw at_first refl) (omega (arith, ap length fresh.only)),
-    )
+pub none_touched : {told_in : Bool} {world : World} {sources : List Source} {names : List (List ℕ)}
+    → sources ≡ source_of world.standard ∷ [] → RunsOver told_in world names (λ found. AreUntouched found sources)
+none_touched {world = world} {sources} {names} fresh = (
+  inputs_at world names,
+  record { are = are_from world false 1 names; there = λ t. refl },
+  rest_untouched world false 1 names sources (λ _. ap (λ those. source_at those 0) fresh) (omega (arith, ap length fresh)),
+)
+
+pub fresh_is : {sources : List Source} → IsFresh sources → sources ≡ source_of (source_at sources 0).left ∷ []
+fresh_is fresh = rw fresh.only refl
 
 pub fresh_counts : {sources : List Source} (names : List (List ℕ)) → IsFresh sources
     → length sources ≤ count_after 1 names

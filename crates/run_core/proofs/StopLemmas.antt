@@ -2,16 +2,16 @@
 use Rattle.std.proofs.{
   lemmas.{Grind.common_steps, List.{map-append, append-nil}},
   Common.{◌≡◌, ℕ, ◌+◌, ◌<◌, ◌≤◌, suc, Bool, true, false, List, [], ◌∷◌, ◌++◌, length, map, take, drop, ◌⊎◌, inl},
-  Common.{inr, refl, sym, ◌∙◌, ap, arith, append_assoc, length-append, zero, lit<, subst},
+  Common.{inr, refl, sym, ◌∙◌, ap, arith, append_assoc, length-append, zero, lit<, lit≤, subst},
   Math.Seq.{take-append-add, drop-append-add},
 }
 use Rattle.ports_core.specs.{
-  Slot.{Slot, with_written, told_of, told_slot, is_open, slot_at, adds, breaks, unopened, with_broken},
+  Slot.{Slot, with_written, told_of, told_slot, is_open, slot_at, adds},
   Part.{nothing, Part, only_out, OutputsAt, IsBeginning, Begins, IsNext, IsAt, StoppedBetween, Marks, Output},
   Part.{gets_lines, gets_openings, lines_for, openings_for, LinesInOrder},
   Swept.{Swept, SweptFrom, Cleared},
   declared.fault.Fault.{Fault, TheVariants.{Write, Open}},
-  Message.{OnError, output_named, output_reason},
+  Message.{OnError},
 }
 use Rattle.ports_core.proofs.{
   PartLemmas.{due_by, marks_by, outputs_count},
@@ -20,7 +20,7 @@ use Rattle.ports_core.proofs.{
   WriteLemmas.{told_of-append, with_written-append},
   PartSteps.front_begins,
 }
-use Rattle.run_core.specs.{Task.after_part, Feeding.{Step, Stops}}
+use Rattle.run_core.specs.{Task.after_part}
 
 -- Lemmas on what is written after what was written before.
 
@@ -187,57 +187,10 @@ said_at {told} {output} {error} {part} at says =
     let said = says (adds (told_of told part.out) output) error _ at.slots in
     (said.0, said.1, record { standard = lit< tt; slots = said.2 })
 
-module _ (told : Bool) (Change : Slot → Slot → Type 0) where
-  -- what a fault left, with its message after it; standard error is none of the outputs that it can mark
-  told_marked : (IsName : List ℕ → Type 0) (fault : Fault) (place count : ℕ) (output : Slot) {error : Slot}
-      (since : List Slot) {mid : List Slot} (new : List Slot) → IsAt fault 2 place count
-      → Marks IsName fault (output ∷ error ∷ since) mid → OnError Change mid new
-      → (after : Slot) × Change error after × Marks IsName fault (output ∷ after ∷ since) new
-  told_marked IsName (Write zero) place count output {error} since new from marks says =
-      let (within, (why, is)) = marks in
-      let said = says (breaks why output) error since is in (said.0, said.1, (within, (why, said.2)))
-  told_marked IsName (Write (suc zero)) place count output since new from marks says = absurd (elim from [ inl is ↦ omega arith | inr is ↦ omega arith ])
-  told_marked IsName (Write (suc (suc slot))) place count output {error} since new from marks says =
-      let (within, (why, is)) = marks in
-      let said = says output error (with_broken why slot since) is in (said.0, said.1, (within, (why, said.2)))
-  told_marked IsName (Open slot) place count output {error} since new from marks says =
-      let (at, (name, kept, why, due, named, is)) = marks in
-      let said = says output error (since ++ unopened why kept ∷ []) is in (said.0, said.1, (at, (name, kept, why, due, named, said.2)))
-  told_marked IsName fault place count output {error} since new from marks says = says output error since marks
-
-  stop_said : {how : Output} {output error : Slot} {low high : Part} {fault : Fault} {mid new : List Slot}
-      → StoppedBetween how told (output ∷ error ∷ []) low high fault mid → OnError Change mid new
-      → (after : Slot) × Change error after × StoppedBetween how told (output ∷ after ∷ []) low high fault new
-  stop_said {output = output} {high} {fault} {new} stop says =
-      let first = adds (told_of told stop.part.out) output in
-      let files = map (told_slot told) stop.part.files in
-      let marked = told_marked (IsNext stop.part high) fault stop.place _ first files new stop.from (rw stop.outputs.slots at stop.marks) says in (
-        marked.0,
-        marked.1,
-        record {
-          part = stop.part;
-          above = stop.above;
-          below = stop.below;
-          place = stop.place;
-          order = stop.order;
-          lines = stop.lines;
-          from = stop.from;
-          reached = first ∷ marked.0 ∷ files;
-          outputs = record { standard = lit< tt; slots = refl };
-          marks = marked.2;
-        },
-      )
-
 pub beside_error : (output error error_too : Slot) (files : List Slot) (place : ℕ) → (place ≡ 1 → ⊥)
     → slot_at (output ∷ error ∷ files) place ≡ slot_at (output ∷ error_too ∷ files) place
 beside_error output error error_too files (suc zero) differs = absurd (differs refl)
 beside_error output error error_too files place differs = refl
-
--- what stopped a step did so after the message too
-stops_still : {Change : Slot → Slot → Type 0} (step : Step) {mid new : List Slot} (fault : Fault) (place count : ℕ)
-    → IsAt fault 2 place count → HasError mid → OnError Change mid new → Stops step mid fault → Stops step new fault
-stops_still step (Write _) place count from has says stops = grind (arith, common_steps, beside_error)
-stops_still step fault place count from has says stops = stops
 
 -- what is reported after files were removed
 
@@ -267,86 +220,35 @@ streams_left {output} (one ∷ two ∷ now) past swept =
     (now, ap (λ slot. slot ∷ two ∷ now) (swept.before 0 (omega arith)) ∙ ap (λ slot. output ∷ slot ∷ now) (swept.before 1 (omega arith)))
 streams_left {since = since} mid past swept = absurd (cc)
 
--- a fault is of no output that has messages
-abbrev IsBeside : Fault → Type 0
-IsBeside (Write slot) = slot ≡ 1 → ⊥
-IsBeside (Open slot) = slot ≡ 1 → ⊥
-IsBeside fault = Unit {0}
+-- a message after the files were removed changes standard error alone
+pub record SaidSwept (Change : Slot → Slot → Type 0) (clears : Bool) (first : ℕ) (output error : Slot)
+    (since new : List Slot) : Type 0 where
+  pub after : Slot
+  pub says : Change error after
+  pub swept : Swept clears first (output ∷ after ∷ since) new
 
-marked_beside : (IsName : List ℕ → Type 0) (fault : Fault) (place count : ℕ) (output error : Slot) (since : List Slot)
-    (now : List Slot) → IsAt fault 2 place count → Marks IsName fault (output ∷ error ∷ since) now → IsBeside fault
-marked_beside IsName (Write _) place count output error since now from marks = λ is.
-    elim from [ inl first ↦ omega arith | inr file ↦ omega arith ]
-marked_beside IsName (Open _) place count output error since now from marks = λ is. omega arith
-marked_beside IsName fault place count output error since now from marks = tt
+pub said_swept : (Change : Slot → Slot → Type 0) (clears : Bool) {output error : Slot} {since : List Slot}
+    (mid new : List Slot) (first : ℕ) → 2 ≤ first → Swept clears first (output ∷ error ∷ since) mid
+    → OnError Change mid new → SaidSwept Change clears first output error since new
+said_swept Change false {output} {error} {since} mid new first past same says =
+    let said = says output error since same in record { after = said.0; says = said.1; swept = said.2 }
+said_swept Change true {output} {error} mid new first past swept says =
+    let left = streams_left mid past swept in
+    let said = says output error left.0 left.1 in
+    record { after = said.0; says = said.1; swept = rw said.2 (swept_streams past (rw left.1 at swept)) }
 
--- the name and the reason in a fault's message are the same if only another output differs
-same_beside : (fault : Fault) (old new : List Slot) → IsBeside fault
-    → ((place : ℕ) → (place ≡ 1 → ⊥) → slot_at new place ≡ slot_at old place)
-    → (output_named new fault ≡ output_named old fault) × (output_reason new fault ≡ output_reason old fault)
-same_beside (Write slot) old new beside same = (cc (same slot beside), cc (same slot beside))
-same_beside (Open slot) old new beside same = (cc (same slot beside), cc (same slot beside))
-same_beside fault old new beside same = (refl, refl)
+-- a report changes standard error alone
+pub record Reported (Change : Slot → Slot → Type 0) (mid new : List Slot) : Type 0 where
+  pub says : Change (slot_at mid 1) (slot_at new 1)
+  pub others : (place : ℕ) → (place ≡ 1 → ⊥) → slot_at new place ≡ slot_at mid place
 
-module _ (told : Bool) (Change : Slot → Slot → Type 0) where
-  -- a message after the files were removed changes standard error alone
-  pub record SaidSwept (clears : Bool) (first : ℕ) (output error : Slot) (since mid new : List Slot) : Type 0 where
-    pub after : Slot
-    pub says : Change error after
-    pub swept : Swept clears first (output ∷ after ∷ since) new
-    pub others : (place : ℕ) → (place ≡ 1 → ⊥) → slot_at new place ≡ slot_at mid place
+reports : {Change : Slot → Slot → Type 0} {output error : Slot} {since mid new : List Slot}
+    → mid ≡ output ∷ error ∷ since → OnError Change mid new → Reported Change mid new
+reports {output = output} {error} {since} is says =
+    let said = says output error since is in
+    rw (is, said.2) (record { says = said.1; others = beside_error output said.0 error since })
 
-  said_beside : {output error after : Slot} {since mid new : List Slot} → mid ≡ output ∷ error ∷ since
-      → new ≡ output ∷ after ∷ since → (place : ℕ) → (place ≡ 1 → ⊥) → slot_at new place ≡ slot_at mid place
-  said_beside {output} {error} {after} {since} was is place differs = rw (is, beside_error output after error since place differs, was)
-
-  pub said_swept : (clears : Bool) {output error : Slot} {since : List Slot} (mid new : List Slot) (first : ℕ)
-      → 2 ≤ first → Swept clears first (output ∷ error ∷ since) mid → OnError Change mid new
-      → SaidSwept clears first output error since mid new
-  said_swept false {output} {error} {since} mid new first past same says =
-      let said = says output error since same in record { after = said.0; says = said.1; swept = said.2; others = said_beside same said.2 }
-  said_swept true {output} {error} mid new first past swept says =
-      let left = streams_left mid past swept in
-      let said = says output error left.0 left.1 in record {
-        after = said.0;
-        says = said.1;
-        swept = rw said.2 (swept_streams past (rw left.1 at swept));
-        others = said_beside left.1 said.2;
-      }
-
-  -- what a fault left, once its files were removed and it was reported
-  pub record ToldStop (step : Step) (output error : Slot) (low high : Part) (fault : Fault) (clears : Bool) (first : ℕ)
-      (mid new : List Slot) : Type 0 where
-    pub after : Slot
-    pub says : Change error after
-    pub reached : List Slot
-    pub stop : StoppedBetween step.output told (output ∷ after ∷ []) low high fault reached
-    pub why : Stops step reached fault
-    pub swept : Swept clears first reached new
-    pub named : output_named new fault ≡ output_named mid fault
-    pub reason : output_reason new fault ≡ output_reason mid fault
-
-  pub stop_swept : (step : Step) (clears : Bool) {output error : Slot} {low high : Part} {fault : Fault}
-      {reached mid new : List Slot} {first : ℕ} → 2 ≤ first → is_open error.state ≡ true
-      → StoppedBetween step.output told (output ∷ error ∷ []) low high fault reached
-      → Stops step reached fault → Swept clears first reached mid → OnError Change mid new
-      → ToldStop step output error low high fault clears first mid new
-  stop_swept step clears {fault} {reached} {mid} {new} {first} past opened stop why swept says =
-      let has = stop_error opened stop in
-      let said = said_swept clears mid new first past (rw has.are at swept) says in
-      -- standard error got the same text, beside other outputs
-      let too : OnError Change reached (has.output ∷ said.after ∷ has.since) = λ top other rest is.
-      let same : has.output ∷ has.error ∷ has.since ≡ top ∷ other ∷ rest = sym has.are ∙ is in
-      let was : has.error ≡ other = cc in (said.after, subst (λ those. Change those said.after) was said.says, cc) in
-      let told_so = stop_said told Change stop too in
-      let beside : IsBeside fault = marked_beside _ fault stop.place _ _ _ _ _ stop.from (rw stop.outputs.slots at stop.marks) in
-      let (named, reason) = same_beside fault mid new beside said.others in record {
-        after = told_so.0;
-        says = told_so.1;
-        reached = has.output ∷ said.after ∷ has.since;
-        stop = told_so.2;
-        why = stops_still step fault stop.place _ stop.from has too why;
-        swept = said.swept;
-        named = named;
-        reason = reason;
-      }
+pub reported : {Change : Slot → Slot → Type 0} (clears : Bool) {reached : List Slot} (has : HasError reached)
+    (mid new : List Slot) → Swept clears 2 reached mid → OnError Change mid new → Reported Change mid new
+reported false has mid new same says = reports (same ∙ has.are) says
+reported true has mid new swept says = reports (streams_left mid (lit≤ tt) (rw has.are at swept)).1 says

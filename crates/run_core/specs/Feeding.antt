@@ -5,12 +5,12 @@ use Rattle.std.specs.{
 }
 use Rattle.ports_core.specs.{
   Slot.{Slot, slot_at},
-  Source.{Content, Source},
+  Source.{Content, Source, source_at},
   Part.{Part, Output, OutputsAt, StoppedBetween, nothing, writes},
   Swept.Swept,
   Work.{Work, Needs, Judges, IsNeeded},
-  Engine.is_verdict,
-  Inputs.CameFrom,
+  Engine.{Terms, is_verdict},
+  Inputs.{CameFrom, OfContent},
   declared.{fault.Fault.{Fault, TheVariants.{Memory, Write, Open, TooLong}}, verdict.Verdict.Verdict},
 }
 use Rattle.run_core.specs.declared.feeding.Fed.{Fed, TheVariants.{Whole, Enough, Broken}}
@@ -58,18 +58,22 @@ pub data HasAll (work : Work) (content : Content) (x : List ℕ) : Type 0 where
   to_end : content.breaks_off ≡ false → content.bytes ≡ x → HasAll work content x
   enough : (rest : List ℕ) → content.bytes ≡ x ++ rest → work.is_complete x ≡ true → HasAll work content x
 
--- the step of an engine's call that may need this
-abbrev pub call_of : Work → Needs → List ℕ → Part → Part → Step
-call_of work needs read low high = record {
+-- a step between these parts, after which no byte was given back
+abbrev pub step_of : Output → (files : Bool) → Needs → (read : List ℕ) → (low high : Part) → Step
+step_of output files needs read low high = record {
   low = low;
   high = high;
-  output = work.means.output;
-  files = work.means.files;
+  output = output;
+  files = files;
   needs = needs;
   read = read;
   ended = false;
   ahead = 0;
 }
+
+-- the step of an engine's call that may need this
+abbrev pub call_of : Work → Needs → List ℕ → Part → Part → Step
+call_of work needs read low high = step_of work.means.output work.means.files needs read low high
 
 -- the call that closes an engine, at the end of the input or once the output is complete with what came in
 abbrev pub close_of : Work → List ℕ → Step
@@ -89,32 +93,40 @@ pub data IsCall (work : Work) (opening : Needs) (most : ℕ) (content : Content)
   closes : (x : List ℕ) → HasAll work content x → IsNeeded work.is_complete most x
       → IsCall work opening most content (close_of work x)
 
--- How feeding an input by pieces of at most `most` bytes ends, from the state `before` of the outputs on.
-pub data FedAs (told : Bool) (before : List Slot) (work : Work) (opening : Needs) (most : ℕ) (content : Content)
-    (WasRead : Step → Type 0) (new : List Slot) : Result Fed Fault → Type 0 where
+-- A fault stopped one of these steps of a run.
+pub record StoppedStep (told : Bool) (before : List Slot) (first : ℕ) (clears : Bool) (IsStep : Step → Type 0)
+    (fault : Fault) (new : List Slot) : Type 0 where
+  pub step : Step
+  pub is : IsStep step
+  -- the fault left the outputs so: since `before` they got what comes before the step, and a beginning of what it adds
+  pub reached : List Slot
+  pub stops : Stops step reached fault
+  pub between : StoppedBetween step.output told before step.low step.high fault reached
+  -- then the files were removed, from the output of number `first` on, if the work clears them
+  pub swept : Swept clears first reached new
+
+-- How feeding an input ends, from the state `before` of the outputs on; `IsStep` is true of each call of the engine.
+pub data FedAs (told : Bool) (before : List Slot) (work : Work) (content : Content) (IsStep : Step → Type 0)
+    (new : List Slot) : Result Fed Fault → Type 0 where
   -- the input ended before the output was complete; the work ends well
   whole : content.breaks_off ≡ false → work.is_complete content.bytes ≡ false → work.verdict content.bytes ≡ None
-      → OutputsAt told before (work.whole content.bytes) new
-      → FedAs told before work opening most content WasRead new (Ok Whole)
+      → OutputsAt told before (work.whole content.bytes) new → FedAs told before work content IsStep new (Ok Whole)
   -- the output is complete; the work ends well
   had_enough : work.is_complete content.bytes ≡ true → work.verdict content.bytes ≡ None
-      → OutputsAt told before (work.whole content.bytes) new
-      → FedAs told before work opening most content WasRead new (Ok Enough)
+      → OutputsAt told before (work.whole content.bytes) new → FedAs told before work content IsStep new (Ok Enough)
   -- the input broke off before the output was complete; the files go if the work clears them
   broke_off : content.breaks_off ≡ true → work.is_complete content.bytes ≡ false → (reached : List Slot)
       → OutputsAt told before (work.settled content.bytes) reached → Swept work.clears (length before) reached new
-      → FedAs told before work opening most content WasRead new (Ok Broken)
+      → FedAs told before work content IsStep new (Ok Broken)
   -- the work ends with a verdict; the files go if the work clears them
   judged : (verdict : Verdict) → is_enough work content ≡ true → Judges work content.bytes verdict
       → (reached : List Slot) → OutputsAt told before (work.whole content.bytes) reached
       → Swept work.clears (length before) reached new
-      → FedAs told before work opening most content WasRead new (Err (fault_is.Verdict verdict))
-  -- a fault stopped a call; no byte was taken later (`WasRead` says what is left); the files go if the work clears them
-  stopped : (fault : Fault) → is_verdict fault ≡ false → (call : Step) → IsCall work opening most content call
-      → WasRead call → (reached : List Slot) → Stops call reached fault
-      → StoppedBetween call.output told before call.low call.high fault reached
-      → Swept work.clears (length before) reached new
-      → FedAs told before work opening most content WasRead new (Err fault)
+      → FedAs told before work content IsStep new (Err (fault_is.Verdict verdict))
+  -- a fault that is no verdict stopped a call
+  stopped : (fault : Fault) → is_verdict fault ≡ false
+      → StoppedStep told before (length before) work.clears IsStep fault new
+      → FedAs told before work content IsStep new (Err fault)
 
 -- What is left of an input if a fault stopped this step: it didn't break, and if bytes are visible, all is left except
 -- what came in. If the step comes at the end, a read reported the end.
@@ -141,6 +153,31 @@ is_stop (Err fault) = not (is_verdict fault)
 -- nothing was taken from the source
 abbrev pub IsUnread : Source → Type 0
 IsUnread source = (source.taken ≡ []) × (source.reached ≡ 0)
+
+-- an engine was opened: since `before` the outputs have what is settled at first
+abbrev pub BeginsAt : {S : Type 0} → Terms S → (told : Bool) → S → (before old : List Slot) → Type 0
+BeginsAt terms told stage before old = terms.Owns stage (length before) old
+    × OutputsAt told before ((terms.work stage).settled []) old
+
+-- what an engine of this work is fed: the input of this number, by pieces of at most `most` bytes
+pub record Feed : Type 0 where
+  pub work : Work
+  pub opening : Needs
+  pub most : ℕ
+  pub slot : ℕ
+
+abbrev pub feed_of : Work → Needs → ℕ → ℕ → Feed
+feed_of work opening most slot = record { work = work; opening = opening; most = most; slot = slot }
+
+-- how that ended, and what it left of the input
+abbrev pub FedFrom : (told_in told : Bool) → Feed → (old new : List Source) → (before slots : List Slot)
+    → Result Fed Fault → Type 0
+FedFrom told_in told feed old new before slots result = let source = source_at new feed.slot in
+    OfContent told_in (source_at old feed.slot).left (λ content.
+    (FedAs told before feed.work content (λ call. IsCall feed.work feed.opening feed.most content call
+    × LeavesOf told_in content source call
+    × (told_in ≡ true → IsUnread (source_at old feed.slot) → IsReadTo feed.slot source call)) slots result
+    × (is_stop result ≡ false → ToldEnd feed.work content source)) × CameFrom told_in content source)
 
 -- What a tool that is done with an input took of it, and what it left: it took enough, and no more than it needed.
 pub record Uses (work : Work) (most slot : ℕ) (there : Content) (source : Source) : Type 0 where

@@ -3,14 +3,13 @@ ghost use Rattle.std.specs.Prelude.{◌≡◌, ◌^◌, ◌<◌, ◌≤◌, ℕ,
 ghost use Rattle.ports_core.specs.{
   Slot.{Slot, changed_at},
   Source.{ReadFails, source_at, is_readable, gives, Gave, BrokeOff},
-  Part.OutputsAt,
   Work.Needs,
   Guard.HoldsIn,
   Engine.{Clears, is_verdict},
-  Inputs.{empty, CameFrom, KeepsOthers, OfContent},
+  Inputs.{empty, KeepsOthers},
 };
 ghost use Rattle.run_core.specs.{
-  Feeding.{FedAs, IsReadTo, IsUnread, LeavesOf, ReadsFor, ToldEnd, Uses, is_stop},
+  Feeding.{BeginsAt, FedAs, FedFrom, IsCall, IsUnread, ReadsFor, Uses, feed_of, is_stop},
   inner.RunSteps.EndsSo,
 };
 
@@ -49,16 +48,9 @@ pub fn feed_input<S: Stage, I: Inputs, O: Outs>(
     requires output { S.terms.Ready engine.old.stage (O.slots outs.old) }
     requires owns { (first : ℕ) × S.terms.Owns engine.old.stage first (O.slots outs.old) }
     ensures ends { (before : List Slot) (opening : Needs)
-        → S.terms.Owns engine.old.stage (length before) (O.slots outs.old)
-        → OutputsAt O.told before ((S.terms.work engine.old.stage).settled []) (O.slots outs.old)
-        → OfContent I.told (source_at (I.sources inputs.old) slot).left
-        (λ content. (FedAs O.told before (S.terms.work engine.old.stage) opening (length buffer.old) content
-        (λ call. LeavesOf I.told content (source_at (I.sources inputs.new) slot) call
-        × (I.told ≡ true → IsUnread (source_at (I.sources inputs.old) slot)
-        → IsReadTo slot (source_at (I.sources inputs.new) slot) call)) (O.slots outs.new) result
-        × (is_stop result ≡ false
-        → ToldEnd (S.terms.work engine.old.stage) content (source_at (I.sources inputs.new) slot)))
-        × CameFrom I.told content (source_at (I.sources inputs.new) slot)) }
+        → BeginsAt S.terms O.told engine.old.stage before (O.slots outs.old)
+        → FedFrom I.told O.told (feed_of (S.terms.work engine.old.stage) opening (length buffer.old) slot)
+        (I.sources inputs.old) (I.sources inputs.new) before (O.slots outs.new) result }
     ensures reads { I.told ≡ true
         → ReadsFor (S.terms.work engine.old.stage).is_complete (length buffer.old)
         (source_at (I.sources inputs.old) slot).left (source_at (I.sources inputs.new) slot).left }
@@ -152,10 +144,9 @@ pub fn feed_nothing<S: Stage, O: Outs>(engine: &mut Guarded<S>, outs: &mut O) ->
     requires output { S.terms.Ready engine.old.stage (O.slots outs.old) }
     requires owns { (first : ℕ) × S.terms.Owns engine.old.stage first (O.slots outs.old) }
     ensures ends { (before : List Slot) (opening : Needs) (most : ℕ)
-        → S.terms.Owns engine.old.stage (length before) (O.slots outs.old)
-        → OutputsAt O.told before ((S.terms.work engine.old.stage).settled []) (O.slots outs.old)
-        → FedAs O.told before (S.terms.work engine.old.stage) opening most empty (λ call. Unit {0})
-        (O.slots outs.new) result }
+        → BeginsAt S.terms O.told engine.old.stage before (O.slots outs.old)
+        → let work = S.terms.work engine.old.stage in
+        FedAs O.told before work empty (IsCall work opening most empty) (O.slots outs.new) result }
 {
     if engine.done() {
         return end(engine, Fed::Enough, outs);

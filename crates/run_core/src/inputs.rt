@@ -1,25 +1,23 @@
 //! The inputs of a run, one after another.
 ghost use Rattle.std.specs.{
-  Prelude.{◌≡◌, ◌<◌, ◌≤◌, ◌||◌, ℕ, List, Option, Some, true, false, map, length, IfErr, IfSome, OnOk, OnErr, IsTrue},
+  Prelude.{◌≡◌, ◌<◌, ◌≤◌, ℕ, List, Option, true, false, map, length, IfErr, IfSome, OnOk, OnErr, IsTrue},
 };
 ghost use Rattle.ports_core.specs.{
-  Slot.{Slot, is_open, slot_at, is_writable, streams, told_of, with_written},
+  Slot.{is_open, slot_at, is_writable, streams, told_of, with_written},
   Source.{source_at, is_readable, IsFresh},
-  Part.{Part, OutputsAt},
   Inputs.{AsksAtMost, largest_piece},
   Message.SaysOn,
-  Streams.streams_with,
   Text.message_of,
 };
 ghost use Rattle.run_core.specs.{
-  Feeding.{FedAs, IsUnread, is_stop},
+  Feeding.IsUnread,
   Input.{has_dash, is_dash, next_slot},
-  Reading.{IsDone, Leaves, count_after, reason_of},
-  inner.RunSteps.{TakesOne, HasStreams, HeaderFails, KeepsOther, OfName, OfSource, TookAll, TookInput, input_from},
-  inner.RunSteps.standard_source,
+  Reading.{count_after, reason_of},
+  inner.RunSteps.{FedSource, HasStreams, HeaderFails, KeepsOther, TakesOne, TookAll, TookName, TookSource, moment_of},
+  inner.RunSteps.{standard_source, start_at},
   RunEnds.{EndsAs, RunsOver},
-  RunSteps.{IsShown, world_of},
-  Task.{header_text, of_content, of_input},
+  RunSteps.world_of,
+  Task.header_text,
 };
 
 use crate::adapter::Adapter;
@@ -138,14 +136,10 @@ fn take_name<A: Adapter, I: Inputs, O: Outs>(
     requires standard { progress.was_read ≡ false → IsTrue (is_readable (I.sources inputs.old) 0) }
     requires unread { progress.was_read ≡ false → IsUnread (source_at (I.sources inputs.old) 0) }
     requires outputs { HasStreams O.told (O.slots outs.old) }
-    ensures took { (so_far : Part) (error : Slot) → is_open error.state ≡ true
-        → OutputsAt O.told (streams_with error) so_far (O.slots outs.old)
-        → OfName I.told (world_of (I.laid inputs.old) (I.sources inputs.old)) progress.was_read
-        (length (I.sources inputs.old)) name.now
-        (λ input. TookInput I.told O.told (A.task job.now.adapter.now) (length buffer.old) input
-        (of_input (A.task job.now.adapter.now) progress.is_first input) progress.is_first progress.failed
-        (progress.was_read || is_dash name.now) so_far error (length (O.slots outs.old)) (I.sources inputs.new)
-        (O.slots outs.new) result) }
+    ensures took { (had : HasStreams O.told (O.slots outs.old))
+        → TookName I.told (I.laid inputs.old) (A.task job.now.adapter.now) name.now
+        (start_at had progress (length buffer.old) (I.sources inputs.old)) (I.sources inputs.new) (O.slots outs.new)
+        result }
     ensures takes { TakesOne (length buffer.old) progress.was_read name.now (I.sources inputs.old)
         (I.sources inputs.new) }
     ensures opens { OnOk result (length (I.sources inputs.new) ≡ next_slot (length (I.sources inputs.old)) name.now) }
@@ -215,15 +209,10 @@ fn take_input<A: Adapter, I: Inputs, O: Outs>(
     requires input { IfSome source (λ slot. IsTrue (is_readable (I.sources inputs.old) slot)) }
     requires unread { IfSome source (λ slot. IsUnread (source_at (I.sources inputs.old) slot)) }
     requires outputs { HasStreams O.told (O.slots outs.old) }
-    ensures took { (so_far : Part) (error : Slot) → is_open error.state ≡ true
-        → OutputsAt O.told (streams_with error) so_far (O.slots outs.old)
-        → (shown : Option (List ℕ)) × IsShown I.told source (I.sources inputs.old) shown
-        × OfSource I.told source (I.sources inputs.old)
-        (λ content. TookInput I.told O.told (A.task job.now.adapter.now) (length buffer.old)
-        (input_from name.now source shown content)
-        (of_content (A.task job.now.adapter.now) ((A.task job.now.adapter.now).work shown) progress.is_first name.now
-        (Some content)) progress.is_first progress.failed progress.was_read so_far error (length (O.slots outs.old))
-        (I.sources inputs.new) (O.slots outs.new) result) }
+    ensures took { (had : HasStreams O.told (O.slots outs.old))
+        → TookSource I.told (A.task job.now.adapter.now) name.now source
+        (start_at had progress (length buffer.old) (I.sources inputs.old)) (I.sources inputs.new) (O.slots outs.new)
+        result }
     ensures asked { AsksAtMost (length buffer.old) (I.sources inputs.old)
         → AsksAtMost (length buffer.old) (I.sources inputs.new) }
     ensures others { KeepsOther source (I.sources inputs.old) (I.sources inputs.new) }
@@ -329,14 +318,9 @@ fn feed_source<A: Adapter, I: Inputs, O: Outs>(
     requires unread { IfSome source (λ slot. IsUnread (source_at (I.sources inputs.old) slot)) }
     requires streams { 2 ≤ length (O.slots outs.old) }
     requires output { IsTrue (is_writable (O.slots outs.old) 0) }
-    ensures fed { (shown : Option (List ℕ)) × IsShown I.told source (I.sources inputs.old) shown
-        × OfSource I.told source (I.sources inputs.old)
-        (λ content. FedAs O.told (O.slots outs.old) ((A.task job.now.adapter.now).work shown)
-        ((A.task job.now.adapter.now).opening shown) (length buffer.old) content
-        (Leaves I.told content source (I.sources inputs.new)) (O.slots outs.new) result
-        × (is_stop result ≡ false
-        → IsDone I.told ((A.task job.now.adapter.now).work shown) (length buffer.old) source (Some content)
-        (I.sources inputs.new))) }
+    ensures fed { FedSource I.told O.told (A.task job.now.adapter.now) (length buffer.old) source
+        (moment_of (I.sources inputs.old) (O.slots outs.old)) (moment_of (I.sources inputs.new) (O.slots outs.new))
+        result }
     ensures asked { AsksAtMost (length buffer.old) (I.sources inputs.old)
         → AsksAtMost (length buffer.old) (I.sources inputs.new) }
     ensures others { KeepsOther source (I.sources inputs.old) (I.sources inputs.new) }

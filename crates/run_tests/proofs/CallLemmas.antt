@@ -4,29 +4,20 @@ use Rattle.std.proofs.{
   Common.{refl, ◌∙◌, ap, arith, subst, IfOk, IfSome},
   lemmas.{Option.IfSome_then, Result.IfOk-weaker},
 }
-use Rattle.ports_core.specs.Source.{Source, source_of, unshown}
+use Rattle.ports_core.specs.Source.{unshown}
 use Rattle.mem_core.specs.MemInState.{shown_by}
 use Rattle.words_core.specs.{Words.settings_of, declared.settings.Settings.Settings}
 use Rattle.tools_core.specs.{
   Outcome.names_at,
-  Program.ProgramEnds,
-  Promises.{HasInput, IsOfProgram, Run, in_full},
+  Promises.{HasInput, in_full},
   Tasks.names_of,
 }
+use Rattle.tools_core.specs.Run.{Run}
 
 -- what is true of what was left may be replaced by what follows from it
 pub weaker : {A E : Type 0} (result : Result (Option A) E) (P Q : A → Type 0) → ((left : A) → P left → Q left)
     → IfOk result (λ left. IfSome left P) → IfOk result (λ left. IfSome left Q)
 weaker result P Q more = IfOk-weaker result (λ left. IfSome left P) (λ left. IfSome left Q) (λ left holds. IfSome_then left holds more)
-
--- a run is of the program if it began with its standard input alone
-pub of_program : (run : Run) {old : List Source} → old ≡ source_of run.world.standard ∷ []
-    → ProgramEnds run.calling run.fed true true true run.words run.world.laid old run.inputs run.shows run.seen
-    run.watched run.outputs run.status
-    → IsOfProgram run
-of_program run fresh ends =
-    subst (λ old. ProgramEnds run.calling run.fed true true true run.words run.world.laid old run.inputs run.shows run.seen
-    run.watched run.outputs run.status) fresh ends
 
 -- standard input that shows nothing gives its bytes to a run that reads it alone
 pub pipe_given : (run : Run) (asked : Settings) (bytes : List ℕ) → run.world.standard ≡ unshown bytes

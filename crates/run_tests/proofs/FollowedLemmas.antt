@@ -24,8 +24,9 @@ use Rattle.words_core.specs.{
     value.Followed.{Followed, TheVariants.{Descriptor, Name, PresentName, FirstFile}},
   },
 }
-use Rattle.tools_core.specs.Promises.{Run, showing}
+use Rattle.tools_core.specs.Promises.{showing}
 use Rattle.ports_core.specs.declared.tool.Tool.TheVariants as tool
+use Rattle.tools_core.specs.Run.{Run}
 
 abbrev IsPlain : Followed → Type 0
 IsPlain followed = (followed ≡ Descriptor) ⊎ (followed ≡ Name)

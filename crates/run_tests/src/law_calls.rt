@@ -7,7 +7,7 @@ ghost use Rattle.ports_core.specs.{Part.IsBeginning, Slot.{slot_at, streams}, So
 ghost use Rattle.run_tests.specs.inner.Calls.{IsCutShort, in_file, in_pipe, run_of};
 ghost use Rattle.seg_core.specs.declared.cut.Chunks.{Chunks};
 ghost use Rattle.tools_core.specs.{
-  Promises.{AreDealt, BeginsEach, Completes, EndsWithBreak, FindAlike, IsCutAsShown, LeaveAlike, Run, SaysWhy, Splits},
+  Promises.{AreDealt, BeginsEach, Completes, EndsWithBreak, FindAlike, IsCutAsShown, LeaveAlike, SaysWhy, Splits},
   Tasks.names_of,
 };
 ghost use Rattle.words_core.specs.{
@@ -17,6 +17,7 @@ ghost use Rattle.words_core.specs.{
   declared.settings.Settings.{Settings, TheVariants.{Split, Tee}},
 };
 ghost use Rattle.seg_core.specs.declared.cut.Way.TheVariants as way;
+ghost use Rattle.tools_core.specs.Run.{Run};
 
 use crate::law_tests::{left_of, left_over, ran, ran_over};
 use mem_core::{MemIn, MemOut};

@@ -15,19 +15,7 @@ ghost use Rattle.seg_core.specs.{
 ghost use Rattle.ports_core.specs.{Slot.{Slot, slot_at, streams}, Source.IsFresh};
 ghost use Rattle.run_tests.specs.inner.Calls.{in_pipe, run_of};
 ghost use Rattle.tools_core.specs.{
-  Promises.{
-    forgives_gone,
-    AreCopies,
-    Does,
-    CountAlike,
-    IsBare,
-    OnlyGrows,
-    Ran,
-    Run,
-    SkipNothing,
-    counted,
-    to_follow,
-  },
+  Promises.{forgives_gone, AreCopies, Does, CountAlike, IsBare, OnlyGrows, Ran, SkipNothing, counted, to_follow},
   Tasks.is_plus,
 };
 ghost use Rattle.words_core.specs.{
@@ -42,6 +30,7 @@ ghost use Rattle.words_core.specs.{
     settings.Settings.{Settings, TheVariants.{Csplit, Head, Split, Tail, Tee}},
   },
 };
+ghost use Rattle.tools_core.specs.Run.{Run};
 
 use mem_core::{Edit, MemIn, MemOut, MemWatch};
 use ports_core::{Calling, Fault, Outs};

@@ -38,9 +38,9 @@ use Rattle.run_core.specs.{
   Input.Input,
   RunEnds.{EndsAs, RunStep, as_defined, calling as call_step, heading, no_room, stopped, unheaded},
   RunEnds.unopened as unopened_step,
-  Task.{Task, after_part, are_missing, header_text, is_missing, made_by, of_content, of_inputs},
+  Task.{Task, after_part, are_missing, header_text, is_missing, made_by, of_content, of_input, of_inputs},
 }
-use Rattle.run_core.proofs.StopLemmas.{after_assoc, begins_after, nothing_after}
+use Rattle.run_core.proofs.{InputLemmas.told_stop, StopLemmas.{after_assoc, begins_after, nothing_after}}
 use Rattle.seg_core.specs.declared.cut.Way.TheVariants as way
 
 -- an output without a byte begins any output
@@ -144,17 +144,18 @@ call_begins grows (closes x has needed) = grows.closed x has
 begins_more : (first next : Part) → Begins first (after_part first next)
 begins_more first next = rw nothing_after at (begins_after first (nothing_begins_part next))
 
-step_begins : {task : Task} {shown : Option (List ℕ)} (is_first : Bool) (name : List ℕ) {so_far : Part}
-    {there : Option Content} {slot : Option ℕ} {sources : List Source} {step : Step}
-    → ((content : Content) → IsGrowing (task.work shown) content)
-    → RunStep true task shown largest_piece so_far (header_text task.with_header is_first name) slot sources there step
-    → Begins step.high (after_part so_far (of_content task (task.work shown) is_first name there).part)
-step_begins is_first name {so_far} grows (unopened_step content place at past) = begins_more so_far _
-step_begins is_first name {so_far} grows (unheaded content headed leaves) = begins_more so_far _
-step_begins is_first name {so_far} grows (heading content headed leaves) = begins_after so_far (begins_more _ _)
-step_begins {task} is_first name {so_far} grows (call_step content call is leaves) =
-    let header = only_out (header_text task.with_header is_first name) in
-    rw (after_assoc so_far header call.high) (begins_after so_far (begins_after header (call_begins (grows content) is)))
+step_begins : {task : Task} (is_first : Bool) (input : Input) {so_far : Part} {sources : List Source} {step : Step}
+    → ((content : Content) → IsGrowing (task.work input.shown) content)
+    → RunStep true task largest_piece so_far is_first input sources step
+    → Begins step.high (after_part so_far (of_input task is_first input).part)
+step_begins is_first input {so_far} grows (unopened_step place at past) = begins_more so_far _
+step_begins is_first input {so_far} grows (unheaded content there headed leaves) = begins_more so_far _
+step_begins is_first input {so_far} grows (heading content there headed leaves) =
+    rw there (begins_after so_far (begins_more _ _))
+step_begins {task} is_first input {so_far} grows (call_step content call there is leaves) =
+    let header = only_out (header_text task.with_header is_first input.name) in
+    rw (there, after_assoc so_far header call.high)
+    (begins_after so_far (begins_after header (call_begins (grows content) is)))
 
 -- What is made of inputs is what is made of the first inputs, of one input, and of the inputs after it.
 
@@ -175,21 +176,23 @@ pub begins_whole : {task : Task} {inputs : List Input} {sources : List Source}
     → ((shown : Option (List ℕ)) (content : Content) → IsGrowing (task.work shown) content) → (place ≡ 1 → ⊥)
     → EndsAs true true task inputs sources new status
     → BeginsAs (slot_at new place) (slot_at (slots_of (made_by task inputs).part) place)
-begins_whole {new} grows differs (as_defined error reached says outputs swept done status_is) = left_begins _ new
-    (part_begins_itself _) differs outputs swept
-begins_whole {task} {inputs} {new = new} {place = place} grows differs
-    (stopped fault before input after _ _ step reached are _ _ at _ between swept _ _ _) =
-    let clears = (task.work input.shown).clears in
-    let so_far = (made_by task before).part in
-    let here = (of_content task (task.work input.shown) (are_missing before) input.name input.content).part in
-    let rest = (of_inputs task (are_missing before && is_missing input.content) after).part in
-    let begins : Begins step.high (made_by task inputs).part = rw (are, made_after task true before input after, sym (after_assoc so_far here rest))
-    (part_trans step.high (after_part so_far here) _ (step_begins (are_missing before) input.name (grows input.shown) at) (begins_more _ rest)) in
-    let begun = left_begins false between.reached (part_trans between.part step.high _ between.below begins) differs between.outputs refl in
-    kept_begins (swept_kept clears reached new swept place) (elim (marked_at _ fault between.reached reached place between.marks) [
+begins_whole {new} grows differs (as_defined all is) = left_begins _ new (part_begins_itself _) differs all.outputs all.swept
+begins_whole {task} {inputs} {new = new} {place = place} grows differs (stopped fault mid at tells _) =
+    let input = at.input in
+    let so_far = (made_by task at.before).part in
+    let here = (of_input task (are_missing at.before) input).part in
+    let rest = (of_inputs task (are_missing at.before && is_missing input.content) at.after).part in
+    let begins : Begins at.stop.step.high (made_by task inputs).part
+    = rw (at.are, made_after task true at.before input at.after, sym (after_assoc so_far here rest)) (part_trans _ (after_part so_far here) _
+    (step_begins (are_missing at.before) input (grows input.shown) at.stop.is) (begins_more _ rest)) in
+    let between = at.stop.between in
+    let reached = at.stop.reached in
+    let begun = left_begins false between.reached (part_trans between.part _ _ between.below begins) differs between.outputs refl in
+    rw ((told_stop at tells).others place differs)
+    (kept_begins (swept_kept _ reached mid at.stop.swept place) (elim (marked_at _ fault between.reached reached place between.marks) [
       | inl same ↦ rw same begun
       | inr marked ↦ grind (arith, common_steps, mark_begins)
-    ])
+    ]))
 begins_whole {place} grows differs (no_room error says slots untouched count status_is) = rw slots (bare_begins error place differs)
 
 -- Lawful works only grow.

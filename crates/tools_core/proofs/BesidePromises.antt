@@ -28,8 +28,8 @@ use Rattle.run_core.{
   specs.{
     Input.{Input, World, shown_of, input_of, inputs_at, inputs_from, is_dash, standard_input},
     Reading.{AreDone, IsLeft, reason_of},
-    RunEnds.{EndsAs, SaysOf, as_defined},
-    Task.{Task, made_by, of_input, status_of},
+    RunEnds.{AllDone, SaysOf},
+    Task.{Task, made_by, of_input},
   },
 }
 use Rattle.tee_core.{
@@ -49,8 +49,8 @@ use Rattle.words_core.specs.{
 use Rattle.tools_core.{
   specs.{
     About.text_whole,
-    Outcome.{DoesAsked, tee_run},
-    Promises.{Completes, FindAlike, HasLong, IsUnstopped, Ran, Run, Unstopped},
+    Outcome.tee_run,
+    Promises.{Completes, DoesAll, FindAlike, HasLong, Ran},
     Tasks.{csplit_task, head_task, names_of, split_task, tail_task},
   },
   proofs.{SameLemmas.all_alike, LeftLemmas.{gone, met_by, outputs_of, told_again}},
@@ -58,6 +58,7 @@ use Rattle.tools_core.{
 use Rattle.ports_core.proofs.MessageLemmas.{each_state}
 use Rattle.ports_core.specs.Swept as swept_so
 use Rattle.tee_core.specs.Run as tee
+use Rattle.tools_core.specs.Run.{Run}
 
 -- A tool reads a front of an input: as far as it has enough of the input, and no further.
 
@@ -201,16 +202,20 @@ cleans true output error files =
 
 -- A run over any inputs can end well.
 
-record Well (Does : List Source → List Slot → ℕ → Type 0)
-    (Whole : (sources : List Source) (new : List Slot) (status : ℕ) → Does sources new status → Type 0) : Type 0 where
+record Well (run : Run) (asked : Settings) : Type 0 where
   pub sources : List Source
   pub new : List Slot
   pub status : ℕ
-  pub does : Does sources new status
-  pub unstopped : Whole sources new status does
+  pub does : DoesAll (record run { inputs = sources; outputs = new; status = status })
+      (inputs_at run.world (names_of asked)) asked
 
-ends_well : (task : Task) (world : World) (names : List (List ℕ))
-    → Well (EndsAs true true task (inputs_at world names)) (λ sources new status ends. IsUnstopped ends)
+-- what a run leaves that does all of a task
+record DoesTask (task : Task) (found : List Input) : Type 0 where
+  pub sources : List Source
+  pub new : List Slot
+  pub all : AllDone true true task found sources new
+
+ends_well : (task : Task) (world : World) (names : List (List ℕ)) → DoesTask task (inputs_at world names)
 ends_well task world names =
     let made = made_by task (inputs_at world names) in
     let (rest, done) = all_done task.work world names false 1 [] refl in
@@ -219,9 +224,14 @@ ends_well task world names =
     let left = cleans made.sweeps (adds made.part.out standard_output) error made.part.files in record {
       sources = sources;
       new = left.0;
-      status = status_of made;
-      does = as_defined error (outputs_of made.part error) says (at_part made.part error) left.1 done refl;
-      unstopped = tt;
+      all = record {
+        error = error;
+        says = says;
+        reached = outputs_of made.part error;
+        outputs = at_part made.part error;
+        swept = left.1;
+        done = done;
+      };
     }
 
 -- `tee`, whose input comes byte by byte.
@@ -232,12 +242,6 @@ pieces_of bytes = map (λ byte. byte ∷ []) bytes
 pieces_are : (bytes : List ℕ) → concat (pieces_of bytes) ≡ bytes
 pieces_are [] = refl
 pieces_are (byte ∷ bytes) = rw (pieces_are bytes)
-
--- what settings ask for can be done, and no fault stops it
-abbrev DoesWell : Calling → Settings → World → Type 0
-DoesWell calling asked world =
-    Well (DoesAsked calling true true asked (inputs_at world (names_of asked)))
-    (Unstopped calling asked (inputs_at world (names_of asked)))
 
 read_all : (bytes : List ℕ) (breaks_off : Bool) {shown : Option (List ℕ)} (Leaves : List ℕ → Type 0) → Leaves []
     → IsRead (record { bytes = bytes; breaks_off = breaks_off; shown = shown }) Leaves false (concat (pieces_of bytes))
@@ -353,23 +357,27 @@ module _ (calling : Calling) (asked : TeeAsked) where
       (open_well []).1 (files_change (λ file now. OpensAs file.mode file.name now) (λ name. opened name asked.mode)
       (has_open []) (λ name. is_opened) standard_output standard_error asked.names)))
 
-tee_well : (calling : Calling) (asked : TeeAsked) (world : World)
-    → length world.standard.bytes < 2 ^ 63 → DoesWell calling (Tee asked) world
-tee_well calling asked world few = record {
+tee_well : (run : Run) (asked : TeeAsked) → length run.world.standard.bytes < 2 ^ 63 → Well run (Tee asked)
+tee_well run asked few = record {
   sources = source ∷ [];
   new = new lines.0;
   status = tee.status_for asked.on_broken (standings_of (new lines.0)) fault;
-  does = record {
-    content = content;
-    input = refl;
-    ends = ends;
-    came = came_from source refl;
-    whole = λ told well_of told_of. whole_if well_of told_of ends;
-  };
-  unstopped = (well.1, pieces_are content.bytes);
+  does = (
+    record {
+      content = content;
+      input = refl;
+      ends = ends;
+      came = came_from source refl;
+      whole = λ told well_of told_of. whole_if well_of told_of ends;
+    },
+    (well.1, pieces_are content.bytes),
+  );
 } where
+  calling : Calling
+  calling = run.calling
+
   content : Content
-  content = world.standard
+  content = run.world.standard
 
   pieces : List (List ℕ)
   pieces = pieces_of content.bytes
@@ -421,23 +429,23 @@ tee_well calling asked world few = record {
       (λ name. closes (has_open calling asked content.bytes name)) (λ name. is_closed refl)
       (adds content.bytes standard_output) lines.0 asked.names)) refl
 
-does_well : (run : Run) (asked : Settings) → HasOperands asked → (HasLong run asked → ⊥)
-    → DoesWell run.calling asked run.world
-does_well run (Head asked) can short = ends_well (head_task run.calling asked) run.world asked.names
-does_well run (Tail asked) can short = ends_well (tail_task run.calling asked.ends) run.world asked.ends.names
-does_well run (Split asked) can short = ends_well (split_task run.calling asked) run.world (asked.input ∷ [])
+does_well : (run : Run) (asked : Settings) → HasOperands asked → (HasLong run asked → ⊥) → Well run asked
+does_well run (Head asked) can short =
+    let e = ends_well (head_task run.calling asked) run.world asked.names in
+    record { sources = e.sources; new = e.new; status = _; does = (_, refl, e.all, refl) }
+does_well run (Tail asked) can short =
+    let e = ends_well (tail_task run.calling asked.ends) run.world asked.ends.names in
+    record { sources = e.sources; new = e.new; status = _; does = (_, refl, e.all, refl) }
+does_well run (Split asked) can short =
+    let e = ends_well (split_task run.calling asked) run.world (asked.input ∷ []) in
+    record { sources = e.sources; new = e.new; status = _; does = (_, refl, e.all, refl) }
 does_well run (Csplit asked) (operands, asks) short =
     let e = ends_well (csplit_task run.calling asked operands) run.world (asked.input ∷ []) in
-    record {
-      sources = e.sources;
-      new = e.new;
-      status = e.status;
-      does = record { operands = operands; asks = asks; ends = e.does };
-      unstopped = e.unstopped;
-    }
-does_well run (About which topic) can short = record { sources = []; new = _; status = 0; does = text_whole refl refl; unstopped = refl }
+    record { sources = e.sources; new = e.new; status = _; does = (_, (operands, asks, refl), e.all, refl) }
+does_well run (About which topic) can short =
+    record { sources = []; new = _; status = 0; does = (text_whole refl refl, refl) }
 does_well run (Tee asked) can short = elim (cases_lt (length run.world.standard.bytes) (2 ^ 63)) [
-  | inl few ↦ tee_well run.calling asked run.world few
+  | inl few ↦ tee_well run asked few
   | inr many ↦ absurd (short (standard_input run.world.standard, run.world.standard, ([], [], refl), refl, many))
 ]
 
@@ -447,6 +455,5 @@ one_completes run asked ran can short =
     let all = does_well run asked can short in (
       record run { inputs = all.sources; outputs = all.new; status = all.status },
       all_alike asked _,
-      record
-          { read = ran.read; does = all.does; unstopped = all.unstopped },
+      record { read = ran.read; does = all.does },
     )

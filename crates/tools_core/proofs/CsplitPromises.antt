@@ -23,7 +23,7 @@ use Rattle.csplit_core.specs.{
 use Rattle.csplit_core.proofs.WholeLemmas.{ends_after_all, none_lost_at_end, between_rest, rest_is_all}
 use Rattle.tools_core.{
   specs.{
-    Promises.{SkipNothing, skips, Run, Does, HasInput, AreNumbered, contents_of, files_of},
+    Promises.{SkipNothing, skips, Does, HasInput, AreNumbered, contents_of, files_of},
     Promises.{in_turn, last_section, left_out},
     Tasks.csplit_task,
   },
@@ -46,6 +46,7 @@ use Rattle.ports_core.specs.{
 use Rattle.ports_core.proofs.OrderLemmas.{in_order, no_two}
 use Rattle.words_core.specs.{CsplitWords.CsplitAsked, declared.settings.Settings.TheVariants.Csplit}
 use Rattle.split_core.proofs.CutLaws.{bytes_of_shares}
+use Rattle.tools_core.specs.Run.{Run}
 
 -- If no word of `csplit`'s operands skips a section, each operand keeps its section.
 

@@ -18,7 +18,7 @@ use Rattle.follow_core.specs.{
 }
 use Rattle.follow_core.proofs.{AgreeLemmas.grown, RunLemmas.{found_are, text_is_gains}, LookLemmas.{failed_later, failed_sound, looks_give_text}}
 use Rattle.tools_core.{
-  specs.Promises.{AsksToFollow, OnlyGrows, Follows, IsBare, IsOfProgram, Run, showing},
+  specs.Promises.{AsksToFollow, OnlyGrows, Follows, IsBare, IsOfProgram, showing},
   specs.Following.{is_name, pause_by, start_of},
   specs.Program.{ProgramEndsAt, looks_at},
   specs.Tasks.{is_plus},
@@ -35,6 +35,7 @@ use Rattle.words_core.specs.{
   declared.{value.Followed.Followed},
   Words.{follows, looks, settings_of},
 }
+use Rattle.tools_core.specs.Run.{Run, all_visible}
 
 -- The text of a name whose file only grows: its start part at the first look, and then all that came.
 
@@ -247,6 +248,5 @@ asks_looks run {options = options} read = rw (read.1, read.2, or-true (nat_lt 1 
 
 pub ends_at : (run : Run) {looks : Option ℕ} → IsOfProgram run
     → looks_at run.calling run.fed (settings_of run.calling run.words) ≡ looks
-    → ProgramEndsAt run.calling run.fed true true true run.words run.world.laid
-    (source_of run.world.standard ∷ []) run.inputs run.shows run.seen run.watched run.outputs run.status looks
+    → ProgramEndsAt all_visible run looks
 ends_at run ends is = rw (← is) ends

@@ -39,7 +39,7 @@ use Rattle.tools_core.{
   proofs.SameLemmas.{KnowsNoMore, all_made_alike, head_knows, shows_none, split_knows, tail_knows},
   specs.Promises.{AllAlike, AreAlike, GivesBytes, are_same, give_same, SaysLines, Completes, FindAlike, IsCopied},
   specs.Promises.{Gives, at_first, in_full},
-  specs.Promises.{IsMet, Tells, IsFound, IsGone, IsTask, IsUnstopped, LeaveAlike, Ran, Run, TellsMet, Unstopped},
+  specs.Promises.{IsMet, Tells, IsFound, DoesAll, IsGone, LeaveAlike, Ran, TellsMet},
   specs.Promises.{message_by},
   specs.Promises.{broken_off, failing, judged, missing, removes_files},
   specs.About.{TellsText, no_text, text_cut, text_whole},
@@ -51,7 +51,7 @@ use Rattle.csplit_core.specs.{Output.{file_in, shares_in, state_in}, Section.{Se
 use Rattle.run_core.specs.{
   Feeding.{IsCall, Step, closes as ends_call, feeds, is_enough, opens},
   Input.{Input, inputs_at, standard_input},
-  RunEnds.{RunStep, calling as call_step, heading, unheaded, unopened, EndsAs, as_defined},
+  RunEnds.{AllDone, RunStep, calling as call_step, heading, unheaded, unopened},
   Task.{Outcome, Task, is_missing, joined, of_content, of_input, of_inputs, made_by, status_of},
 }
 use Rattle.run_core.proofs.{InputLemmas.{said_of}, StopLemmas.{beside_error, swept_error}}
@@ -75,6 +75,7 @@ use Rattle.seg_core.specs.declared.cut.Way.TheVariants as way
 use Rattle.ports_core.specs.Swept as swept_so
 use Rattle.ports_core.specs.declared.slot.State.TheVariants as state
 use Rattle.tee_core.specs.Run as tee
+use Rattle.tools_core.specs.{Outcome.IsTask, Run.{Run, all_visible}}
 
 -- One line among others.
 
@@ -334,14 +335,13 @@ call_live living opens = living.settled []
 call_live living (feeds x piece rest is few going) = search rules
 call_live living (ends_call x has needed) = living.whole x
 
-pub step_live : {told : Bool} {task : Task} {shown : Option (List ℕ)} {before : Part} {header : List ℕ}
-    {slot : Option ℕ} {sources : List Source} {content : Option Content} {step : Step} → IsLiving (task.work shown)
-    → AreLive before.files
-    → RunStep told task shown largest_piece before header slot sources content step → AreLive step.high.files
-step_live living live (unopened content place at past) = live
-step_live living live (unheaded content headed leaves) = live
-step_live {before} living live (heading content headed leaves) = search rules
-step_live {before} living live (call_step content call is leaves) =
+pub step_live : {told : Bool} {task : Task} {before : Part} {is_first : Bool} {input : Input} {sources : List Source}
+    {step : Step} → IsLiving (task.work input.shown) → AreLive before.files
+    → RunStep told task largest_piece before is_first input sources step → AreLive step.high.files
+step_live living live (unopened place at past) = live
+step_live living live (unheaded content there headed leaves) = live
+step_live {before} living live (heading content there headed leaves) = search rules
+step_live {before} living live (call_step content call there is leaves) =
     grind (arith, common_steps, live_both, live, no_live, call_live)
 
 -- The outputs of a part, with any standard error.
@@ -554,6 +554,14 @@ makes_task (About which topic) task inputs of makes = absurd of
 makes_task asked task inputs of (other, of_too, is) =
     is ∙ ap (λ those. made_by those inputs) (one_task Cutters asked other task of_too of)
 
+-- each of its tasks makes what is asked for
+makes_any : (calling : Calling) (asked : Settings) (task : Task) (inputs : List Input) → IsTask calling asked task
+    → Makes asked inputs (made_by task inputs)
+makes_any calling (Csplit asked) task inputs (operands, asks, is) = rw is (_, (operands, asks, refl), refl)
+makes_any calling (Tee asked) task inputs is = absurd is
+makes_any calling (About which topic) task inputs is = absurd is
+makes_any calling asked task inputs is = rw is (_, refl, refl)
+
 pub same_content : {content other : Content} {inputs : List Input} → inputs ≡ standard_input content ∷ []
     → inputs ≡ standard_input other ∷ [] → content ≡ other
 same_content {content} {other} one two = grind (arith, common_steps)
@@ -575,36 +583,27 @@ task_lives calling (Csplit asked) task (operands, asks, is) = rw is (λ shown. (
 task_lives calling asked task is = absurd is
 
 ends_left : {run : Run} {asked : Settings} {task : Task} → IsTask run.calling asked task
-    → Makes asked (inputs_at run.world (names_of asked)) (made_by task (inputs_at run.world (names_of asked)))
-    → (ends : EndsAs true true task
-    (inputs_at run.world (names_of asked)) run.inputs run.outputs run.status) → IsUnstopped ends → LeftBy run asked
-ends_left {run} {asked} {task} of makes (as_defined error reached says outputs swept done is) unstopped =
+    → AllDone true true task (inputs_at run.world (names_of asked)) run.inputs run.outputs
+    → run.status ≡ status_of (made_by task (inputs_at run.world (names_of asked))) → LeftBy run asked
+ends_left {run} {asked} {task} of all is =
     let found = inputs_at run.world (names_of asked) in record {
       made = made_by task found;
-      of = makes;
+      of = makes_any run.calling asked task found of;
       fits = inputs_fit task true found (all_tell run asked task [] found [] of (sym (append-nil found))) (task_lives run.calling asked task of);
       left = record {
-        error = error;
-        says = let said = said_of true task true run.inputs found standard_error error says in grind (arith, common_steps, speaker_is);
-        swept = rw (slots_at outputs) at swept;
+        error = all.error;
+        says = let said = said_of true task true run.inputs found standard_error all.error all.says in grind (arith, common_steps, speaker_is);
+        swept = rw (slots_at all.outputs) at all.swept;
         is = is;
       };
     }
-ends_left of makes ends unstopped = absurd unstopped
 
 -- the run did what is asked for, over the inputs that it found
 abbrev pub Did : Run → Settings → Type 0
-Did run asked =
-    DoesAsked run.calling true true asked (inputs_at run.world (names_of asked)) run.inputs run.outputs run.status
+Did run asked = DoesAsked all_visible run (inputs_at run.world (names_of asked)) asked
 
-abbrev pub DidUnstopped : (run : Run) (asked : Settings) → Did run asked → Type 0
-DidUnstopped run asked does =
-    Unstopped run.calling asked (inputs_at run.world (names_of asked)) run.inputs run.outputs run.status does
-
-does_left : (run : Run) (asked : Settings) (does : Did run asked) → DidUnstopped run asked does → LeftBy run asked
-does_left run (Csplit asked) does unstopped = ends_left {asked = Csplit asked} (does.operands, does.asks, refl)
-    (_, (does.operands, does.asks, refl), refl) does.ends unstopped
-does_left run (Tee asked) does unstopped = record {
+does_left : (run : Run) (asked : Settings) → DoesAll run (inputs_at run.world (names_of asked)) asked → LeftBy run asked
+does_left run (Tee asked) did = let does = did.0 in record {
   made = tee_made asked does.content;
   of = (does.content, does.input, refl);
   fits = tee_fits asked does.content.bytes does.content.breaks_off does.content.shown
@@ -615,13 +614,18 @@ does_left run (Tee asked) does unstopped = record {
             (broken_off (standard_input does.content) does.content ([], [], does.input) refl breaks (λ task of. absurd of)),
         refl,
       ));
-  left = tee_left does.ends unstopped;
+  left = tee_left does.ends did.1;
 }
-does_left run (About which topic) does unstopped = grind (arith, common_steps, fits_well, no_live, text_left)
-does_left run asked does unstopped = ends_left {asked = asked} refl (_, refl, refl) does unstopped
+does_left run (About which topic) did = record {
+  made = text_made (text_about which topic);
+  of = refl;
+  fits = fits_well _ false refl no_live;
+  left = text_left did.0 did.1;
+}
+does_left run asked did = ends_left {asked = asked} did.1 did.2 did.3
 
 pub completes_left : {run : Run} {asked : Settings} → Completes run asked → LeftBy run asked
-completes_left {run} {asked} whole = does_left run asked whole.does whole.unstopped
+completes_left {run} {asked} whole = does_left run asked whole.does
 
 -- What the words of a run ask for was done, over what the run found, or its operands were refused.
 
@@ -630,7 +634,7 @@ not_refused (inl did) = inl did
 not_refused (inr (same, refuses)) = inr refuses
 
 pub ran_over : {run : Run} {asked : Settings} → Ran run asked
-    → Did run asked ⊎ RefusesOperands run.calling true run.words asked run.outputs run.status
+    → Did run asked ⊎ RefusesOperands all_visible run asked
 ran_over ran = grind (arith, common_steps, not_refused)
 
 -- Two runs that were asked for the same, over inputs that are alike.

@@ -24,8 +24,8 @@ use Rattle.words_core.specs.{
 }
 use Rattle.tools_core.specs.{
   Tasks.{filing_of, head_task, tail_task, names_of, is_minus, is_plus},
-  Promises.{Gives, GivesBytes, counted, Completes, Does, FindAlike, HasInput, Ran, Run, IsHead, IsTail, IsBare, CountAlike},
-  Promises.{IsTask, output_of, AreCopies, IsSound, files_of, BeginsAs, BeginsEach},
+  Promises.{Gives, GivesBytes, counted, Completes, Does, FindAlike, HasInput, Ran, IsHead, IsTail, IsBare, CountAlike},
+  Promises.{output_of, AreCopies, IsSound, files_of, BeginsAs, BeginsEach},
 }
 use Rattle.tools_core.proofs.{
   BeginLemmas.{all_have_names, ending, is_way, part_of, bare_begins, begins_kept, begins_whole, lawful_grows},
@@ -40,6 +40,7 @@ use Rattle.tools_core.proofs.{
 use Rattle.seg_core.specs.declared.{count.Sign.{Sign}, unit.Unit.{Unit as Counted, TheVariants.{Lines, Bytes}}}
 use Rattle.ends_core.specs.{Head.head_work, Tail.tail_work, Ends.{head_of, tail_of}}
 use Rattle.csplit_core.specs.laws.InputLaws as csplit_law
+use Rattle.tools_core.specs.{Outcome.IsTask, Run.Run}
 
 completes : {run : Run} {asked : Settings} → Does run asked → Completes run asked
 completes {run} {asked} does = elim (completes_or run asked does.ran) [
@@ -196,17 +197,19 @@ is_copied {asked} {input} does has =
 begins_made : (run : Run) (asked : Settings) → CanRun asked → Did run asked
     → (made : Outcome) × Makes asked (inputs_at run.world (names_of asked)) made
     × ((place : ℕ) → (place ≡ 1 → ⊥) → BeginsAs (slot_at run.outputs place) (slot_at (slots_of made.part) place))
-begins_made run (Head asked) can does =
-    (_, (_, refl, refl), λ place differs. begins_whole (λ shown. lawful_grows (head_in_lawful _ _ _ _ shown)) differs does)
-begins_made run (Tail asked) can does =
-    (_, (_, refl, refl), λ place differs. begins_whole (λ shown. lawful_grows (tail_in_lawful _ _ _ _ shown)) differs does)
-begins_made run (Split asked) can does =
+begins_made run (Head asked) can (task, is, ends) = let ends_so = rw is at ends in
+    (_, (_, refl, refl), λ place differs. begins_whole (λ shown. lawful_grows (head_in_lawful _ _ _ _ shown)) differs ends_so)
+begins_made run (Tail asked) can (task, is, ends) = let ends_so = rw is at ends in
+    (_, (_, refl, refl), λ place differs. begins_whole (λ shown. lawful_grows (tail_in_lawful _ _ _ _ shown)) differs ends_so)
+begins_made run (Split asked) can (task, is, ends) =
+    let ends_so = rw is at ends in
     let grows = λ (shown : Option (List ℕ)). way_grows asked.way asked.elide (filing_of asked) (option_map length shown)
     (is_way asked can) (all_have_names asked can.named) in
-    (_, (_, refl, refl), λ place differs. begins_whole grows differs does)
-begins_made run (Csplit asked) can does =
-    let law = csplit_law.lawful asked.style does.operands in
-    (_, (_, (does.operands, does.asks, refl), refl), λ place differs. begins_whole (λ shown. lawful_grows law) differs does.ends)
+    (_, (_, refl, refl), λ place differs. begins_whole grows differs ends_so)
+begins_made run (Csplit asked) can (task, (operands, asks, is), ends) =
+    let ends_so = rw is at ends in
+    let law = csplit_law.lawful asked.style operands in
+    (_, (_, (operands, asks, refl), refl), λ place differs. begins_whole (λ shown. lawful_grows law) differs ends_so)
 begins_made run (Tee asked) can does =
     (_, (does.content, does.input, refl), λ place differs. tee_begins run place differs does.ends)
 begins_made run (About which topic) can does = (_, refl, λ place differs. text_begins place differs does)

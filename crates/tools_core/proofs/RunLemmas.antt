@@ -13,7 +13,7 @@ use Rattle.ports_core.specs.{
   declared.tool.Tool.Tool,
   declared.calling.Calling.{Calling, TheVariants.{Cutters, OwnName}},
   Slot.{Slot, adds, breaks, changed_at, slot_at, streams, told_of},
-  Source.{Content, Source, source_at, IsFresh},
+  Source.{Content, Source, source_at, source_of},
   Text.{Message, message_of, refusal_of, status_after},
   Message.{Says, SaysAll, SaysFor, SaysOn, TellsOn, output_named, output_reason},
   Inputs.{CameFrom, OfContent, empty},
@@ -42,25 +42,26 @@ use Rattle.words_core.proofs.{CallingLemmas.row_named-tool, LimitLemmas.read-can
 use Rattle.follow_core.{
   proofs.LookedLemmas.{ends_by, most_made},
   specs.{
-    Ending.{Remains, no_room as no_room_yet, remains, shows_by},
+    Ending.{no_room as no_room_yet, shows_by},
     declared.run.Method.{Method, TheVariants.{Descriptor, Name, PresentName, FirstFile}},
   },
 }
 use Rattle.tools_core.specs.{
-  Outcome.{refusal, refuser, speaker, RefusesFor, RunEndsAt, names_at},
-  Tasks.{by, speaker_of, tool_of},
+  Outcome.{DoesAsked, Refuses, RefusesFor, RunEnds, RunEndsAt, refusal, refuser, speaker},
+  Run.{IsUnread, Run, Visible},
+  Tasks.{by, names_of, speaker_of, tool_of},
   About.{TellsText, no_text, text_cut},
-  Following.{Caller, FollowingEnds, FollowingEndsAt, FollowsTail, called, method_of, pause_by},
+  Following.{FollowingEnds, FollowingEndsAt, FollowsTail, IsUnseen, method_of, pause_by},
   Program.{ProgramEnds, ProgramEndsAt, looks_at},
 }
 use Rattle.run_core.{
-  specs.{Input.{Finds, standard_input}, RunEnds.{no_room, RunsOver}, RunSteps.world_of},
+  specs.{Input.{Finds, Input, World, standard_input}, RunEnds.{no_room, RunsOver}, Task.Task},
   proofs.InputLemmas.none_touched,
 }
 use Rattle.seg_core.specs.declared.{count.Count.Count, unit.Unit.Unit as Counted}
 use Rattle.tee_core.specs.Run.{AreSound, IsAsFound, all_copied, forgives, EndsAs as TeeCopies}
 use Rattle.operand_core.specs.Reading.{no_memory}
-use Rattle.watch_core.specs.{Snapshot.{Snapshot, waiting}, Watched.Watched}
+use Rattle.watch_core.specs.Snapshot.{Snapshot, waiting}
 use Rattle.ports_core.specs.declared.tool.Tool.TheVariants as tool
 use Rattle.tee_core.specs.Run as copies
 use Rattle.operand_core.specs.declared.operand_fault.OperandFaultKind.TheVariants as kind
@@ -133,35 +134,38 @@ pub ends_names : {asked : EndsAsked} {unit : Counted} {count : Count} {headers :
     → map (λ (name : Bor (List ℕ)). name.now) now ≡ asked.names
 ends_names same is = cc (same, is)
 
+-- a run of this task over these inputs
+pub as_task : {told : Bool} {world : World} {names : List (List ℕ)} {IsAsked : Task → Type 0}
+    {Ends : Task → List Input → Type 0} (task : Task) → IsAsked task → RunsOver told world names (Ends task)
+    → RunsOver told world names (λ found. (task : Task) × IsAsked task × Ends task found)
+as_task task is (found, finds, ends) = (found, finds, (task, is, ends))
+
 -- `tee` over standard input.
 
 -- the name that `tee` reads leads to standard input
-pub finds_standard : {told : Bool} {laid : ℕ → List ℕ → Option Content} (sources : List Source) {content : Content}
-    → (told ≡ true → content ≡ (source_at sources 0).left)
-    → Finds told (world_of laid sources) (codes "-" ∷ []) (standard_input content ∷ [])
-finds_standard {laid} sources {content} there = record {
-  are = ((record { laid = laid; standard = content }, _, refl), refl);
+pub finds_standard : {told : Bool} {world : World} {content : Content} → (told ≡ true → content ≡ world.standard)
+    → Finds told world (codes "-" ∷ []) (standard_input content ∷ [])
+finds_standard {world = world} {content} there = record {
+  are = ((record { laid = world.laid; standard = content }, _, refl), refl);
   there = λ t. rw (there t);
 }
 
 -- Words that weren't read, since there was no memory, by what they ask for.
 
 -- an input that wasn't read, whether its bytes are visible or not
-unread_source : (told : Bool) {sources : List Source} → IsFresh sources
-    → OfContent told (source_at sources 0).left (λ content. IsAsFound told content (source_at sources 0)
+unread_source : (told : Bool) (world : World) {sources : List Source} → sources ≡ source_of world.standard ∷ []
+    → OfContent told world.standard (λ content. IsAsFound told content (source_at sources 0)
     × CameFrom told content (source_at sources 0))
-unread_source true {sources} fresh =
-    let unread = ap (λ those. source_at those 0) fresh.only in (
-      (source_at sources 0).left,
-      λ t. refl,
-      ((fresh.standard, unread, λ t. rw unread), record { was_open = rw unread; breaks = λ off. absurd (cc) }),
-    )
-unread_source false fresh =
-    let unread = ap (λ those. source_at those 0) fresh.only in (
-      empty,
-      λ t. absurd (cc),
-      ((fresh.standard, unread, λ t. absurd (cc)), record { was_open = rw unread; breaks = λ off. rw unread }),
-    )
+unread_source true world fresh = rw fresh (
+  world.standard,
+  λ t. refl,
+  ((world.standard, refl, λ t. refl), record { was_open = refl; breaks = λ off. absurd (cc) }),
+)
+unread_source false world fresh = rw fresh (
+  empty,
+  λ t. absurd (cc),
+  ((world.standard, refl, λ t. absurd (cc)), record { was_open = refl; breaks = λ off. refl }),
+)
 
 -- want of memory is one of the faults of operands
 lacks_memory : (asked : CsplitAsked) → HasBadOperand asked Memory
@@ -213,33 +217,26 @@ says_as : {told : Bool} (calling : Calling) (words : List (List ℕ)) {settings 
 says_as calling words is refuses =
     (refuses.error, worded_by calling (by_words calling words is).0 refuses.says, refl)
 
-module _ (calling : Calling) (told_in told : Bool) (words : List (List ℕ))
-    (laid : ℕ → List ℕ → Option Content) (sources : List Source) (new : List Slot) (status : ℕ)
-    (fresh : IsFresh sources) where
-  -- how a run ends that touches no input, if its words mean this
-  abbrev pub EndsUnread : Result Settings Fault → Type 0
-  EndsUnread meant = RunsOver told_in (world_of laid sources) (names_at meant)
-      (λ found. RunEndsAt calling told_in told words found sources sources new status meant)
-
+module _ (told : Visible) (run : Run) (fresh : IsUnread run) where
   -- the words ask for something whose operands can't be read
-  operands_refused : (settings : Settings) (fault : Fault) → HasBadOperands settings fault
-      → RefusesFor calling told words fault new status → EndsUnread (Ok settings)
+  operands_refused : (settings : Settings) (fault : Fault) → HasBadOperands settings fault → Refuses told run fault
+      → RunEndsAt told run (Ok settings)
   operands_refused settings fault bad refuses = let (found, finds, untouched) = none_touched fresh in
-      (found, finds, inr (refl, (fault, bad, refuses)))
+      (found, finds, inr (fresh, (fault, bad, refuses)))
 
-  unread_for : (meant : Result Settings Fault) → settings_of calling words ≡ meant
-      → RefusesFor calling told words Memory new status → EndsUnread meant
-  unread_for (Err fault) is refuses = ([], record { are = refl; there = λ t. refl }, (refl, refused_memory words fault refuses))
+  unread_for : (meant : Result Settings Fault) → settings_of run.calling run.words ≡ meant → Refuses told run Memory
+      → RunEndsAt told run meant
+  unread_for (Err fault) is refuses = (fresh, refused_memory run.words fault refuses)
   unread_for (Ok (Csplit asked)) is refuses = operands_refused (Csplit asked) Memory (lacks_memory asked) refuses
   unread_for (Ok (Tee asked)) is refuses =
-      let (content, there, (unread, came)) = unread_source told_in fresh in (
+      let (content, there, (unread, came)) = unread_source told.inputs run.world fresh in (
         standard_input content ∷ [],
-        finds_standard sources there,
+        finds_standard there,
         inl (record {
           content = content;
           input = refl;
           ends = copies.no_room refuses.error
-              (says_as calling words is refuses) unread refuses.slots refuses.failed;
+              (says_as run.calling run.words is refuses) unread refuses.slots refuses.failed;
           came = came;
           whole =
               λ t well told_of. absurd (omega (arith, well, refuses.failed));
@@ -249,18 +246,31 @@ module _ (calling : Calling) (told_in told : Bool) (words : List (List ℕ))
     [],
     record { are = refl; there = λ t. refl },
     inl
-        (no_text refuses.error (worded_by calling (by_words calling words is).0 refuses.says) refuses.slots
+        (no_text refuses.error (worded_by run.calling (by_words run.calling run.words is).0 refuses.says) refuses.slots
         refuses.failed),
   )
   unread_for (Ok settings) is refuses =
-      let (found, finds, untouched) = none_touched fresh in
-      (found, finds, inl (no_room refuses.error (says_as calling words is refuses) refuses.slots untouched (ap length fresh.only) refuses.failed))
+      let (found, finds, untouched) = none_touched fresh in (
+        found,
+        finds,
+        inl (
+          _,
+          refl,
+          no_room refuses.error (says_as run.calling run.words is refuses) refuses.slots untouched (ap length fresh) refuses.failed,
+        ),
+      )
 
-  pub refused_or_memory : {fault : Fault} → IsRefused HasBadOperands (settings_of calling words) fault
-      → RefusesFor calling told words fault new status → EndsUnread (settings_of calling words)
-  refused_or_memory (inr (inl is)) refuses = rw is ([], record { are = refl; there = λ t. refl }, (refl, refuses))
+  pub refused_or_memory : {fault : Fault} → IsRefused HasBadOperands (settings_of run.calling run.words) fault
+      → Refuses told run fault → RunEnds told run
+  refused_or_memory (inr (inl is)) refuses = rw is (fresh, refuses)
   refused_or_memory {fault} (inr (inr (settings, is, bad))) refuses = rw is (operands_refused settings fault bad refuses)
-  refused_or_memory (inl is) refuses = unread_for (settings_of calling words) refl (rw is at refuses)
+  refused_or_memory (inl is) refuses = unread_for (settings_of run.calling run.words) refl (rw is at refuses)
+
+-- a run did what its words ask for
+pub ends_as_asked : (told : Visible) (run : Run) (settings : Settings) → settings_of run.calling run.words ≡ Ok settings
+    → RunsOver told.inputs run.world (names_of settings) (λ found. DoesAsked told run found settings)
+    → RunEnds told run
+ends_as_asked told run settings read (found, finds, does) = rw read (found, finds, inl does)
 
 -- How a run that follows ends, by its words.
 
@@ -277,45 +287,41 @@ shows_by-waiting Cutters Name milliseconds shows = refl
 shows_by-waiting Cutters PresentName milliseconds shows = refl
 shows_by-waiting Cutters FirstFile milliseconds shows = refl
 
-module _ (caller : Caller) (fed : Bool) (words : List (List ℕ)) (looks : ℕ) (shows : ℕ → Snapshot) (left : Remains)
-    (status : ℕ) (unseen : left.seen ≡ []) (unwatched : left.watched ≡ []) where
+module _ (told : Visible) (run : Run) (looks : ℕ) (unseen : IsUnseen run) where
   -- Words that weren't read, since there was no memory.
 
-  unread_tail : (asked : TailSettings) (followed : Option Followed) → speaker words ≡ tool.Tail
-      → RefusesFor caller.calling caller.told words Memory left.slots status
-      → FollowsTail caller words asked followed looks shows left status
-  unread_tail asked None speaks refuses = (unseen, unwatched, refused_memory words (Usage BadFollow 0) refuses)
+  unread_tail : (asked : TailSettings) (followed : Option Followed) → speaker run.words ≡ tool.Tail
+      → Refuses told run Memory → FollowsTail told run looks asked followed
+  unread_tail asked None speaks refuses = (unseen, refused_memory run.words (Usage BadFollow 0) refuses)
   unread_tail asked (Some followed) speaks refuses =
-      let (most, are, above) = most_made caller.told_in asked.process
-      (λ n. waiting (max (pause_by caller.calling asked.pause) 1) (shows_by caller.calling (method_of followed) shows n)) looks 0 (omega arith) (λ t. omega arith) in
-      let (why, says) = worded_by caller.calling speaks refuses.says in
-      ends_by asked.process most are (no_room_yet why unseen unwatched
+      let (most, are, above) = most_made told.watch asked.process
+      (λ n. waiting (max (pause_by run.calling asked.pause) 1) (shows_by run.calling (method_of followed) run.shows n)) looks 0 (omega arith) (λ t. omega arith) in
+      let (why, says) = worded_by run.calling speaks refuses.says in
+      ends_by asked.process most are (no_room_yet why unseen.0 unseen.1
       (λ output error since are. let is_error : standard_error ≡ error = ap (λ (slots : List Slot). slot_at slots 1) are in (
         refuses.error,
-        subst (λ first. SaysFor caller.told (by caller.calling tool.Tail) why (message_of Memory []) first refuses.error) is_error says,
+        subst (λ first. SaysFor told.outputs (by run.calling tool.Tail) why (message_of Memory []) first refuses.error) is_error says,
         refuses.slots ∙ ap (changed_at 1 (λ _. refuses.error)) are,
       )) refuses.failed)
 
-  unread_files : (meant : Result Settings Fault) → settings_of caller.calling words ≡ meant
-      → RefusesFor caller.calling caller.told words Memory left.slots status
-      → FollowingEndsAt caller fed words looks shows left status meant
-  unread_files (Ok (Tail asked)) is refuses = unread_tail asked (followed_by caller.calling fed asked) (by_words caller.calling words is).0 refuses
-  unread_files (Ok (Csplit asked)) is refuses = inr (unseen, unwatched, (Memory, lacks_memory asked, refuses))
-  unread_files (Ok asked) is refuses = inl (tt, (unseen, unwatched, refused_memory words (Usage BadFollow 0) refuses))
-  unread_files (Err fault) is refuses = (unseen, unwatched, refused_memory words fault refuses)
+  unread_files : (meant : Result Settings Fault) → settings_of run.calling run.words ≡ meant → Refuses told run Memory
+      → FollowingEndsAt told run looks meant
+  unread_files (Ok (Tail asked)) is refuses =
+      unread_tail asked (followed_by run.calling run.fed asked) (by_words run.calling run.words is).0 refuses
+  unread_files (Ok (Csplit asked)) is refuses = (unseen, inr (Memory, lacks_memory asked, refuses))
+  unread_files (Ok asked) is refuses = (unseen, inl (tt, refused_memory run.words (Usage BadFollow 0) refuses))
+  unread_files (Err fault) is refuses = (unseen, refused_memory run.words fault refuses)
 
-  operands_unread : (settings : Settings) (fault : Fault) → HasBadOperands settings fault
-      → RefusesFor caller.calling caller.told words fault left.slots status
-      → FollowingEndsAt caller fed words looks shows left status (Ok settings)
-  operands_unread (Csplit asked) fault bad refuses = inr (unseen, unwatched, (fault, bad, refuses))
+  operands_unread : (settings : Settings) (fault : Fault) → HasBadOperands settings fault → Refuses told run fault
+      → FollowingEndsAt told run looks (Ok settings)
+  operands_unread (Csplit asked) fault bad refuses = (unseen, inr (fault, bad, refuses))
   operands_unread asked fault bad refuses = absurd bad
 
-  pub refused_words : {fault : Fault} → IsRefused HasBadOperands (settings_of caller.calling words) fault
-      → RefusesFor caller.calling caller.told words fault left.slots status
-      → FollowingEnds caller fed words looks shows left status
-  refused_words (inr (inl is)) refuses = rw is (unseen, unwatched, refuses)
+  pub refused_words : {fault : Fault} → IsRefused HasBadOperands (settings_of run.calling run.words) fault
+      → Refuses told run fault → FollowingEnds told run looks
+  refused_words (inr (inl is)) refuses = rw is (unseen, refuses)
   refused_words {fault} (inr (inr (settings, is, bad))) refuses = rw is (operands_unread settings fault bad refuses)
-  refused_words (inl is) refuses = unread_files (settings_of caller.calling words) refl (rw is at refuses)
+  refused_words (inl is) refuses = unread_files (settings_of run.calling run.words) refl (rw is at refuses)
 
 -- Which of the two kinds of runs the words ask for.
 
@@ -347,49 +353,49 @@ pub looks_as : (calling : Calling) (fed : Bool) {is_fed test : Bool} (words : Li
     → looks_at calling fed (settings_of calling words) ≡ (if test then Some (looks settings) else None)
 looks_as calling fed words settings read is so = rw (read, ← follows_alike calling fed settings, ← is, so) refl
 
-module _ (calling : Calling) (fed told_in told_watched told : Bool) (words : List (List ℕ)) (shows : ℕ → Snapshot)
-    (seen : List Snapshot) (watched : List Watched) (new : List Slot) (status : ℕ) where
+module _ (told : Visible) (run : Run) where
   abbrev pub FollowsSo : Bool → ℕ → Settings → Type 0
-  FollowsSo is_fed looks settings =
-      FollowingEndsAt (called calling told_watched told) is_fed words looks shows (remains seen watched new) status
-      (Ok settings)
+  FollowsSo is_fed looks settings = FollowingEndsAt told (record run { fed = is_fed }) looks (Ok settings)
 
-  ends_alike : (settings : Settings) (looks : ℕ) → FollowsSo (asks_input calling settings && fed) looks settings
-      → FollowsSo fed looks settings
-  ends_alike (Tail asked) looks ends = rw (followed_alike calling fed asked) at ends
+  tail_alike : (is_fed : Bool) (looks : ℕ) (asked : TailSettings) (followed : Option Followed)
+      → FollowsTail told (record run { fed = is_fed }) looks asked followed → FollowsTail told run looks asked followed
+  tail_alike is_fed looks asked None ends = ends
+  tail_alike is_fed looks asked (Some how) ends = ends
+
+  ends_alike : (settings : Settings) (looks : ℕ) → FollowsSo (asks_input run.calling settings && run.fed) looks settings
+      → FollowsSo run.fed looks settings
+  ends_alike (Tail asked) looks ends = tail_alike (asks_input run.calling (Tail asked) && run.fed) looks asked (followed_by run.calling run.fed asked)
+      (rw (followed_alike run.calling run.fed asked) at ends)
   ends_alike settings looks ends = ends
 
   -- what a run leaves whose words ask to follow files
-  pub program_follows : (laid : ℕ → List ℕ → Option Content) (sources : List Source) {is_fed : Bool} {count : ℕ}
-      (settings : Settings)
-      → settings_of calling words ≡ Ok settings → is_fed ≡ (asks_input calling settings && fed)
-      → follows calling is_fed settings ≡ true → count ≡ looks settings → FollowsSo is_fed count settings
-      → ProgramEnds calling fed told_in told_watched told words laid sources sources shows seen watched new status
-  program_follows laid sources {count} settings read is can often ends =
+  pub program_follows : {is_fed : Bool} {count : ℕ} (settings : Settings)
+      → settings_of run.calling run.words ≡ Ok settings → is_fed ≡ (asks_input run.calling settings && run.fed)
+      → follows run.calling is_fed settings ≡ true → count ≡ looks settings → IsUnread run
+      → FollowsSo is_fed count settings → ProgramEnds told run
+  program_follows {count = count} settings read is can often fresh ends =
       let so = subst (λ those. FollowsSo those count settings) is ends in
-      let as_often = subst (λ n. FollowsSo (asks_input calling settings && fed) n settings) often so in
-      rw (looks_as calling fed words settings read is can, read) (refl, ends_alike settings (looks settings) as_often)
+      let as_often = subst (λ n. FollowsSo (asks_input run.calling settings && run.fed) n settings) often so in
+      rw (looks_as run.calling run.fed run.words settings read is can, read)
+      (fresh, ends_alike settings (looks settings) as_often)
 
--- how a run ends if its words are refused, whichever kind of run they ask for
-pub program_refuses : (calling : Calling) (fed told_in told_watched : Bool) {told : Bool}
-    (words : List (List ℕ)) (laid : ℕ → List ℕ → Option Content) {sources : List Source} (shows : ℕ → Snapshot)
-    {seen : List Snapshot} {watched : List Watched} {fault : Fault} {new : List Slot} {status : ℕ} → IsFresh sources
-    → seen ≡ [] → watched ≡ [] → IsRefused HasBadOperands (settings_of calling words) fault
-    → RefusesFor calling told words fault new status
-    → ProgramEnds calling fed told_in told_watched told words laid sources sources shows seen watched new status
-program_refuses calling fed told_in told_watched {told} words laid {sources} shows {seen} {watched} {new} {status} fresh
-    unseen unwatched refused refuses = by (looks_at calling fed (settings_of calling words)) where
-      by : (asked : Option ℕ)
-          → ProgramEndsAt calling fed told_in told_watched told words laid sources sources shows seen watched new
-          status asked
-      by (Some looks) = (
-        refl,
-        refused_words (called calling told_watched told) fed words looks shows (remains seen watched new) _
-            unseen unwatched refused refuses,
-      )
-      by None =
-          let all = refused_or_memory calling told_in told words laid sources new status fresh refused refuses in
-          (unseen, unwatched, all)
+  -- what a run leaves whose words ask to follow nothing
+  pub program_runs : {is_fed : Bool} (settings : Settings) → settings_of run.calling run.words ≡ Ok settings
+      → is_fed ≡ (asks_input run.calling settings && run.fed) → follows run.calling is_fed settings ≡ false
+      → IsUnseen run → RunsOver told.inputs run.world (names_of settings) (λ found. DoesAsked told run found settings)
+      → ProgramEnds told run
+  program_runs settings read is cannot unseen ran =
+      rw (looks_as run.calling run.fed run.words settings read is cannot)
+      (unseen.0, unseen.1, ends_as_asked told run settings read ran)
+
+  -- how a run ends if its words are refused, whichever kind of run they ask for
+  pub program_refuses : {fault : Fault} → IsUnread run → IsUnseen run
+      → IsRefused HasBadOperands (settings_of run.calling run.words) fault → Refuses told run fault
+      → ProgramEnds told run
+  program_refuses fresh unseen refused refuses = by (looks_at run.calling run.fed (settings_of run.calling run.words)) where
+    by : (asked : Option ℕ) → ProgramEndsAt told run asked
+    by (Some looks) = (fresh, refused_words told run looks unseen refused refuses)
+    by None = (unseen.0, unseen.1, refused_or_memory told run fresh refused refuses)
 
 -- How a run ends that is asked for a text about a tool.
 

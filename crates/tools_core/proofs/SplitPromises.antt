@@ -28,7 +28,7 @@ use Rattle.ports_core.specs.{
 }
 use Rattle.ports_core.proofs.OrderLemmas.{in_order}
 use Rattle.tools_core.{
-  specs.Promises.{AreInOrder, Splits, makes_files, text_at, Run, Does, HasInput, AreListed, ArePieces, AreLinePieces},
+  specs.Promises.{AreInOrder, Splits, makes_files, text_at, Does, HasInput, AreListed, ArePieces, AreLinePieces},
   specs.Promises.{AreUncut, AreDealt, EndsLine, IsFilled, IsSound, contents_of, Completes, GivesOther},
   specs.Promises.{IsChunkAsShown, IsCutAsShown, TellsMet, files_of, lines_telling, output_of, removes_files},
   specs.Tasks.{filing_of, names_of, naming_of, speaker_of, split_task},
@@ -83,6 +83,7 @@ use Rattle.seg_core.specs.declared.cut.Limit.TheVariants as limit
 use Rattle.split_core.specs.Sections as piece
 use Rattle.split_core.specs.laws.LimitLaws.{whole_of_lines, whole_of_none}
 use Rattle.split_core.specs.Chunks.{KeepLines}
+use Rattle.tools_core.specs.Run.{Run}
 
 by_places : (names : List (List ℕ))
     → ((k : ℕ) → k + 1 < length names → slice_cmp nat_cmp (text_at names k) (text_at names (suc k)) ≡ Less)

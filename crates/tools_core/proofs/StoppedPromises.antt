@@ -25,11 +25,11 @@ use Rattle.ports_core.specs.{
 use Rattle.ports_core.proofs.MessageLemmas.{messages_in, says_more}
 use Rattle.run_core.specs.{
   Feeding.{IsCall, Step, Stops, closes as ends_call, enough, feeds, opens, to_end},
-  Input.{inputs_at, standard_input},
-  RunEnds.{EndsAs, RunStep, as_defined, calling as call_step, no_room, stopped},
-  Task.{Task, made_by},
+  Input.{Input, inputs_at, standard_input},
+  RunEnds.{AllDone, EndsAs, RunStep, as_defined, calling as call_step, no_room, stopped},
+  Task.{Task, made_by, status_of},
 }
-use Rattle.run_core.proofs.InputLemmas.{said_of}
+use Rattle.run_core.proofs.{InputLemmas.{said_of, told_stop}, StopLemmas.Reported}
 use Rattle.tee_core.{
   specs.{
     Run.{AreSound, IsRead, said_of_input, standings_of},
@@ -53,7 +53,7 @@ use Rattle.tools_core.specs.{
   Outcome.{refusal, refuser, speaker, tee_run},
   Tasks.{by, names_of, speaker_of, tool_of},
   Promises.{BrokeAt, Completes, Does, HasGone, HasLong, IsCalled, IsCopied, IsGone, IsSilent, LostReader, IsStopped},
-  Promises.{IsTask, IsUnstopped, Ran, Run, SaysLines, SaysWhy, StopsRun, Tells, TellsMet, WhyBroken, broken_off, message_by},
+  Promises.{DoesAll, Ran, SaysLines, SaysWhy, StopsRun, Tells, TellsMet, WhyBroken, broken_off, message_by},
   Promises.{failing, named, removes_files},
 }
 use Rattle.tools_core.proofs.{
@@ -61,12 +61,13 @@ use Rattle.tools_core.proofs.{
   TeePromises.{IsLoud, TellsAll, any_gone, broken_why, failing_stops, sound_or, tee_broke, tee_told, told_all},
   LeftLemmas.{tells_one, HasLine, all_tell, completes_left, left_at, left_says, one_line, ran_over, slots_at},
   LeftLemmas.{swept_gone, swept_kept, speaker_is, AreLive, IsSoundAt, inputs_fit, live_begin, outputs_live, Did},
-  LeftLemmas.{DidUnstopped, says_line, step_live, task_lives},
+  LeftLemmas.{says_line, step_live, task_lives},
   RunLemmas.{by_words, worded_by},
 }
 use Rattle.ports_core.specs.declared.reason.Reason.TheVariants as reason
 use Rattle.ports_core.specs.declared.slot.State.TheVariants as state
 use Rattle.tee_core.specs.Run as tee
+use Rattle.tools_core.specs.{Outcome.IsTask, Run.Run}
 
 -- If a step read 2^63 bytes or more, its input is that long.
 
@@ -80,10 +81,10 @@ call_long (ends_call x (enough rest is complete) needed) long = grind (arith, co
 abbrev IsLong : Option Content → Type 0
 IsLong there = (content : Content) × (there ≡ Some content) × (2 ^ 63 ≤ length content.bytes)
 
-step_long : {task : Task} {shown : Option (List ℕ)} {most : ℕ} {so_far : Part} {header : List ℕ} {slot : Option ℕ}
-    {sources : List Source} {there : Option Content} {step : Step}
-    → RunStep true task shown most so_far header slot sources there step → 2 ^ 63 ≤ length step.read → IsLong there
-step_long (call_step content call is leaves) long = (content, refl, call_long is long)
+step_long : {task : Task} {most : ℕ} {so_far : Part} {is_first : Bool} {input : Input} {sources : List Source}
+    {step : Step} → RunStep true task most so_far is_first input sources step → 2 ^ 63 ≤ length step.read
+    → IsLong input.content
+step_long (call_step content call there is leaves) long = (content, there, call_long is long)
 step_long at long = search rules
 
 -- In a run over inputs, the output that the fault marked is the output that its line names.
@@ -100,18 +101,18 @@ blamed (Open slot) place before sound (here, (kept, why, is)) = grind (arith, co
 blamed fault place before sound marked = absurd marked
 
 -- the fault that stopped a step stops the run
-stops_run : (run : Run) (asked : Settings) (fault : Fault) (step : Step) {output : Output} {error : Slot}
-    {low high : Part} {reached : List Slot}
+stops_run : (run : Run) (asked : Settings) (fault : Fault) (step : Step) (mid : List Slot) {output : Output}
+    {error : Slot} {low high : Part} {reached : List Slot}
     → (between : StoppedBetween output true (streams_with error) low high fault reached)
     → (2 ^ 63 ≤ length step.read → HasLong run asked) → Stops step reached fault
     → ((slot : ℕ) → (slot ≡ 1 → ⊥) → (slot_at reached slot).is_broken ≡ true
-    → BrokeAt run slot (slot_at run.outputs slot).name fault)
-    → StopsRun run asked (output_named run.outputs fault) fault
-stops_run run asked (Write slot) step between long stops broke = grind (arith, common_steps)
-stops_run run asked (Open slot) step between long stops broke = grind (arith, common_steps)
-stops_run run asked Memory step between long stops broke = tt
-stops_run run asked TooLong step between long stops broke = long stops
-stops_run run asked fault step between long stops broke = absurd stops
+    → BrokeAt run slot (slot_at mid slot).name fault)
+    → StopsRun run asked (output_named mid fault) fault
+stops_run run asked (Write slot) step mid between long stops broke = grind (arith, common_steps)
+stops_run run asked (Open slot) step mid between long stops broke = grind (arith, common_steps)
+stops_run run asked Memory step mid between long stops broke = tt
+stops_run run asked TooLong step mid between long stops broke = long stops
+stops_run run asked fault step mid between long stops broke = absurd stops
 
 -- the fault that stopped a step isn't about words
 plain_message : (run : Run) (fault : Fault) (step : Step) (name : List ℕ) (reached : List Slot)
@@ -164,10 +165,10 @@ stop_early {run = run} {asked = asked} fault name {error} stops says slots is = 
 -- what a run leaves if a fault stopped it
 module _ (run : Run) (asked : Settings) (clears : Bool) {output : Output} {error : Slot} {low high : Part}
     {fault : Fault} {reached : List Slot} (live : AreLive high.files)
-    (between : StoppedBetween output true (streams_with error) low high fault reached)
-    (swept : Swept clears 2 reached run.outputs) where
+    (between : StoppedBetween output true (streams_with error) low high fault reached) {mid : List Slot}
+    (swept : Swept clears 2 reached mid) {Change : Slot → Slot → Type 0} (told : Reported Change mid run.outputs) where
   -- standard error stays the slot after the first
-  stopped_error : slot_at run.outputs 1 ≡ error
+  stopped_error : slot_at mid 1 ≡ error
   stopped_error = grind (arith, common_steps)
 
   -- the outputs before the fault are sound, so an output that is broken after it was marked by it
@@ -182,10 +183,20 @@ module _ (run : Run) (asked : Settings) (clears : Bool) {output : Output} {error
       ])
 
   marked_broke : (place : ℕ) → (place ≡ 1 → ⊥) → (slot_at reached place).is_broken ≡ true
-      → BrokeAt run place (slot_at run.outputs place).name fault
+      → BrokeAt run place (slot_at mid place).name fault
   marked_broke place differs broken =
-      let kept = swept_kept clears reached run.outputs swept place in
-      (differs, inl refl, kept.still broken, grind (arith, common_steps, blamed_at))
+      let kept = swept_kept clears reached mid swept place in
+      rw (told.others place differs) (differs, inl refl, kept.still broken, grind (arith, common_steps, blamed_at))
+
+  -- an output that broke as it was to be removed
+  stuck_after : (place : ℕ) → (place ≡ 1 → ⊥) → (slot_at reached place).is_broken ≡ false
+      → (slot_at run.outputs place).is_broken ≡ true → IsStuck clears run.outputs place
+  stuck_after place differs was broken =
+      let (is, closed) = (swept_kept clears reached mid swept place).broke was (rw (told.others place differs) at broken) in (
+        is,
+        rw (told.others place differs) closed,
+        λ other past. rw (told.others other (λ one. omega (arith, past, one))) (swept_gone clears reached mid is swept other past),
+      )
 
 -- a fault goes unreported only if the tool was called by its own name
 quiet_own : (fault : Fault) (calling : Calling) (why : Reason) → is_quiet fault calling why ≡ true → calling ≡ OwnName
@@ -203,11 +214,12 @@ gone_reason (Write slot) Cutters why is = absurd (cc)
 gone_reason fault OwnName why is = absurd (cc)
 gone_reason fault Cutters why is = absurd (cc)
 
-quiet_gone : (run : Run) (asked : Settings) (name : List ℕ) (fault : Fault) (calling : Calling)
-    → is_quiet fault calling (output_reason run.outputs fault) ≡ true → StopsRun run asked name fault → HasGone run
-quiet_gone run asked name (Write slot) calling is (differs, called, broken, fails) =
-    grind (arith, common_steps, gone_reason)
-quiet_gone run asked name fault calling is stops = absurd (cc)
+quiet_gone : (run : Run) (asked : Settings) (name : List ℕ) (fault : Fault) (calling : Calling) (mid : List Slot)
+    → ((place : ℕ) → (place ≡ 1 → ⊥) → slot_at run.outputs place ≡ slot_at mid place)
+    → is_quiet fault calling (output_reason mid fault) ≡ true → StopsRun run asked name fault → HasGone run
+quiet_gone run asked name (Write slot) calling mid others is (differs, called, broken, fails) =
+    (slot, differs, broken, rw (others slot differs) (gone_reason (Write slot) calling _ is))
+quiet_gone run asked name fault calling mid others is stops = absurd (cc)
 
 -- a run ended since a reader is gone, and didn't report that
 silent_by : (run : Run) (task : Task) (asked : Settings) → IsTask run.calling asked task
@@ -227,44 +239,47 @@ abbrev Unless : Run → Settings → Type 0 → Type 0
 Unless run asked Whole = Whole ⊎ IsStop (removes_files asked) run asked ⊎ IsQuietly run asked
 
 ends_or : {run : Run} {asked : Settings} {task : Task} → IsTask run.calling asked task
-    → (ends : EndsAs true true task
-    (inputs_at run.world (names_of asked)) run.inputs run.outputs run.status) → Unless run asked (IsUnstopped ends)
-ends_or of (as_defined error reached says outputs swept done is) = inl tt
-ends_or {run} {asked} {task} of
-    (stopped fault before input after said error step reached are done untouched at stops between swept_as says tells is) =
+    → EndsAs true true task (inputs_at run.world (names_of asked)) run.inputs run.outputs run.status
+    → Unless run asked (AllDone true true task (inputs_at run.world (names_of asked)) run.inputs run.outputs
+    × (run.status ≡ status_of (made_by task (inputs_at run.world (names_of asked)))))
+ends_or of (as_defined all is) = inl (all, is)
+ends_or {run} {asked} {task} of (stopped fault mid at tells is) =
     let living = task_lives run.calling asked task of in
     let clears = removes_files asked in
-    let swept = rw (living input.shown).1 at swept_as in
-    let lines = (made_by task before).messages in
-    let name = output_named run.outputs fault in
-    let reason = output_reason run.outputs fault in
-    let fits = inputs_fit task true before (all_tell run asked task [] before (input ∷ after) of are) living in
-    let live = step_live (living input.shown).0 fits.live at in
-    let stop = stops_run run asked fault step between
-    (λ many. let (content, there, long) = step_long at many in (input, content, (before, after, are), there, long)) stops
-    (marked_broke run asked clears live between swept) in
+    let between = at.stop.between in
+    let reached = at.stop.reached in
+    let swept = rw (living at.input.shown).1 at at.stop.swept in
+    let lines = (made_by task at.before).messages in
+    let name = output_named mid fault in
+    let reason = output_reason mid fault in
+    let report = told_stop at tells in
+    let fits = inputs_fit task true at.before (all_tell run asked task [] at.before (at.input ∷ at.after) of at.are) living in
+    let live = step_live (living at.input.shown).0 fits.live at.stop.is in
+    let stop = stops_run run asked fault at.stop.step mid between
+    (λ many. let (content, there, long) = step_long at.stop.is many in (at.input, content, (at.before, at.after, at.are), there, long)) at.stop.stops
+    (marked_broke run asked clears live between swept report) in
     elim (cases_Bool (is_quiet fault task.speaker.calling reason)) [
       | inl quiet ↦ inr (inr (record {
-        silent = silent_by run task asked of (quiet_own fault _ reason quiet) (quiet_gone run asked name fault _ quiet stop)
+        silent = silent_by run task asked of (quiet_own fault _ reason quiet) (quiet_gone run asked name fault _ mid report.others quiet stop)
             (rw quiet at is);
-        broke = λ place differs broken.
-            let kept = swept_kept clears reached run.outputs swept place in
-            elim (cases_Bool (slot_at reached place).is_broken) [
-              | inr was ↦ let (is, closed) = kept.broke was broken in
-                  inr (inr (is, closed, swept_gone clears reached run.outputs is swept))
-              | inl was ↦ let blame = blamed_at run asked clears live between swept place differs was in
-                  inl (blame.why run.outputs ∙ gone_reason fault _ reason quiet)
-            ];
+        broke = λ place differs broken. elim (cases_Bool (slot_at reached place).is_broken) [
+          | inr was ↦ inr (inr (stuck_after run asked clears live between swept report place differs was broken))
+          | inl was ↦
+              let blame = blamed_at run asked clears live between swept report place differs was in
+              inl (rw (report.others place differs) (blame.why mid ∙ gone_reason fault _ reason quiet))
+        ];
       }))
       | inr loud ↦
-          let all = says_more true task.speaker lines (message_of fault name) standard_error said error (said_of true task true run.inputs before standard_error said says) (reason, rw loud at tells) in
+          let all = says_more true task.speaker lines (message_of fault name) standard_error at.error _
+          (said_of true task true run.inputs at.before standard_error at.error at.says)
+          (reason, rw (loud, stopped_error run asked clears live between swept report) at report.says) in
           let Said : List Message → Type 0 = λ those.
           SaysAll true (speaker_of run.calling asked) those standard_error (slot_at run.outputs 1) in
-          let said : Said (lines ++ message_of fault name ∷ []) = grind (arith, common_steps, stopped_error) in
+          let said : Said (lines ++ message_of fault name ∷ []) = rw (speaker_is run.calling asked task of) at all in
           let told : SaysLines run asked (lines ++ message_by run fault name ∷ []) = record {
             are = All-append (TellsMet run asked) lines _ fits.are
                 (one_line (TellsMet run asked) (message_by run fault name) (fault, name, inl stop, refl));
-            said = subst (λ line. Said (lines ++ line ∷ [])) (plain_message run fault step name reached stops) said;
+            said = subst (λ line. Said (lines ++ line ∷ [])) (plain_message run fault at.stop.step name reached at.stop.stops) said;
           } in
           inr (inl (record {
             failed = rw loud at is;
@@ -272,13 +287,14 @@ ends_or {run} {asked} {task} of
             name = name;
             stops = stop;
             line = (lines, [], told);
-            broke = λ place differs broken.
-                let kept = swept_kept clears reached run.outputs swept place in
-                elim (cases_Bool (slot_at reached place).is_broken) [
-                  | inr was ↦ let (is, closed) = kept.broke was broken in inr (is, closed, swept_gone clears reached run.outputs is swept)
-                  | inl was ↦ let why = blamed_at run asked clears live between swept place differs was in
-                      inl (_, inl refl, grind (arith, common_steps))
-                ];
+            broke = λ place differs broken. elim (cases_Bool (slot_at reached place).is_broken) [
+              | inr was ↦ inr (stuck_after run asked clears live between swept report place differs was broken)
+              | inl was ↦
+                  let why = blamed_at run asked clears live between swept report place differs was in
+                  let kept = swept_kept clears reached mid swept place in
+                  let others = report.others place differs in
+                  inl (_, inl refl, grind (arith, common_steps))
+            ];
           }))
     ]
 ends_or {run} {asked} {task} of (no_room error says slots untouched count is) =
@@ -410,11 +426,16 @@ about_or (no_text error says slots is) = inr (inl (stop_early Memory [] tt (erro
 
 -- All tools.
 
-does_or : {run : Run} (asked : Settings) (does : Did run asked) → Unless run asked (DidUnstopped run asked does)
-does_or (Csplit asked) does = ends_or {asked = Csplit asked} (does.operands, does.asks, refl) does.ends
-does_or (Tee asked) does = tee_or asked does.input does.ends
-does_or (About which topic) does = about_or does
-does_or asked does = ends_or {asked = asked} refl does
+-- what was done is more, if no fault stopped the run
+unless_so : {run : Run} {asked : Settings} {A B : Type 0} → (A → B) → Unless run asked A → Unless run asked B
+unless_so more (inl all) = inl (more all)
+unless_so more (inr stop) = inr stop
+
+does_or : {run : Run} (asked : Settings) → Did run asked
+    → Unless run asked (DoesAll run (inputs_at run.world (names_of asked)) asked)
+does_or (Tee asked) does = unless_so (λ copied. (does, copied)) (tee_or asked does.input does.ends)
+does_or (About which topic) does = unless_so (λ well. (does, well)) (about_or does)
+does_or asked (task, of, ends) = unless_so (λ all. (task, of, all.0, all.1)) (ends_or {asked = asked} of ends)
 
 -- Operands that are wrong.
 
@@ -440,7 +461,7 @@ refused_by run asked fault bad is says = absurd bad
 ran_so : {run : Run} {asked : Settings} → Ran run asked → Unless run asked (Completes run asked)
 ran_so {run} {asked} ran = elim (ran_over ran) [
   | inl does ↦ elim (does_or asked does) [
-    | inl unstopped ↦ inl (record { read = ran.read; does = does; unstopped = unstopped })
+    | inl all ↦ inl (record { read = ran.read; does = all })
     | inr stop ↦ inr stop
   ]
   | inr (fault, bad, refuses) ↦ inr (inl (stop_early fault (word_of run.words fault) (bad_stops run asked fault bad)
@@ -465,7 +486,7 @@ whole_copied run asked (tee.no_room error says unread slots is) well sound = abs
 
 pub silent_completes : {run : Run} (asked : Settings) → Does run asked → IsSilent run asked → Completes run asked
 silent_completes {run} (Tee asked) does silent = elim (ran_over does.ran) [
-  | inl did ↦ record { read = does.ran.read; does = did; unstopped = whole_copied run asked did.ends does.well does.unforgiven }
+  | inl did ↦ record { read = does.ran.read; does = (did, whole_copied run asked did.ends does.well does.unforgiven) }
   | inr (fault, bad, refuses) ↦ absurd bad
 ]
 silent_completes asked does silent = absurd (omega (arith, does.well, silent.2))

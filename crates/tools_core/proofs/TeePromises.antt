@@ -57,7 +57,7 @@ use Rattle.words_core.specs.{TeeWords.TeeAsked, declared.settings.Settings.{Sett
 use Rattle.tools_core.{
   specs.{
     Outcome.tee_run,
-    Promises.{BeginsAs, BrokeAt, EndsWithBreak, HasGone, HasUpTo, IsCalled, LostReader, OneIs, Ran, Run, SaysLines},
+    Promises.{BeginsAs, BrokeAt, EndsWithBreak, HasGone, HasUpTo, IsCalled, LostReader, OneIs, Ran, SaysLines},
     Promises.{SaysWhy, StopsRun, Tells, TellsMet, failing, message_by},
   },
   proofs.BeginLemmas.{bare_begins, empty_begins},
@@ -67,6 +67,7 @@ use Rattle.tools_core.{
 use Rattle.ports_core.specs.declared.slot.State.TheVariants as state
 use Rattle.ports_core.specs.declared.reason.Reason.TheVariants as reason
 use Rattle.tee_core.specs.Run as tee
+use Rattle.tools_core.specs.Run.{Run}
 
 abbrev job_of : Run → TeeAsked → TeeRun
 job_of run asked = tee_run run.calling true asked

@@ -1,4 +1,5 @@
 pub mod Tasks
+pub mod Run
 pub mod Outcome
 pub mod Promises
 pub mod About

@@ -5,7 +5,7 @@ use Rattle.std.specs.{
 }
 use Rattle.ports_core.specs.{
   Slot.Slot,
-  Source.{Content, Source, source_at},
+  Source.{Content, source_at},
   Text.{Message, message_of, refusal_of},
   Message.Says,
   declared.{
@@ -17,17 +17,20 @@ use Rattle.ports_core.specs.{
   Streams.{standard_error, streams_with},
 }
 use Rattle.operand_core.specs.{declared.operand.Operand.Operand, Reading.Asks}
-use Rattle.run_core.specs.{Input.{Input, standard_input}, RunEnds.EndsAs}
+use Rattle.run_core.specs.{Input.{Input, standard_input}, RunEnds.{EndsAs, RunsOver}, Task.Task}
 use Rattle.tee_core.specs.Run.{AreSound, TeeRun, all_copied, forgives, EndsAs as TeeCopies}
 use Rattle.words_core.specs.{
   declared.settings.Settings.{Settings, TheVariants.{Head, Tail, Split, Csplit, Tee, About}},
-  CsplitWords.CsplitAsked,
   TeeWords.TeeAsked,
   Help.text_about,
   Refusal.{detail_of, word_at},
   Words.{HasBadOperands, tool_named, settings_of},
 }
-use Rattle.tools_core.specs.{About.TellsText, Tasks.{by, csplit_task, head_task, tail_task, split_task, names_of}}
+use Rattle.tools_core.specs.{
+  About.TellsText,
+  Run.{IsUnread, Run, Visible},
+  Tasks.{by, csplit_task, head_task, tail_task, split_task, names_of},
+}
 use Rattle.ports_core.specs.declared.tool.Tool.TheVariants as tool
 
 -- who refuses words: the tool that they name, or the program if they name no tool
@@ -44,12 +47,14 @@ refusal calling words (Usage kind place) =
     refusal_of (refuser calling words) kind (word_at words place) (detail_of calling words kind place)
 refusal calling words fault = message_of fault []
 
--- a run of `csplit` over its input, which was cut at the operands that its words ask for
-pub record CsplitEndsAs (calling : Calling) (told_in told : Bool)
-    (asked : CsplitAsked) (inputs : List Input) (sources : List Source) (new : List Slot) (status : ℕ) : Type 0 where
-  pub operands : List Operand
-  pub asks : Asks asked.calling asked.operands operands
-  pub ends : EndsAs told_in told (csplit_task calling asked operands) inputs sources new status
+-- what a tool does with each of its inputs; `tee` has no such task, nor have help and the version
+abbrev pub IsTask : Calling → Settings → Task → Type 0
+IsTask calling (Head asked) task = task ≡ head_task calling asked
+IsTask calling (Tail asked) task = task ≡ tail_task calling asked.ends
+IsTask calling (Split asked) task = task ≡ split_task calling asked
+IsTask calling (Csplit asked) task = (operands : List Operand) × Asks asked.calling asked.operands operands
+    × (task ≡ csplit_task calling asked operands)
+IsTask calling asked task = ⊥
 
 -- what is asked of a run of `tee`
 abbrev pub tee_run : Calling → Bool → TeeAsked → TeeRun
@@ -62,31 +67,23 @@ tee_run calling told asked = record {
 }
 
 -- a run of `tee` over its only input, standard input
-pub record TeeEndsAs (calling : Calling) (told_in told : Bool) (asked : TeeAsked)
-    (inputs : List Input) (sources : List Source) (new : List Slot) (status : ℕ) : Type 0 where
+pub record TeeEndsAs (told : Visible) (run : Run) (found : List Input) (asked : TeeAsked) : Type 0 where
   pub content : Content
-  pub input : inputs ≡ standard_input content ∷ []
-  pub ends : TeeCopies (tee_run calling told asked) told_in content (source_at sources 0) new status
-  pub came : CameFrom told_in content (source_at sources 0)
+  pub input : found ≡ standard_input content ∷ []
+  pub ends : TeeCopies (tee_run run.calling told.outputs asked) told.inputs content (source_at run.inputs 0) run.outputs
+      run.status
+  pub came : CameFrom told.inputs content (source_at run.inputs 0)
   -- if nothing broke and bytes are visible, standard output and every file have the input's bytes
-  pub whole : told_in ≡ true → status ≡ 0 → (forgives asked.on_broken ≡ true → AreSound new)
-      → new ≡ all_copied told asked.mode asked.names content.bytes
+  pub whole : told.inputs ≡ true → run.status ≡ 0 → (forgives asked.on_broken ≡ true → AreSound run.outputs)
+      → run.outputs ≡ all_copied told.outputs asked.mode asked.names content.bytes
 
--- a run did what these settings ask for
-abbrev pub DoesAsked : Calling → Bool → Bool → Settings → List Input → List Source → List Slot → ℕ
-    → Type 0
-DoesAsked calling told_in told (Head asked) inputs sources new status =
-    EndsAs told_in told (head_task calling asked) inputs sources new status
-DoesAsked calling told_in told (Tail asked) inputs sources new status =
-    EndsAs told_in told (tail_task calling asked.ends) inputs sources new status
-DoesAsked calling told_in told (Split asked) inputs sources new status =
-    EndsAs told_in told (split_task calling asked) inputs sources new status
-DoesAsked calling told_in told (Csplit asked) inputs sources new status =
-    CsplitEndsAs calling told_in told asked inputs sources new status
-DoesAsked calling told_in told (Tee asked) inputs sources new status =
-    TeeEndsAs calling told_in told asked inputs sources new status
-DoesAsked calling told_in told (About tool topic) inputs sources new status =
-    TellsText told (by calling tool) (text_about tool topic) new status
+-- a run over these inputs did what these settings ask for
+abbrev pub DoesAsked : Visible → Run → List Input → Settings → Type 0
+DoesAsked told run found (Tee asked) = TeeEndsAs told run found asked
+DoesAsked told run found (About tool topic) =
+    TellsText told.outputs (by run.calling tool) (text_about tool topic) run.outputs run.status
+DoesAsked told run found asked = (task : Task) × IsTask run.calling asked task
+    × EndsAs told.inputs told.outputs task found run.inputs run.outputs run.status
 
 -- the words are refused for this fault: there is a message, and the status is 1; nothing else happens
 pub record RefusesFor (calling : Calling) (told : Bool) (words : List (List ℕ)) (fault : Fault) (new : List Slot)
@@ -96,25 +93,23 @@ pub record RefusesFor (calling : Calling) (told : Bool) (words : List (List ℕ)
   pub slots : new ≡ streams_with error
   pub failed : status ≡ 1
 
+-- a run refused its words for this fault
+abbrev pub Refuses : Visible → Run → Fault → Type 0
+Refuses told run fault = RefusesFor run.calling told.outputs run.words fault run.outputs run.status
+
 -- the settings have operands that can't be read, or there was no memory for them, and the words are refused for that
-abbrev pub RefusesOperands : Calling → Bool → List (List ℕ) → Settings → List Slot → ℕ → Type 0
-RefusesOperands calling told words settings new status = (fault : Fault) × HasBadOperands settings fault
-    × RefusesFor calling told words fault new status
+abbrev pub RefusesOperands : Visible → Run → Settings → Type 0
+RefusesOperands told run settings = (fault : Fault) × HasBadOperands settings fault × Refuses told run fault
 
--- A run did what was asked for. Or it refused operands or words; then all inputs are as they were.
-abbrev pub RunEndsAt : Calling → Bool → Bool → List (List ℕ) → List Input
-    → (old sources : List Source) → List Slot → ℕ → Result Settings Fault → Type 0
-RunEndsAt calling told_in told words inputs old sources new status (Ok settings) =
-    DoesAsked calling told_in told settings inputs sources new status
-    ⊎ ((sources ≡ old) × RefusesOperands calling told words settings new status)
-RunEndsAt calling told_in told words inputs old sources new status (Err fault) = (sources ≡ old)
-    × RefusesFor calling told words fault new status
+-- A run over the inputs that its words name did what was asked for. Or it refused operands or words; then all inputs
+-- are as they were.
+abbrev pub RunEndsAt : Visible → Run → Result Settings Fault → Type 0
+RunEndsAt told run (Ok settings) = RunsOver told.inputs run.world (names_of settings)
+    (λ found. DoesAsked told run found settings ⊎ (IsUnread run × RefusesOperands told run settings))
+RunEndsAt told run (Err fault) = IsUnread run × Refuses told run fault
 
--- what a run of these words left of these inputs and of the outputs, and its status, by how the program was called
-abbrev pub RunEnds : Calling → Bool → Bool → List (List ℕ) → List Input
-    → (old sources : List Source) → List Slot → ℕ → Type 0
-RunEnds calling told_in told words inputs old sources new status =
-    RunEndsAt calling told_in told words inputs old sources new status (settings_of calling words)
+abbrev pub RunEnds : Visible → Run → Type 0
+RunEnds told run = RunEndsAt told run (settings_of run.calling run.words)
 
 -- the names of the inputs that these words ask for; words that are refused ask for none
 abbrev pub names_at : Result Settings Fault → List (List ℕ)

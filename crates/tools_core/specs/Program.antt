@@ -2,46 +2,43 @@
 use Rattle.std.specs.Prelude.{◌≡◌, ℕ, Bool, false, List, [], Option, Some, None, Result, Ok, Err, ◌⊎◌, if◌then◌else◌}
 use Rattle.ports_core.specs.{
   Slot.Slot,
-  Source.{Content, Source},
+  Source.Source,
   declared.{calling.Calling.{Calling, TheVariants.Cutters}, fault.Fault.{Fault, TheVariants.Memory}},
 }
-use Rattle.run_core.specs.{RunEnds.RunsOver, RunSteps.world_of}
-use Rattle.watch_core.specs.{DirWatchState.any_files, Snapshot.Snapshot, Watched.Watched}
+use Rattle.run_core.specs.RunSteps.{world_of}
+use Rattle.watch_core.specs.DirWatchState.{any_files}
 use Rattle.words_core.specs.{declared.settings.Settings.Settings, Words.{follows, looks, settings_of}}
-use Rattle.follow_core.specs.Ending.{remains}
-use Rattle.tools_core.specs.{Following.{FollowingEnds, called}, Outcome.{RefusesFor, RunEnds, names_read}}
+use Rattle.tools_core.specs.{
+  Following.FollowingEnds,
+  Outcome.{RefusesFor, RunEnds},
+  Run.{IsUnread, Run, Visible, visible},
+}
 
--- In how many looks files are followed, where that is asked for; standard input is followed only where it is a file that
--- can be watched: `fed` says so.
+-- in how many looks files are followed, if that is asked for; `fed` says whether standard input can be watched
 abbrev pub looks_at : Calling → (fed : Bool) → Result Settings Fault → Option ℕ
 looks_at calling fed (Ok settings) = if follows calling fed settings then Some (looks settings) else None
 looks_at calling fed (Err fault) = None
 
 -- Files were followed in as many looks, and no input was opened or read; or the tool ran over its inputs, and no file
 -- was watched.
-abbrev pub ProgramEndsAt : Calling → (fed told_in told_watched told : Bool) → List (List ℕ)
-    → (ℕ → List ℕ → Option Content) → List Source → List Source → (ℕ → Snapshot) → List Snapshot → List Watched
-    → List Slot → ℕ → Option ℕ → Type 0
-ProgramEndsAt calling fed told_in told_watched told words laid sources sources_new shows seen watched new status
-    (Some looks) = (sources_new ≡ sources) × FollowingEnds (called calling told_watched told) fed words looks shows
-    (remains seen watched new) status
-ProgramEndsAt calling fed told_in told_watched told words laid sources sources_new shows seen watched new status
-    None = (seen ≡ []) × (watched ≡ []) × RunsOver told_in (world_of laid sources) (names_read calling words)
-    (λ found. RunEnds calling told_in told words found sources sources_new new status)
+abbrev pub ProgramEndsAt : Visible → Run → Option ℕ → Type 0
+ProgramEndsAt told run (Some looks) = IsUnread run × FollowingEnds told run looks
+ProgramEndsAt told run None = (run.seen ≡ []) × (run.watched ≡ []) × RunEnds told run
 
 -- by what the words ask for
-abbrev pub ProgramEnds : Calling → (fed told_in told_watched told : Bool) → List (List ℕ)
-    → (ℕ → List ℕ → Option Content) → List Source → List Source → (ℕ → Snapshot) → List Snapshot → List Watched
-    → List Slot → ℕ → Type 0
-ProgramEnds calling fed told_in told_watched told words laid sources sources_new shows seen watched new status =
-    ProgramEndsAt calling fed told_in told_watched told words laid sources sources_new shows seen watched new
-    status (looks_at calling fed (settings_of calling words))
+abbrev pub ProgramEnds : Visible → Run → Type 0
+ProgramEnds told run = ProgramEndsAt told run (looks_at run.calling run.fed (settings_of run.calling run.words))
 
--- A run over real inputs, outputs and files, which don't tell their bytes, ended as these words ask for, in this order,
--- whether standard input is a file that can be watched or not; or there was no memory for the words: that is told, and
--- nothing else was done.
-abbrev pub RanAs : Calling → List (List ℕ) → List Source → List Source → List Slot → ℕ → Type 0
-RanAs calling words sources sources_new new status =
-    ((fed : Bool) × (seen : List Snapshot) × (watched : List Watched)
-    × ProgramEnds calling fed false false false words (λ slot name. None) sources sources_new (λ n. any_files) seen
-    watched new status) ⊎ ((sources_new ≡ sources) × RefusesFor Cutters false [] Memory new status)
+-- A run over real inputs, outputs and files, whose bytes aren't visible, ended as these words ask for, whether standard
+-- input can be watched or not; or there was no memory for the words: that is reported, and nothing else was done.
+abbrev pub RanAs : Calling → List (List ℕ) → (old new : List Source) → List Slot → ℕ → Type 0
+RanAs calling words old new outputs status =
+    ((rest : Run) × ProgramEnds (visible false false false) (record rest {
+      calling = calling;
+      words = words;
+      world = world_of (λ slot name. None) old;
+      shows = λ n. any_files;
+      inputs = new;
+      outputs = outputs;
+      status = status;
+    })) ⊎ ((new ≡ old) × RefusesFor Cutters false [] Memory outputs status)

@@ -19,7 +19,7 @@ use Rattle.ports_core.specs.{
   Name.{name_at, ordered_count},
   Part.IsBeginning,
   Slot.{Slot, has_file, slot_at},
-  Source.{Content, Source, source_at, source_of},
+  Source.{Content, Source, source_at},
   Streams.standard_error,
   Text.{Message, message_of},
   declared.calling.Calling.{Calling, TheVariants.OwnName},
@@ -29,7 +29,7 @@ use Rattle.ports_core.specs.{
   declared.slot.{Mode.{Mode, TheVariants.Fresh}, State.{State, TheVariants.Closed}},
   Work.Judges,
 }
-use Rattle.operand_core.specs.{Reading.Asks, Style.Style, declared.operand.Operand.Operand}
+use Rattle.operand_core.specs.{Style.Style, declared.operand.Operand.Operand}
 use Rattle.csplit_core.specs.{
   Input.all_lines,
   Operand.Line,
@@ -41,8 +41,8 @@ use Rattle.csplit_core.specs.{
 use Rattle.run_core.specs.{
   Feeding.is_enough,
   Input.{Input, World, inputs_at, is_dash},
-  RunEnds.{EndsAs, RunsOver, as_defined, no_room, stopped},
-  Task.Task,
+  RunEnds.AllDone,
+  Task.{Task, made_by, status_of},
 }
 use Rattle.tee_core.specs.{
   Run.{AreSound, EndsAs as TeeCopies, TeeRun, copied, ends_run, forgives, is_quiet, no_room as no_memory, stands_as},
@@ -55,59 +55,37 @@ use Rattle.words_core.specs.{
     value.Followed.Followed,
   },
   EndsWords.EndsAsked,
+  Help.text_about,
   SplitWords.SplitAsked,
   TailWords.followed_by,
   TeeWords.TeeAsked,
   Words.{HasBadOperands, settings_of},
 }
 use Rattle.split_core.specs.{Chunks.{chunks_of, has_ended, pieces_in}, ChunkWork.{files_by, kept}}
-use Rattle.watch_core.specs.{Snapshot.Snapshot, Watched.Watched}
-use Rattle.follow_core.specs.Ending.{remains, shows_by}
+use Rattle.watch_core.specs.Snapshot.{Snapshot}
+use Rattle.ends_core.specs.Ends.{tail_of}
+use Rattle.follow_core.specs.{Ending.shows_by, Version.{Entry, entries_of}}
 use Rattle.tools_core.specs.{
-  Following.{FollowingEnds, called, method_of},
-  Outcome.{DoesAsked, RunEnds, names_read, refusal},
+  About.TellsText,
+  Following.{FollowingEnds, is_name, method_of},
+  Outcome.{IsTask, RunEnds, TeeEndsAs, names_read, refusal},
   Program.ProgramEnds,
-  Tasks.{csplit_task, has_headers, head_task, is_minus, is_plus, names_of, naming_of, speaker_of, split_task, tail_task},
+  Run.{Run, all_visible},
+  Tasks.{by, has_headers, is_minus, is_plus, names_of, naming_of, speaker_of},
 }
 use Rattle.ports_core.specs.declared.reason.Reason.TheVariants as reason
 use Rattle.ports_core.specs.declared.fault.Fault.TheVariants as fault
 use Rattle.ports_core.specs.declared.slot.State.TheVariants as state
 use Rattle.seg_core.specs.declared.cut.Way.TheVariants as way
 
--- One run of the program: its words, what it found, and what it left.
-pub record Run : Type 0 where
-  -- how the program was called
-  pub calling : Calling
-  -- the first is the tool's name
-  pub words : List (List ℕ)
-  -- what standard input holds, and what lies at each name
-  pub world : World
-  -- whether standard input is a file that can be watched
-  pub fed : Bool
-  -- what each look would see, where words ask `tail` to follow files
-  pub shows : ℕ → Snapshot
-  -- what is left of the inputs
-  pub inputs : List Source
-  -- what the looks saw that were made, and the names as they are watched
-  pub seen : List Snapshot
-  pub watched : List Watched
-  -- standard output, standard error, and then the files, in the order in which they were opened
-  pub outputs : List Slot
-  pub status : ℕ
-
--- It began with standard input unread and no name watched, and it ended as `run_words` ensures, which the program calls.
+-- it ended as `run_words` ensures, which the program calls
 abbrev pub IsOfProgram : Run → Type 0
-IsOfProgram run =
-    ProgramEnds run.calling run.fed true true true run.words run.world.laid (source_of run.world.standard ∷ [])
-    run.inputs run.shows run.seen run.watched run.outputs run.status
+IsOfProgram run = ProgramEnds all_visible run
 
--- Its words are read as these settings, it began with standard input unread, and it ended as `run` ensures, whether it
--- met a fault or not.
+-- Its words are read as these settings, and it ended as `run` ensures, whether it met a fault or not.
 pub record Ran (run : Run) (asked : Settings) : Type 0 where
   pub read : settings_of run.calling run.words ≡ Ok asked
-  pub ends : RunsOver true run.world (names_read run.calling run.words)
-      (λ found. RunEnds run.calling true true run.words found (source_of run.world.standard ∷ [])
-      run.inputs run.outputs run.status)
+  pub ends : RunEnds all_visible run
 
 -- an output whose reader is gone is no fault: of `tee`, where its words say so
 abbrev pub forgives_gone : Settings → Bool
@@ -320,6 +298,11 @@ pub record Splits (run : Run) (asked : SplitAsked) (way : Way) (input : List ℕ
   pub has : HasInput run input
   pub is : asked.way ≡ way
 
+-- each of the first `count` of these runs split the input in its own way
+abbrev pub AllSplit : (ℕ → Run) → (ℕ → SplitAsked) → (count : ℕ) → (ℕ → Way) → List ℕ → Type 0
+AllSplit runs asked count ways input =
+    (place : ℕ) → place < count → Splits (runs place) (asked place) (ways place) input
+
 -- This operand begins with `%` (37). One that does so is a pattern whose section is skipped, where the operands of a
 -- `csplit` are right.
 abbrev pub skips : List ℕ → Bool
@@ -418,16 +401,6 @@ StopsRun run asked name (fault.Usage kind word) = HasBadOperands asked (fault.Us
 StopsRun run asked name (fault.Write place) = BrokeAt run place name (fault.Write place)
 StopsRun run asked name (fault.Open place) = BrokeAt run place name (fault.Open place)
 StopsRun run asked name why = ⊥
-
--- what a tool does with each of its inputs; `tee` has no such task, nor have help and the version
-abbrev pub IsTask : Calling → Settings → Task → Type 0
-IsTask calling (Head asked) task = task ≡ head_task calling asked
-IsTask calling (Tail asked) task = task ≡ tail_task calling asked.ends
-IsTask calling (Split asked) task = task ≡ split_task calling asked
-IsTask calling (Csplit asked) task = (operands : List Operand) × Asks asked.calling asked.operands operands
-    × (task ≡ csplit_task calling asked operands)
-IsTask calling (Tee asked) task = ⊥
-IsTask calling (About tool topic) task = ⊥
 
 -- the tool has not enough of what an input gives, which shows this, before it breaks off, and `tee` never has
 abbrev pub WantsMore : Calling → Settings → Option (List ℕ) → Content → Type 0
@@ -539,17 +512,6 @@ pub data WhyBroken (run : Run) (asked : Settings) (place : ℕ) : Type 0 where
   unremoved : removes_files asked ≡ true → (slot_at run.outputs place).state ≡ Closed
       → ((other : ℕ) → 2 ≤ other → IsGone (slot_at run.outputs other)) → WhyBroken run asked place
 
--- A run over its inputs ended in the first of the three ways in which one can (`EndsAs`): it did all that it had to do,
--- and no fault stopped it. It went on where an input was missing or broke off, and where the tool's own work ended with a
--- fault: no match, a line out of range, names that ran out. These are told, and its status is 1.
-abbrev pub IsUnstopped : {told_in told : Bool} {task : Task} {inputs : List Input}
-    {sources : List Source} {new : List Slot} {status : ℕ} → EndsAs told_in told task inputs sources new
-    status → Type 0
-IsUnstopped (as_defined error reached says outputs swept done is) = Unit {0}
-IsUnstopped (stopped fault before input after said error step reached are done untouched at stops between swept
-    says tells is) = ⊥
-IsUnstopped (no_room error says slots untouched count is) = ⊥
-
 -- `tee` copied all that its input has, and none of its outputs broke. A run in which one broke counts as one that a
 -- fault stopped, also where it went on with the others.
 abbrev pub IsCopied : {run : TeeRun} {told_in : Bool} {content : Content} {source : Source} {new : List Slot}
@@ -558,24 +520,20 @@ IsCopied {content = content} {new = new} (copied pieces fault old mid comes so_f
     AreSound new × (concat pieces ≡ content.bytes)
 IsCopied (no_memory error says unread slots is) = ⊥
 
--- no fault stopped what was asked for
-abbrev pub Unstopped : (calling : Calling) (asked : Settings) (inputs : List Input)
-    (sources : List Source) (new : List Slot) (status : ℕ)
-    → DoesAsked calling true true asked inputs sources new status → Type 0
-Unstopped calling (Head asked) inputs sources new status does = IsUnstopped does
-Unstopped calling (Tail asked) inputs sources new status does = IsUnstopped does
-Unstopped calling (Split asked) inputs sources new status does = IsUnstopped does
-Unstopped calling (Csplit asked) inputs sources new status does = IsUnstopped does.ends
-Unstopped calling (Tee asked) inputs sources new status does = IsCopied does.ends
-Unstopped calling (About tool topic) inputs sources new status does = status ≡ 0
+-- A run over these inputs did all that these settings ask for, and no fault stopped it. It went on where an input was
+-- missing or broke off, and where the tool's own work ended with a verdict: no match, a line out of range, names that
+-- ran out. These are told, and its status is 1.
+abbrev pub DoesAll : Run → List Input → Settings → Type 0
+DoesAll run found (Tee asked) = (does : TeeEndsAs all_visible run found asked) × IsCopied does.ends
+DoesAll run found (About tool topic) =
+    TellsText true (by run.calling tool) (text_about tool topic) run.outputs run.status × (run.status ≡ 0)
+DoesAll run found asked = (task : Task) × IsTask run.calling asked task
+    × AllDone true true task found run.inputs run.outputs × (run.status ≡ status_of (made_by task found))
 
--- The run did what was asked for, over what it found, and no fault stopped it, whatever its status.
+-- The run did so over what it found, whatever its status.
 pub record Completes (run : Run) (asked : Settings) : Type 0 where
   pub read : settings_of run.calling run.words ≡ Ok asked
-  pub does : DoesAsked run.calling true true asked (inputs_at run.world (names_of asked)) run.inputs
-      run.outputs run.status
-  pub unstopped : Unstopped run.calling asked (inputs_at run.world (names_of asked)) run.inputs
-      run.outputs run.status does
+  pub does : DoesAll run (inputs_at run.world (names_of asked)) asked
 
 -- Such a fault stopped the run, which told it; or, of `tee`, an output broke: it went on with the others or ended with
 -- that, and no more is said here of that run.
@@ -651,16 +609,40 @@ AsksToFollow run options followed looks = (pause : ℕ)
 pub record Follows (run : Run) (count : ℕ) (options : EndsAsked) (followed : Followed) : Type 0 where
   pub looks : ℕ
   pub read : AsksToFollow run options followed looks
-  pub ends : FollowingEnds (called run.calling true true) run.fed run.words count run.shows
-      (remains run.seen run.watched run.outputs) run.status
+  pub ends : FollowingEnds all_visible run count
   pub well : run.status ≡ 0
 
 -- what each look of it shows where it follows its names so
 abbrev pub showing : Run → Followed → ℕ → Snapshot
 showing run followed = shows_by run.calling (method_of followed) run.shows
 
+-- what `tail` with these options writes of a text
+abbrev pub tail_part : EndsAsked → List ℕ → List ℕ
+tail_part options = tail_of options.delim options.unit (is_plus options.count.sign) options.count.amount
+
+-- such a run that follows one name so, and writes no header
+pub record FollowsOne (run : Run) (count : ℕ) (options : EndsAsked) : Type 0 where
+  pub followed : Followed
+  pub name : List ℕ
+  pub follows : Follows run count options followed
+  pub bare : IsBare options
+  pub named : options.names ≡ name ∷ []
+
+-- the versions of its file that the looks found
+abbrev pub versions_of : {run : Run} {count : ℕ} {options : EndsAsked} → FollowsOne run count options → List Entry
+versions_of {run = run} one = entries_of (is_name one.followed) one.name run.seen
+
+-- what this file has at a look
+abbrev pub held : {run : Run} {count : ℕ} {options : EndsAsked} → FollowsOne run count options → (look file : ℕ)
+    → List ℕ
+held {run = run} one look file = (showing run one.followed look).holds file
+
 -- at each of the first `count` looks the name leads to this file, which has all that it had at the look before, and
 -- perhaps more after it
 abbrev pub OnlyGrows : (count : ℕ) → (ℕ → Snapshot) → List ℕ → ℕ → Type 0
 OnlyGrows count shows name file = ((n : ℕ) → n < count → (shows n).leads name ≡ Some file)
     × ((n : ℕ) → suc n < count → IsBeginning ((shows n).holds file) ((shows (suc n)).holds file))
+
+-- its name leads to this file at each look that was made, and the file only grows
+abbrev pub IsGrowing : {run : Run} {count : ℕ} {options : EndsAsked} → FollowsOne run count options → ℕ → Type 0
+IsGrowing {run = run} one file = OnlyGrows (length run.seen) (showing run one.followed) one.name file

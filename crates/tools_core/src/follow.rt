@@ -1,9 +1,11 @@
 //! One whole run of `tail` that follows files (POSIX.1-2017, XCU tail, `-f`; names that are followed are GNU's).
-ghost use Rattle.std.specs.Prelude.{◌≡◌, [], Ok, false, map};
+ghost use Rattle.std.specs.Prelude.{◌≡◌, Bool, [], Ok, false, map};
 ghost use Rattle.ports_core.specs.Slot.{streams};
 ghost use Rattle.words_core.specs.Words.{HasOperands};
-ghost use Rattle.tools_core.specs.Following.{FollowingEnds, FollowingEndsAt, FollowsAs, called, method_of, pause_by, start_of};
-ghost use Rattle.follow_core.specs.Ending.{remains};
+ghost use Rattle.tools_core.specs.{
+  Following.{FollowingEnds, FollowingEndsAt, FollowsAs, method_of, pause_by, start_of},
+  Run.{Run, visible},
+};
 
 use crate::ends::{has_headers, is_plus};
 use crate::run::refuse_words;
@@ -34,8 +36,16 @@ pub fn run_follow<W: Watch, O: Outs>(
     requires unseen { W.seen watch.old ≡ [] }
     requires unwatched { W.watched watch.old ≡ [] }
     requires outputs { O.slots outs.old ≡ streams }
-    ensures { FollowingEnds (called Calling.Cutters W.told O.told) false (map (λ word. word.now) words.now) looks
-        (W.shows watch.old) (remains (W.seen watch.new) (W.watched watch.new) (O.slots outs.new)) result }
+    ensures { (rest : Run) → FollowingEnds (visible false W.told O.told) (record rest {
+      calling = Calling.Cutters;
+      words = map (λ word. word.now) words.now;
+      fed = false;
+      shows = W.shows watch.old;
+      seen = W.seen watch.new;
+      watched = W.watched watch.new;
+      outputs = O.slots outs.new;
+      status = result;
+    }) looks }
 {
     match read_words(alloc, words) {
         Ok(settings) => follow_asked(
@@ -68,9 +78,16 @@ pub(crate) fn follow_asked<W: Watch, O: Outs>(
     requires unwatched { W.watched watch.old ≡ [] }
     requires outputs { O.slots outs.old ≡ streams }
     requires operands { HasOperands settings.now }
-    ensures { FollowingEndsAt (called calling W.told O.told) fed (map (λ word. word.now) words.now) looks
-        (W.shows watch.old) (remains (W.seen watch.new) (W.watched watch.new) (O.slots outs.new)) result
-        (Ok settings.now) }
+    ensures { (told_in : Bool) (rest : Run) → FollowingEndsAt (visible told_in W.told O.told) (record rest {
+      calling = calling;
+      words = map (λ word. word.now) words.now;
+      fed = fed;
+      shows = W.shows watch.old;
+      seen = W.seen watch.new;
+      watched = W.watched watch.new;
+      outputs = O.slots outs.new;
+      status = result;
+    }) looks (Ok settings.now) }
 {
     match settings {
         Settings::Tail(tail) => match tail.followed_by(calling, fed) {
@@ -94,8 +111,14 @@ fn follow_tail<W: Watch, O: Outs>(
     requires unseen { W.seen watch.old ≡ [] }
     requires unwatched { W.watched watch.old ≡ [] }
     requires outputs { O.slots outs.old ≡ streams }
-    ensures { FollowsAs (called calling W.told O.told) settings.now followed looks (W.shows watch.old)
-        (remains (W.seen watch.new) (W.watched watch.new) (O.slots outs.new)) result }
+    ensures { (told_in : Bool) (rest : Run) → FollowsAs (visible told_in W.told O.told) (record rest {
+      calling = calling;
+      shows = W.shows watch.old;
+      seen = W.seen watch.new;
+      watched = W.watched watch.new;
+      outputs = O.slots outs.new;
+      status = result;
+    }) looks settings.now followed }
 {
     watch.wait_at_most(pause_by(calling, settings.pause));
     let limits = Limits {

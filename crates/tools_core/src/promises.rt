@@ -6,9 +6,8 @@ ghost use Rattle.std.specs.{
   Prelude.{◌≡◌, ◌<◌, ◌^◌, ◌⊎◌, ◌+◌, ◌*◌, ◌++◌, ◌∷◌, [], ℕ, List, Ok, true, false, length, map, if◌then◌else◌},
   List.{flat_map, range_with_len},
 };
-ghost use Rattle.ends_core.specs.Ends.{tail_of};
-ghost use Rattle.follow_core.specs.{Run.{AreKept, name_text}, Version.entries_of};
-ghost use Rattle.ports_core.specs.{Slot.slot_at, Source.source_of};
+ghost use Rattle.follow_core.specs.Run.{AreKept, name_text};
+ghost use Rattle.ports_core.specs.Slot.{slot_at};
 ghost use Rattle.seg_core.specs.{
   Line.{joined, line_count, lines_of},
   declared.{
@@ -25,13 +24,12 @@ ghost use Rattle.run_core.specs.Input.{Input};
 ghost use Rattle.split_core.specs.Chunks.{AreEven, BeginInChunks, KeepLines, chunks_in};
 ghost use Rattle.operand_core.specs.{Reading.Asks, declared.operand.Operand.Operand};
 ghost use Rattle.tools_core.specs.{
-  Following.is_name,
-  Promises.{AreChunks, AreCopies, AreDealt, AreLinePieces, AreListed, AreNumbered, ArePieces, AreSections},
+  Promises.{AllSplit, AreChunks, AreCopies, AreDealt, AreLinePieces, AreListed, AreNumbered, ArePieces, AreSections},
   Promises.{AreUncut, BeginsEach, Completes, CountAlike, Does, AsksToFollow, EndsWithBreak, FindAlike},
-  Promises.{Follows, GivesOther, HasInput, HasLong, IsBare, IsChunkAsShown, IsCutAsShown, IsHead, IsOfProgram},
-  Promises.{IsSilent, LostReader, IsStopped, IsTail, SaysWhy, LeaveAlike, OnlyGrows, Ran, Run, SkipNothing, Splits},
-  Promises.{WhyBroken, contents_of, files_of, lines_telling, makes_files, output_of, showing, text_at},
-  Tasks.is_plus,
+  Promises.{Follows, FollowsOne, GivesOther, HasInput, HasLong, IsBare, IsChunkAsShown, IsCutAsShown, IsHead, IsOfProgram},
+  Promises.{IsSilent, LostReader, IsStopped, IsTail, SaysWhy, LeaveAlike, IsGrowing, Ran, SkipNothing, Splits},
+  Promises.{WhyBroken, contents_of, files_of, lines_telling, held, makes_files, output_of, tail_part, text_at, versions_of},
+  Run.{IsUnread, Run},
 };
 ghost use Rattle.words_core.specs.{
   CsplitWords.CsplitAsked,
@@ -53,7 +51,7 @@ pub fn program_makes_these_runs()
         → follows run.calling run.fed asked ≡ false → Ran run asked × (run.seen ≡ []) × (run.watched ≡ []) }
     ensures followed { (run : Run) (options : EndsAsked) (followed : Followed) (looks : ℕ) → IsOfProgram run
         → AsksToFollow run options followed looks → run.status ≡ 0 → Follows run looks options followed
-        × (run.inputs ≡ source_of run.world.standard ∷ []) }
+        × IsUnread run }
 {}
 
 /// The first N lines of an input, and all lines from the next line on, written one after another, are the input:
@@ -163,10 +161,10 @@ pub fn split_loses_nothing()
         → text_at (lines_of delim (output_of one)) k ≡ text_at (lines_of delim input) (place + k * n) }
     ensures together { (runs : ℕ → Run) (asked : ℕ → SplitAsked) (chunks : Chunks) (input : List ℕ)
         → 0 < chunks.count
-        → ((place : ℕ) → place < chunks.count → Splits (runs place) (asked place) (way.Chunk place chunks) input)
+        → AllSplit runs asked chunks.count (λ place. way.Chunk place chunks) input
         → flat_map (λ place. output_of (runs place)) (range_with_len 0 chunks.count) ≡ input }
     ensures turns { (runs : ℕ → Run) (asked : ℕ → SplitAsked) (n delim : ℕ) (input : List ℕ) → 0 < n
-        → ((place : ℕ) → place < n → Splits (runs place) (asked place) (way.Turn place n delim) input)
+        → AllSplit runs asked n (λ place. way.Turn place n delim) input
         → AreDealt delim n false input (map (λ place. output_of (runs place)) (range_with_len 0 n)) }
     ensures changed { (split : Run) (asked : SplitAsked) (chunks : Chunks) (input : Input) (shown bytes : List ℕ)
         → Completes split (Split asked) → GivesOther split input shown bytes → asked.way ≡ way.Chunks chunks
@@ -221,17 +219,10 @@ pub fn faults_leave_a_beginning()
 /// What the file has between looks doesn't matter. If `tail` was called by its own name and follows names, a name that
 /// can't be read at a look is missing then.
 pub fn tail_follows()
-    ensures grows { (run : Run) (options : EndsAsked) (followed : Followed) (name came : List ℕ) (file n : ℕ)
-        → Follows run (n + 1) options followed → IsBare options → options.names ≡ name ∷ []
-        → OnlyGrows (length run.seen) (showing run followed) name file
-        → (showing run followed n).holds file ≡ (showing run followed 0).holds file ++ came
-        → (slot_at run.outputs 0).written
-        ≡ tail_of options.delim options.unit (is_plus options.count.sign) options.count.amount
-        ((showing run followed 0).holds file) ++ came }
-    ensures text { (run : Run) (count : ℕ) (options : EndsAsked) (followed : Followed) (name : List ℕ)
-        → Follows run count options followed → IsBare options → options.names ≡ name ∷ []
-        → AreKept (entries_of (is_name followed) name run.seen)
-        → (slot_at run.outputs 0).written
-        ≡ name_text (tail_of options.delim options.unit (is_plus options.count.sign) options.count.amount)
-        (entries_of (is_name followed) name run.seen) }
+    ensures grows { (run : Run) (options : EndsAsked) (n file : ℕ) (came : List ℕ)
+        → (one : FollowsOne run (n + 1) options) → IsGrowing one file
+        → held one n file ≡ held one 0 file ++ came
+        → output_of run ≡ tail_part options (held one 0 file) ++ came }
+    ensures text { (run : Run) (count : ℕ) (options : EndsAsked) (one : FollowsOne run count options)
+        → AreKept (versions_of one) → output_of run ≡ name_text (tail_part options) (versions_of one) }
 {}

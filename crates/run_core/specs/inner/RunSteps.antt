@@ -1,7 +1,7 @@
 -- What private calls say: what becomes of an input that is fed to an engine piece by piece, what each step of a run
 -- over its inputs leaves, and what it leaves of these.
 use Rattle.std.specs.{
-  Prelude.{◌≡◌, ℕ, Bool, true, false, List, Result, Ok, Err, ◌&&◌, ◌||◌, ◌∷◌, ◌++◌, length, Option, Some, None},
+  Prelude.{◌≡◌, ℕ, Bool, true, false, List, Result, Ok, Err, ◌&&◌, ◌||◌, length, Option, Some, None},
   Prelude.{if◌then◌else◌, ◌≤◌, ◌<◌},
 }
 use Rattle.ports_core.specs.{
@@ -11,18 +11,19 @@ use Rattle.ports_core.specs.{
   Engine.{Clears, Terms, Finishes, is_verdict},
   declared.fault.Fault.{Fault, TheVariants.{Memory, Write}},
   Source.{Content, Source, source_at},
-  Part.{Part, OutputsAt, StoppedBetween},
+  Part.{Part, OutputsAt},
   Write.BrokeAfter,
-  Inputs.{KeepsOthers, empty, largest_piece, AsksAtMost},
-  Streams.{streams_with, standard_error},
+  Inputs.{KeepsOthers, empty, AsksAtMost},
+  Streams.{streams_with},
 }
 use Rattle.run_core.specs.{
   declared.{feeding.Fed.Fed, inputs.RunProgress.RunProgress},
-  Feeding.{Step, Stops},
+  Feeding.{FedAs, IsCall, StoppedStep, is_stop},
   Input.{Input, IsFor, World, is_dash, input_of, next_slot},
-  Reading.{AreDone, AreUntouched, IsDone, reason_of},
-  RunEnds.{RunStep, SaysFrom, SaysOf},
-  Task.{Task, Outcome, made_by, after_part, header_text, is_missing, are_missing},
+  Reading.{AreUntouched, IsDone, Leaves, reason_of},
+  RunEnds.{AllDone, RunStep, SaysFrom, StoppedAt},
+  RunSteps.{IsShown, world_of},
+  Task.{Task, made_by, after_part, is_missing, of_input},
 }
 
 -- How closing an engine that has all of its input ends: it finished; or a fault stopped it, and its files go if the
@@ -53,54 +54,6 @@ pub data HeaderFails (told : Bool) (text : List ℕ) (old new : List Slot) : Fau
 abbrev pub input_from : List ℕ → Option ℕ → Option (List ℕ) → Content → Input
 input_from name slot shown content = record { name = name; slot = slot; shown = shown; content = Some content }
 
--- One input was done with this outcome, or a fault stopped the run there. The progress says whether no header was
--- written yet, whether a fault was met, and whether standard input was read. The files from `first` on may be removed.
-pub data TookInput (told_in told : Bool) (task : Task) (most : ℕ) (input : Input) (outcome : Outcome)
-    (is_first failed was_read : Bool) (so_far : Part) (error : Slot) (first : ℕ) (sources : List Source)
-    (new : List Slot) : Result RunProgress Fault → Type 0 where
-  took : (next : RunProgress) (after : Slot) (reached : List Slot)
-      → next ≡ record {
-        was_read = was_read;
-        is_first = is_first && is_missing input.content;
-        failed = failed || outcome.failed;
-      }
-      → IsDone told_in (task.work input.shown) most input.slot input.content sources
-      → SaysFrom told task.speaker (reason_of input.slot sources) outcome.messages error after
-      → OutputsAt told (streams_with after) (after_part so_far outcome.part) reached
-      → Swept outcome.sweeps first reached new
-      → TookInput told_in told task most input outcome is_first failed was_read so_far error first sources new
-      (Ok next)
-  cut_off : (fault : Fault) (step : Step) (reached : List Slot)
-      → RunStep told_in task input.shown most so_far
-      (header_text task.with_header is_first input.name) input.slot sources input.content step
-      → Stops step reached fault
-      → StoppedBetween step.output told (streams_with error) step.low step.high fault reached
-      → Swept (task.work input.shown).clears first reached new
-      → TookInput told_in told task most input outcome is_first failed was_read so_far error first sources new
-      (Err fault)
-
--- all inputs were done, or a fault stopped the run at one of them, or before the first
-pub data TookAll (told_in told : Bool) (task : Task) (inputs : List Input) (sources : List Source)
-    (new : List Slot) : Result Bool Fault → Type 0 where
-  all : (failed : Bool) (error : Slot) (reached : List Slot) → failed ≡ (made_by task inputs).failed
-      → SaysOf told task sources inputs standard_error error
-      → OutputsAt told (streams_with error) (made_by task inputs).part reached
-      → Swept (made_by task inputs).sweeps 2 reached new
-      → AreDone told_in task.work largest_piece inputs sources
-      → TookAll told_in told task inputs sources new (Ok failed)
-  stopped_at : (fault : Fault) (before : List Input) (input : Input) (after : List Input) (error : Slot) (step : Step)
-      (reached : List Slot)
-      → inputs ≡ before ++ input ∷ after → AreDone told_in task.work largest_piece before sources
-      → AreUntouched after sources
-      → RunStep told_in task input.shown largest_piece (made_by task before).part
-      (header_text task.with_header (are_missing before) input.name) input.slot sources input.content step
-      → Stops step reached fault → SaysOf told task sources before standard_error error
-      → StoppedBetween step.output told (streams_with error) step.low step.high fault reached
-      → Swept (task.work input.shown).clears 2 reached new
-      → TookAll told_in told task inputs sources new (Err fault)
-  not_begun : new ≡ streams → AreUntouched inputs sources → length sources ≡ 1
-      → TookAll told_in told task inputs sources new (Err Memory)
-
 -- `P` is true of the input that a source gives: standard input or a file by its number, or an empty input
 abbrev pub OfSource : Bool → Option ℕ → List Source → (Content → Type 0) → Type 0
 OfSource told None sources P = P empty
@@ -110,6 +63,99 @@ OfSource told (Some slot) sources P = (content : Content) × (told ≡ true → 
 abbrev pub OfName : Bool → World → Bool → ℕ → List ℕ → (Input → Type 0) → Type 0
 OfName told world was_read slot name P = (input : Input) × IsFor was_read slot name input
     × (told ≡ true → input ≡ input_of world was_read slot name (is_dash name)) × P input
+
+-- the outputs and the sources at one moment
+pub record Moment : Type 0 where
+  pub sources : List Source
+  pub slots : List Slot
+
+abbrev pub moment_of : List Source → List Slot → Moment
+moment_of sources slots = record { sources = sources; slots = slots }
+
+-- the input of a source was fed to an engine of its own, which was opened by what the source shows
+abbrev pub FedSource : (told_in told : Bool) → Task → (most : ℕ) → Option ℕ → (old new : Moment) → Result Fed Fault
+    → Type 0
+FedSource told_in told task most source old new result =
+    (shown : Option (List ℕ)) × IsShown told_in source old.sources shown
+    × OfSource told_in source old.sources (λ content.
+    FedAs told old.slots (task.work shown) content
+    (λ call. IsCall (task.work shown) (task.opening shown) most content call
+    × Leaves told_in content source new.sources call) new.slots result
+    × (is_stop result ≡ false → IsDone told_in (task.work shown) most source (Some content) new.sources))
+
+-- where a run stands before an input
+pub record Start : Type 0 where
+  -- whether no header was written yet, whether a fault was met, and whether standard input was read
+  pub progress : RunProgress
+  pub sources : List Source
+  -- how many bytes a piece has at most
+  pub most : ℕ
+  -- what was written, if bytes of outputs are visible, and standard error
+  pub told : Bool
+  pub part : Part
+  pub error : Slot
+  -- how many outputs there are; the files after these may be removed
+  pub count : ℕ
+
+abbrev pub start_at : {told : Bool} {slots : List Slot} → HasStreams told slots → RunProgress → ℕ → List Source → Start
+start_at {told} {slots} had progress most sources = record {
+  progress = progress;
+  sources = sources;
+  most = most;
+  told = told;
+  part = had.part;
+  error = had.error;
+  count = length slots;
+}
+
+-- what an input makes of how far a run has come
+abbrev pub progress_past : Task → Input → RunProgress → RunProgress
+progress_past task input progress = record progress {
+  is_first = progress.is_first && is_missing input.content;
+  failed = progress.failed || (of_input task progress.is_first input).failed;
+}
+
+-- one input was done, or a fault stopped the run there
+pub data TookInput (told : Bool) (task : Task) (input : Input) (start : Start) (sources : List Source)
+    (new : List Slot) : Result RunProgress Fault → Type 0 where
+  took : (next : RunProgress) (after : Slot) (reached : List Slot) → next ≡ progress_past task input start.progress
+      → IsDone told (task.work input.shown) start.most input.slot input.content sources
+      → SaysFrom start.told task.speaker (reason_of input.slot sources)
+      (of_input task start.progress.is_first input).messages start.error after
+      → OutputsAt start.told (streams_with after)
+      (after_part start.part (of_input task start.progress.is_first input).part) reached
+      → Swept (of_input task start.progress.is_first input).sweeps start.count reached new
+      → TookInput told task input start sources new (Ok next)
+  cut_off : (fault : Fault)
+      → StoppedStep start.told (streams_with start.error) start.count (task.work input.shown).clears
+      (RunStep told task start.most start.part start.progress.is_first input sources) fault new
+      → TookInput told task input start sources new (Err fault)
+
+-- the same of the input of this source, which has this name
+abbrev pub TookSource : (told : Bool) → Task → List ℕ → Option ℕ → Start → List Source → List Slot
+    → Result RunProgress Fault → Type 0
+TookSource told task name source start sources new result =
+    (shown : Option (List ℕ)) × IsShown told source start.sources shown × OfSource told source start.sources
+    (λ content. TookInput told task (input_from name source shown content) start sources new result)
+
+-- the same of the input for this name
+abbrev pub TookName : (told : Bool) → (ℕ → List ℕ → Option Content) → Task → List ℕ → Start → List Source → List Slot
+    → Result RunProgress Fault → Type 0
+TookName told laid task name start sources new result =
+    OfName told (world_of laid start.sources) start.progress.was_read (length start.sources) name
+    (λ input. TookInput told task input
+    (record start { progress = record start.progress { was_read = start.progress.was_read || is_dash name } }) sources
+    new result)
+
+-- all inputs were done, or a fault stopped the run at one of them, or before the first
+pub data TookAll (told_in told : Bool) (task : Task) (inputs : List Input) (sources : List Source)
+    (new : List Slot) : Result Bool Fault → Type 0 where
+  all : (failed : Bool) → failed ≡ (made_by task inputs).failed → AllDone told_in told task inputs sources new
+      → TookAll told_in told task inputs sources new (Ok failed)
+  stopped_at : (fault : Fault) → StoppedAt told_in told task inputs sources fault new
+      → TookAll told_in told task inputs sources new (Err fault)
+  not_begun : new ≡ streams → AreUntouched inputs sources → length sources ≡ 1
+      → TookAll told_in told task inputs sources new (Err Memory)
 
 -- no input except that of the source was touched
 abbrev pub KeepsOther : Option ℕ → List Source → List Source → Type 0

@@ -12,7 +12,7 @@ use Rattle.ports_core.{
   specs.{Source.{gets_back, Source, source_at}, Work.{Work, IsSettled}, Engine.{EndsWith, is_verdict}},
 }
 use Rattle.run_core.{
-  specs.Feeding.{IsUnread, enough, is_stop, to_end, broke_off},
+  specs.Feeding.{IsUnread, broke_off, closes, enough, feeds, is_stop, to_end},
   proofs.FeedingLemmas.{OfVerdict, of_more, of_read, read_to_used, told_by_complete, alike_after, alike_itself},
   proofs.FeedingLemmas.{judges, goes_on, stopped_feeding, ended, needed_more, piece_within, ends_sound},
   proofs.FeedingLemmas.{needed_within, read_used, takes_more, uses_all, uses_judged, uses_part, needed_front},
@@ -61,14 +61,14 @@ returns-in-Err g c =
     let so_far = c.pieces.invariant in
     let work = g.S.Stage.terms.work c.pieces.engine.stage in
     let going = sym (c.done.ensures.complete so_far.fed so_far.feeds.holds) ∙ c.pieces-test.true in record {
-      ends = λ before opening own at.
+      ends = λ before opening begun.
           of_read g.I.Inputs.told _ so_far.fed true _ _ (λ told. read_broken _ _ _ _ (so_far.read told) (c.in-Err.ensures.break_off told))
           (λ content. came_broken g.I.Inputs.told _ _ _ _ so_far.readable c.in-Err.ensures.err)
           (λ content is bytes breaks came. (
             rw (← so_far.feeds.same)
                 (broke_off breaks (ap work.is_complete bytes ∙ going)
-                (g.O.Outs.slots c.pieces.outs) (rw bytes (so_far.feeds.outputs before (own, at)))
-                (c.abandon.ensures.sweeps.swept (length before) (so_far.feeds.owns (length before) own))),
+                (g.O.Outs.slots c.pieces.outs) (rw bytes (so_far.feeds.outputs before begun))
+                (c.abandon.ensures.sweeps.swept (length before) (so_far.feeds.owns (length before) begun.0))),
             λ ends sound going. absurd (false≢true (sym sound ∙ breaks)),
           ));
       others = keeps_again _ _ _ _ so_far.others (keeps_others _ _ _ _ c.in-Err.ensures.err.1);
@@ -99,23 +99,23 @@ returns-then-n-eq0 g c =
     (source_at (g.I.Inputs.sources c.read_part.new.inputs) c.args.slot).reached ≤ length so_far.fed
     = λ told unread. rw (ap (λ more. so_far.fed ++ more) nothing ∙ append-nil so_far.fed) at
     ((takes_more _ (so_far.took told) so_far.readable (c.in-Ok.ensures.bytes told) c.in-Ok.ensures.rest).far unread) in record {
-      ends = λ before opening own at.
+      ends = λ before opening begun.
           of_read g.I.Inputs.told _ so_far.fed false _ _
           (λ told. let at_end = (c.in-Ok.ensures.bytes told).ended c.if-n-eq0.true (omega arith) in let all =
           read_to_end _ _ _ _ (so_far.read told) at_end.0 at_end.1 in (all.1, all.0))
           (λ content. came_sound g.I.Inputs.told _ c.args.slot can)
           (λ content is bytes sound came. (
-            ended so_far.feeds g.met.S.Stage.lawful _ (own, at) (sound, going, bytes) (to_end sound bytes) (alike_itself)
-                (rw so_far.feeds.same so_far.needed) (
-                  record {
-                    came = came;
-                    sound = sound_at (g.I.Inputs.sources c.read_part.new.inputs) c.args.slot
-                        can;
-                    ended = λ _. at_end;
-                    joined = λ told. is told ∙ left told;
-                  },
-                  λ told unread standard. rw going (omega (arith, far told unread)),
-                )
+            ended so_far.feeds g.met.S.Stage.lawful _ begun (sound, going, bytes) (alike_itself) (
+              rw (← so_far.feeds.same) (closes so_far.fed (to_end sound bytes) (rw so_far.feeds.same so_far.needed)),
+              record {
+                came = came;
+                sound = sound_at (g.I.Inputs.sources c.read_part.new.inputs) c.args.slot
+                    can;
+                ended = λ _. at_end;
+                joined = λ told. is told ∙ left told;
+              },
+              λ told unread standard. rw going (omega (arith, far told unread)),
+            )
                 c.end.ensures,
             λ ends sound going. at_end,
           ));
@@ -191,14 +191,15 @@ returns-in-Err-feed g c =
     (EndsWith g.S.Stage.terms (take c.in-Ok.n c.read_part.new.buffer) c.pieces.engine.stage)
     (ap is_verdict (sym c.given_up.ensures.same) ∙ not-false (is_verdict c.given_up.result) ends) c.in-Err-feed.ensures.passes.met in
     (verdict, is, settled so_far.fed so_far.feeds.holds.within) in record {
-      ends = λ before opening own at.
+      ends = λ before opening begun.
           let within : length (take c.in-Ok.n c.read_part.new.buffer) ≤ length c.args.buffer.now = piece_within c.read_part.new.buffer
           (omega (arith, c.in-Ok.ensures.bound, c.piece_size-size.ensures.within, so_far.room)) in
           of_more g.I.Inputs.told _ (so_far.fed ++ take c.in-Ok.n c.read_part.new.buffer) _ _ _ more
           (λ content. came_sound g.I.Inputs.told _ c.args.slot can)
           (λ content is rest bytes came. (
             rw c.given_up.ensures.same (stopped_feeding so_far.feeds g.met.S.Stage.lawful c.feed.new.self _
-                (take c.in-Ok.n c.read_part.new.buffer) rest (own, at) bytes within going (
+                (take c.in-Ok.n c.read_part.new.buffer) rest begun bytes (
+                  rw (← so_far.feeds.same) (feeds so_far.fed (take c.in-Ok.n c.read_part.new.buffer) rest bytes within going),
                   record {
                     came = came;
                     sound = sound_at (g.I.Inputs.sources c.read_part.new.inputs) c.args.slot
@@ -247,17 +248,17 @@ returns g c =
     (so_far.few standard _ (rw so_far.feeds.same at spare)) in
     let back = c.give_back.ensures.rest in record {
       broke = ends_sound _ _ _ (inr refl) c.end-2.ensures;
-      ends = λ before opening own at.
+      ends = λ before opening begun.
           let used = complete_used _ so_far.fed _ spare done in
           let readable = ap (λ (source : Source). source.is_open && not source.is_broken) (changed_source _ (gets_back _) _ _ so_far.readable back)
           ∙ so_far.readable in
           of_more g.I.Inputs.told _ so_far.fed _ _ _ (λ told. (so_far.read told).bytes)
           (λ content. came_sound g.I.Inputs.told (g.I.Inputs.sources c.give_back.new.self) c.args.slot readable)
           (λ content is rest bytes came. (
-            ended so_far.feeds g.met.S.Stage.lawful _ (own, at) (done, (rest, bytes))
-                (enough (spare.rest ++ rest) (bytes ∙ ap (λ those. those ++ rest) spare.joined ∙ append_assoc spare.used spare.rest rest) used)
-                (alike_after spare.rest (g.met.S.Stage.lawful _ _ so_far.feeds.holds.within) used spare.joined)
-                (needed_within c.requires.room spare.needed) (
+            ended so_far.feeds g.met.S.Stage.lawful _ begun (done, (rest, bytes))
+                (alike_after spare.rest (g.met.S.Stage.lawful _ _ so_far.feeds.holds.within) used spare.joined) (
+                  rw (← so_far.feeds.same) (closes spare.used (enough (spare.rest ++ rest) (bytes ∙ ap (λ those. those ++ rest) spare.joined ∙ append_assoc spare.used spare.rest rest) used)
+                      (needed_within c.requires.room spare.needed)),
                   record {
                     came = came;
                     sound = sound_at (g.I.Inputs.sources c.give_back.new.self) c.args.slot readable;

@@ -17,8 +17,17 @@ returns-in_err-engine-clause-fed g c =
       shown,
       says,
       of_looked _ _ _ _ _ _ looked
-          (unread_source _ _ _ _ (looked_can _ _ _ _ looked c.requires.input) (looked_unread _ _ _ _ looked c.requires.unread) (λ content unread.
-          (stopped _ short.unjudged _ opens (unread _ refl refl) short.reached short.why short.stop short.swept, λ ends. absurd (false≢true (sym ends ∙ ap not short.unjudged))))),
+          (unread_source _ _ _ _ (looked_can _ _ _ _ looked c.requires.input) (looked_unread _ _ _ _ looked c.requires.unread) (λ content unread. (
+            stopped _ short.unjudged (record {
+              step = _;
+              is = (opens, unread _ refl refl);
+              reached = short.reached;
+              stops = short.why;
+              between = short.stop;
+              swept = short.swept;
+            }),
+            λ ends. absurd (false≢true (sym ends ∙ ap not short.unjudged)),
+          ))),
     )
 
 pub returns-in-Some-clause-fed : goal.returns-in-Some-clause-fed
@@ -31,7 +40,19 @@ returns-in-Some-clause-fed g c =
       says,
       of_looked _ _ _ _ _ _ looked
           (rw (c.in-Some.is, ← c.open.auto.buffer, ← had.does) (left_of _ _ _ (still_within c.in-Some.is can c.feed_input.ensures.others)
-          (λ content. fed_so (λ call left. (left.0, λ told. left.1 told (rw c.in-Some.is at unread))))
+          (λ content. fed_so (λ call is. (is.0, (is.1, λ told. is.2 told (rw c.in-Some.is at unread)))))
           (λ told ends. c.feed_input.ensures.used told ends (rw c.in-Some.is at unread))
-          (c.feed_input.ensures.ends _ _ had.owns (rw (← had.does) at had.outputs)))),
+          (c.feed_input.ensures.ends _ _ (had.owns, rw (← had.does) at had.outputs)))),
+    )
+
+pub returns-clause-fed : goal.returns-clause-fed
+returns-clause-fed g c =
+    let looked = c.in_ok-engine.ensures.looked in
+    let (shown, says, had, short) = c.in_ok-engine.ensures.opens in (
+      shown,
+      says,
+      of_looked _ _ _ _ _ _ looked (rw (c.in-None.is, ← had.does) (
+        fed_so (λ call is. (is, tt)) (c.feed_nothing.ensures.ends _ _ _ (had.owns, rw (← had.does) at had.outputs)),
+        λ ends. tt,
+      )),
     )

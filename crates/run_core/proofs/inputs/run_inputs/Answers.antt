@@ -1,6 +1,6 @@
 use Rattle.run_core.{
   specs.inner.RunSteps.not_begun,
-  proofs.InputLemmas.{fresh_counts, ran_into, ran_through, stop_open, none_touched},
+  proofs.InputLemmas.{fresh_counts, fresh_is, ran_into, ran_through, stop_open, none_touched},
 }
 use Rattle.std.proofs.Common.{◌∙◌, map, refl, ap, length}
 use Rattle.ports_core.proofs.{InputsLemmas.fresh_asks, Runs.as_status}
@@ -9,7 +9,7 @@ use Rattle.run_core.proofs.inputs.run_inputs.Goals as goal
 pub returns-in_default : goal.returns-in_default
 returns-in_default g c = record {
   untouched = λ none. refl;
-  ends = let (found, finds, untouched) = none_touched c.requires.fresh in
+  ends = let (found, finds, untouched) = none_touched (fresh_is c.requires.fresh) in
       let tells = rw c.speaker.ensures at c.tell.ensures in
       (found, finds, ran_into (not_begun c.requires.outputs untouched (ap length c.requires.fresh.only)) tells.told tells.status);
   opened = fresh_counts (map (λ name. name.now) c.args.names.now) c.requires.fresh;

@@ -7,14 +7,14 @@ use Rattle.run_core.proofs.inputs.take_name.Goals as goal
 -- the name is `-`
 
 pub returns-then-is_dash-clause-took : goal.returns-then-is_dash-clause-took
-returns-then-is_dash-clause-took g c so_far error opened at =
-    took_standard _ (g.I.Inputs.laid c.args.inputs.now) c.args.name.now (g.I.Inputs.sources c.args.inputs.now) c.standard_source-source.ensures (sym c.is_dash.ensures ∙ c.if-is_dash.true) (c.take_input.ensures.took so_far error opened at)
+returns-then-is_dash-clause-took g c had =
+    took_standard c.args.progress (g.I.Inputs.laid c.args.inputs.now) c.args.name.now (g.I.Inputs.sources c.args.inputs.now) had c.standard_source-source.ensures (sym c.is_dash.ensures ∙ c.if-is_dash.true) (c.take_input.ensures.took had)
 
 -- the file was opened
 
 pub returns-in-Ok-clause-took : goal.returns-in-Ok-clause-took
-returns-in-Ok-clause-took g c so_far error opened at =
-    took_opened (sym c.is_dash.ensures ∙ c.if-is_dash.false) c.in-Ok.ensures.ok (c.take_input-in-Ok.ensures.took so_far error opened at)
+returns-in-Ok-clause-took g c had =
+    took_opened had (sym c.is_dash.ensures ∙ c.if-is_dash.false) c.in-Ok.ensures.ok (c.take_input-in-Ok.ensures.took had)
 
 pub returns-in-Ok-clause-takes : goal.returns-in-Ok-clause-takes
 returns-in-Ok-clause-takes g c = takes_file (sym c.is_dash.ensures ∙ c.if-is_dash.false) c.requires.some c.in-Ok.ensures.ok c.take_input-in-Ok.ensures.others c.take_input-in-Ok.ensures.asked
@@ -22,8 +22,8 @@ returns-in-Ok-clause-takes g c = takes_file (sym c.is_dash.ensures ∙ c.if-is_d
 -- the file can't be opened
 
 pub returns-in-Open-clause-took : goal.returns-in-Open-clause-took
-returns-in-Open-clause-took g c so_far error opened at =
-    of_missing (sym c.is_dash.ensures ∙ c.if-is_dash.false) c.in-Err.ensures.err c.in-Open.is at c.say_why.ensures
+returns-in-Open-clause-took g c had =
+    of_missing had (sym c.is_dash.ensures ∙ c.if-is_dash.false) c.in-Err.ensures.err c.in-Open.is c.say_why.ensures
 
 pub returns-in-Open-clause-takes : goal.returns-in-Open-clause-takes
 returns-in-Open-clause-takes g c = takes_missing (sym c.is_dash.ensures ∙ c.if-is_dash.false) c.requires.some c.in-Err.ensures.err
@@ -32,7 +32,7 @@ returns-in-Open-clause-takes g c = takes_missing (sym c.is_dash.ensures ∙ c.if
 
 pub returns-in_default : goal.returns-in_default
 returns-in_default g c = record {
-  took = λ so_far error opened at. of_no_room c.args.progress.was_read (sym c.is_dash.ensures ∙ c.if-is_dash.false) c.in-Err.ensures.err c.in_default.not-Open at;
+  took = λ had. of_no_room c.args.progress had (sym c.is_dash.ensures ∙ c.if-is_dash.false) c.in-Err.ensures.err c.in_default.not-Open;
   takes = takes_missing (sym c.is_dash.ensures ∙ c.if-is_dash.false) c.requires.some c.in-Err.ensures.err;
   opens = tt;
   laid = c.open.ensures.kept;

@@ -5,9 +5,10 @@ use Rattle.std.proofs.{
 use Rattle.ports_core.specs.Source.{Content}
 use Rattle.run_core.specs.Input.{Input, inputs_at, standard_input}
 use Rattle.words_core.specs.declared.settings.Settings.{Settings}
-use Rattle.tools_core.specs.{Promises.{HasLong, Run}, Tasks.names_of}
+use Rattle.tools_core.specs.{Promises.{HasLong}, Tasks.names_of}
 use Rattle.run_tests.{specs.inner.Calls.{in_pipe, run_of}}
 use Rattle.run_tests.proofs.law_calls.begun.Goals as goal
+use Rattle.tools_core.specs.Run.{Run}
 
 only_one : {A : Type 0} (x y : A) (before after : List A) → x ∷ [] ≡ before ++ y ∷ after → x ≡ y
 only_one x y [] after same = cc

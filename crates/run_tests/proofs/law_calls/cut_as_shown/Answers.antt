@@ -4,12 +4,13 @@ use Rattle.run_core.specs.Input.{Input, file_input, inputs_at}
 use Rattle.words_core.specs.{SplitWords.SplitAsked, declared.settings.Settings.{Settings, TheVariants.Split}}
 use Rattle.tools_core.specs.{
   Outcome.{names_at, names_read},
-  Promises.{GivesOther, Run},
+  Promises.{GivesOther},
 }
 use Rattle.run_tests.{
   specs.inner.Calls.{in_file, run_of},
 }
 use Rattle.run_tests.proofs.law_calls.cut_as_shown.Goals as goal
+use Rattle.tools_core.specs.Run.{Run}
 
 shown_some : (text : List ℕ) → 0 < length text → shown_by text ≡ Some text
 shown_some [] some = absurd (omega (arith, some))

@@ -5,12 +5,13 @@ use Rattle.std.proofs.{
 use Rattle.std.specs.List.{flat_map, range_with_len}
 use Rattle.seg_core.specs.declared.cut.{Chunks.Chunks, Way.TheVariants.Chunk}
 use Rattle.words_core.specs.SplitWords.{SplitAsked}
-use Rattle.tools_core.specs.Promises.{Run, Splits, output_of}
+use Rattle.tools_core.specs.Promises.{Splits, output_of}
 use Rattle.run_tests.{
   specs.inner.Calls.{in_file, run_of},
   proofs.{CallLemmas.{below_two, one_or}},
 }
 use Rattle.run_tests.proofs.law_calls.halves.Goals as goal
+use Rattle.tools_core.specs.Run.{Run}
 
 -- the law, of all runs that write one chunk each
 abbrev MeetAll : Type 0

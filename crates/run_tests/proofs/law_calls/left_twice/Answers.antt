@@ -3,12 +3,13 @@ use Rattle.run_core.specs.Input.{inputs_at}
 use Rattle.words_core.specs.declared.settings.Settings.{Settings}
 use Rattle.tools_core.{
   proofs.SameLemmas.all_alike,
-  specs.{Outcome.names_read, Promises.{Completes, FindAlike, IsSilent, IsStopped, LeaveAlike, Ran, Run}},
+  specs.{Outcome.names_read, Promises.{Completes, FindAlike, IsSilent, IsStopped, LeaveAlike, Ran}},
 }
 use Rattle.run_tests.{
   specs.inner.Calls.{IsCutShort, in_pipe, run_of},
 }
 use Rattle.run_tests.proofs.law_calls.left_twice.Goals as goal
+use Rattle.tools_core.specs.Run.{Run}
 
 -- both laws
 

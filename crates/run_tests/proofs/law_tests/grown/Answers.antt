@@ -1,12 +1,14 @@
 use Rattle.std.proofs.Common.{◌≡◌, ℕ, ◌+◌, ◌++◌, List, [], length, map, refl, ap, subst}
 use Rattle.ends_core.specs.Ends.{tail_of}
-use Rattle.ports_core.specs.{Slot.slot_at, Source.unshown, declared.calling.Calling.TheVariants.Cutters}
-use Rattle.mem_core.specs.{MemInState.{MemInState, laid_in}, MemWatchState.{is_fed, seen, shows}}
+use Rattle.ports_core.specs.{Slot.slot_at, declared.calling.Calling.TheVariants.Cutters}
+use Rattle.mem_core.specs.{MemInState.laid_in, MemWatchState.{is_fed, seen, shows}}
 use Rattle.watch_core.specs.Snapshot.{Snapshot}
 use Rattle.words_core.specs.EndsWords.{EndsAsked}
-use Rattle.tools_core.specs.{Promises.{OnlyGrows, Run, to_follow}, Tasks.is_plus}
-use Rattle.run_tests.proofs.{CallLemmas.of_program, FollowedLemmas.showing-plain}
+use Rattle.tools_core.specs.{Promises.{OnlyGrows, to_follow}, Tasks.is_plus}
+use Rattle.run_tests.proofs.FollowedLemmas.{showing-plain}
+use Rattle.run_core.specs.RunSteps.{world_of}
 use Rattle.run_tests.proofs.law_tests.grown.Goals as goal
+use Rattle.tools_core.specs.Run.{Run}
 
 -- what standard output has, if these looks show that the file only grows
 abbrev Tells : Run → EndsAsked → (name came : List ℕ) (file n : ℕ) → (ℕ → Snapshot) → Type 0
@@ -20,7 +22,7 @@ returns c options followed name came file n pause read no_input bare named grows
     let run : Run = record {
       calling = Cutters;
       words = map (λ word. word.now) c.args.words.now;
-      world = record { laid = laid_in c.in_ok-inputs.inputs.files c.in_ok-inputs.inputs.breaks; standard = unshown [] };
+      world = world_of (laid_in c.in_ok-inputs.inputs.files c.in_ok-inputs.inputs.breaks) c.in_ok-inputs.inputs.sources;
       fed = is_fed c.args.watch.now;
       shows = shows c.args.watch.now;
       inputs = c.run_words.new.inputs.sources;
@@ -29,8 +31,8 @@ returns c options followed name came file n pause read no_input bare named grows
       outputs = c.run_words.new.outs;
       status = c.run_words.result;
     } in
-    let of = of_program run (ap (λ (found : MemInState). found.sources) c.in_ok-inputs.ensures) c.run_words.ensures.ends in
     let same = showing-plain run (to_follow options followed (n + 1) pause) followed refl read refl in
-    let follows = (c.program_makes_these_runs.ensures.followed run options followed (n + 1) of (pause, read, rw no_input refl) c.if-run_words-ne0.false).0 in
+    let follows = (c.program_makes_these_runs.ensures.followed run options followed (n + 1) c.run_words.ensures.ends (pause, read, rw no_input refl) c.if-run_words-ne0.false).0 in
     subst (Tells run options name came file n) same
-    (c.tail_follows.ensures.grows run options followed name came file n follows bare named) (grows (length run.seen)) held
+    (c.tail_follows.ensures.grows run options n file came
+    (record { followed = followed; name = name; follows = follows; bare = bare; named = named })) (grows (length run.seen)) held

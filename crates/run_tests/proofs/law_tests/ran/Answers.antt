@@ -1,15 +1,10 @@
 -- A run of these words is one in the sense of the laws.
-use Rattle.std.proofs.Common.{◌≡◌, false, List, [], ◌∷◌, map, refl, ◌∙◌, ap}
-use Rattle.ports_core.specs.Source.{IsFresh, Source, source_at, source_of}
+use Rattle.std.proofs.Common.{◌≡◌, false, map, ◌∙◌, ap}
 use Rattle.mem_core.specs.{MemInState.laid_in, MemWatchState.{is_fed, seen, shows}}
 use Rattle.run_core.specs.RunSteps.{world_of}
 use Rattle.words_core.specs.Words.{follows}
-use Rattle.tools_core.specs.Promises.{Run}
-use Rattle.run_tests.proofs.CallLemmas.{of_program}
 use Rattle.run_tests.proofs.law_tests.ran.Goals as goal
-
-fresh_is : {sources : List Source} → IsFresh sources → sources ≡ source_of (source_at sources 0).left ∷ []
-fresh_is fresh = rw fresh.only refl
+use Rattle.tools_core.specs.Run.{Run}
 
 pub returns : goal.returns
 returns c asked read none =
@@ -27,6 +22,6 @@ returns c asked read none =
     } in
     let unfed : is_fed c.in_ok-watch.watch ≡ false = ap is_fed c.in_ok-watch.ensures.ok in (
       one,
-      (c.program_makes_these_runs.ensures.runs one asked (of_program one (fresh_is c.requires.fresh) c.run_words.ensures.ends) read
+      (c.program_makes_these_runs.ensures.runs one asked c.run_words.ensures.ends read
           (ap (λ fed. follows c.args.calling fed asked) unfed ∙ none)).0,
     )

@@ -3,7 +3,7 @@ use Rattle.tools_core.proofs.promises.tail_follows.Goals as goal
 
 pub returns : goal.returns
 returns c = record {
-  grows = tells_all;
-  text = λ run count options followed name follows bare named kept.
-      (follows_text follows bare named (λ saw. kept)).is;
+  grows = λ run options n file came one.
+      tells_all run options one.followed one.name came file n one.follows one.bare one.named;
+  text = λ run count options one kept. (follows_text one.follows one.bare one.named (λ saw. kept)).is;
 }

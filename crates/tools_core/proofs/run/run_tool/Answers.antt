@@ -2,14 +2,14 @@ use Rattle.std.proofs.Common.{Bor, ℕ, List, map, ◌∙◌, ◌∷◌, [], ref
 use Rattle.run_core.{specs.Input.{has_dash, standard_input}, proofs.InputLemmas.fresh_counts}
 use Rattle.words_core.{specs.{CsplitWords.CsplitAsked, SplitWords.SplitAsked, TeeWords.TeeAsked}}
 use Rattle.tee_core.specs.Run.{forgives}
-use Rattle.tools_core.{proofs.RunLemmas.{ends_names, finds_standard}}
+use Rattle.tools_core.{proofs.RunLemmas.{as_task, ends_names, finds_standard}}
 use Rattle.ports_core.proofs.InputsLemmas.{fresh_asks}
 use Rattle.tools_core.proofs.run.run_tool.Goals as goal
 
 pub returns-in-Head : goal.returns-in-Head
 returns-in-Head g c =
     let names = ends_names c.deref.ensures.value c.settings.view_is in record {
-      ends = rw c.in-Head.is (rw names at c.run_inputs.ensures.ends);
+      ends = λ told rest. rw c.in-Head.is (as_task _ refl (rw names at c.run_inputs.ensures.ends));
       opened = rw c.in-Head.is (rw names at c.run_inputs.ensures.opened);
       asked = c.run_inputs.ensures.asked;
       untouched = λ none. c.run_inputs.ensures.untouched (ap has_dash names ∙ rw c.in-Head.is at none);
@@ -18,7 +18,7 @@ returns-in-Head g c =
 pub returns-in-Tail : goal.returns-in-Tail
 returns-in-Tail g c =
     let names = ends_names c.deref-in-Tail.ensures.value c.ends.view_is in record {
-      ends = rw c.in-Tail.is (rw names at c.run_inputs-in-Tail.ensures.ends);
+      ends = λ told rest. rw c.in-Tail.is (as_task _ refl (rw names at c.run_inputs-in-Tail.ensures.ends));
       opened = rw c.in-Tail.is (rw names at c.run_inputs-in-Tail.ensures.opened);
       asked = c.run_inputs-in-Tail.ensures.asked;
       untouched = λ none. c.run_inputs-in-Tail.ensures.untouched (ap has_dash names ∙ rw c.in-Tail.is at none);
@@ -27,7 +27,7 @@ returns-in-Tail g c =
 pub returns-in-Split : goal.returns-in-Split
 returns-in-Split g c =
     let name = ap (λ (asked : SplitAsked). asked.input) c.settings-in-Split.view_is in record {
-      ends = rw c.in-Split.is (rw name at c.run_inputs-in-Split.ensures.ends);
+      ends = λ told rest. rw c.in-Split.is (as_task _ refl (rw name at c.run_inputs-in-Split.ensures.ends));
       opened = rw c.in-Split.is (rw name at c.run_inputs-in-Split.ensures.opened);
       asked = c.run_inputs-in-Split.ensures.asked;
       untouched = λ none. c.run_inputs-in-Split.ensures.untouched
@@ -36,13 +36,8 @@ returns-in-Split g c =
 
 pub returns-in-Csplit : goal.returns-in-Csplit
 returns-in-Csplit g c = record {
-  ends = let (found, finds, ends) = c.run_inputs-in-Csplit.ensures.ends in
-      rw c.in-Csplit.is (
-        found,
-        rw (ap (λ (asked : CsplitAsked). asked.input) c.asked.view_is) at finds,
-        record
-            { operands = _; asks = c.operands.ensures; ends = ends },
-      );
+  ends = λ told rest. rw c.in-Csplit.is (as_task _ (_, c.operands.ensures, refl)
+      (rw (ap (λ (asked : CsplitAsked). asked.input) c.asked.view_is) at c.run_inputs-in-Csplit.ensures.ends));
   opened = rw c.in-Csplit.is (rw (ap (λ (asked : CsplitAsked). asked.input) c.asked.view_is) at c.run_inputs-in-Csplit.ensures.opened);
   asked = c.run_inputs-in-Csplit.ensures.asked;
   untouched = λ none. c.run_inputs-in-Csplit.ensures.untouched
@@ -51,15 +46,14 @@ returns-in-Csplit g c = record {
 
 pub returns-in-About : goal.returns-in-About
 returns-in-About g c = record {
-  ends = rw c.in-About.is ([], record { are = refl; there = λ t. refl }, c.tell_about.ensures);
+  ends = λ told rest. rw c.in-About.is ([], record { are = refl; there = λ t. refl }, c.tell_about.ensures);
   opened = rw c.in-About.is (fresh_counts [] c.requires.inputs);
   asked = fresh_asks _ _ c.requires.inputs;
   untouched = λ none. refl;
 }
 
 pub returns-in-Tee-clause-ends : goal.returns-in-Tee-clause-ends
-returns-in-Tee-clause-ends g c =
-    let old = g.I.Inputs.sources c.args.inputs.now in
+returns-in-Tee-clause-ends g c told rest =
     let mode = ap (λ (those : TeeAsked). those.mode) c.settings-in-Tee.view_is in
     let on_broken = ap (λ (those : TeeAsked). those.on_broken) c.settings-in-Tee.view_is in
     let names = ap (map (λ (name : Bor (List ℕ)). name.now)) c.deref-in-Tee.ensures.value ∙ ap
@@ -67,7 +61,7 @@ returns-in-Tee-clause-ends g c =
     let (content, there, (ends, came)) = c.run_tee.ensures.ends in
     rw c.in-Tee.is (
       standard_input content ∷ [],
-      finds_standard old there,
+      finds_standard there,
       record {
         content = content;
         input = refl;

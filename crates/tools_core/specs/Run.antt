@@ -1,0 +1,41 @@
+-- One run of the program, and what of it is visible.
+use Rattle.std.specs.Prelude.{◌≡◌, ℕ, Bool, true, List, [], ◌∷◌}
+use Rattle.ports_core.specs.{Slot.Slot, Source.{Source, source_of}, declared.calling.Calling.Calling}
+use Rattle.run_core.specs.Input.{World}
+use Rattle.watch_core.specs.{Snapshot.Snapshot, Watched.Watched}
+
+-- whether bytes are visible: those of inputs, what looks at watched names see, and the bytes of outputs
+pub record Visible : Type 0 where
+  pub inputs : Bool
+  pub watch : Bool
+  pub outputs : Bool
+
+abbrev pub visible : (inputs watch outputs : Bool) → Visible
+visible inputs watch outputs = record { inputs = inputs; watch = watch; outputs = outputs }
+
+-- as in memory
+abbrev pub all_visible : Visible
+all_visible = visible true true true
+
+-- One run of the program: its words, what it found, and what it left.
+pub record Run : Type 0 where
+  -- how the program was called, and its words, of which the first is the tool's name
+  pub calling : Calling
+  pub words : List (List ℕ)
+  -- what standard input holds, and what lies at each name
+  pub world : World
+  -- whether standard input is a file that can be watched, and what each look of a `tail` that follows would see
+  pub fed : Bool
+  pub shows : ℕ → Snapshot
+  -- what is left of the inputs
+  pub inputs : List Source
+  -- what the looks saw that were made, and the names as they are watched
+  pub seen : List Snapshot
+  pub watched : List Watched
+  -- standard output, standard error, and then the files, in the order in which they were opened
+  pub outputs : List Slot
+  pub status : ℕ
+
+-- no input was opened beside standard input, and nothing of that was read
+abbrev pub IsUnread : Run → Type 0
+IsUnread run = run.inputs ≡ source_of run.world.standard ∷ []
