@@ -535,6 +535,18 @@ pub record Completes (run : Run) (asked : Settings) : Type 0 where
   pub read : settings_of run.calling run.words ≡ Ok asked
   pub does : DoesAll run (inputs_at run.world (names_of asked)) asked
 
+-- a run was to split this input in this way, and no fault stopped it
+pub record SplitsOther (run : Run) (asked : SplitAsked) (way : Way) (input : Input)
+    (shown bytes : List ℕ) : Type 0 where
+  pub whole : Completes run (Split asked)
+  pub gives : GivesOther run input shown bytes
+  pub is : asked.way ≡ way
+
+-- Why an output of a run is broken was told, and the status is 1; or the run may be silent about a reader that is gone.
+abbrev pub IsTold : Run → Settings → ℕ → Type 0
+IsTold run asked place = ((run.status ≡ 1) × WhyBroken run asked place)
+    ⊎ (IsSilent run asked × (LostReader run place ⊎ WhyBroken run asked place))
+
 -- Such a fault stopped the run, which told it; or, of `tee`, an output broke: it went on with the others or ended with
 -- that, and no more is said here of that run.
 pub record IsStopped (run : Run) (asked : Settings) : Type 0 where

@@ -42,8 +42,8 @@ returns c asked chunks read only way some other =
       refl,
       refl,
       elim (c.cutting_changes_nothing.ensures.ended one (Split asked) ran) [
-        | inl whole ↦ inl (c.split_loses_nothing.ensures.changed one asked chunks (changing bytes shown) shown bytes whole
-            (gives_other one asked bytes shown names refl some other) way)
+        | inl whole ↦ inl (c.split_loses_nothing.ensures.changed one asked chunks (changing bytes shown) shown bytes
+            (record { whole = whole; gives = gives_other one asked bytes shown names refl some other; is = way }))
         | inr short ↦ inr short
       ],
     )
