@@ -32,11 +32,15 @@ pub(crate) const LINES: Chunks = Chunks {
 pub(crate) const CHANGED: Fault = Fault::Verdict(Verdict::Changed);
 
 #[test]
-fn writes_chunks_to_files(rt: HostRuntime) -> Result<(), Fail> {
-    play_rows(&rt, rt.alloc(), Tells::Nothing, FILES)
+fn writes_what_each_row_says(rt: HostRuntime) -> Result<(), Fail> {
+    for (number, row) in ROWS.iter().enumerate() {
+        play_row(&rt, rt.alloc(), Tells::Nothing, number, row)?;
+    }
+    Ok(())
 }
 
-const FILES: &[Row<'static>] = &[
+const ROWS: &[Row<'static>] = &[
+    // All chunks are written to files.
     (
         Way::Chunks(THREE),
         2,
@@ -161,14 +165,7 @@ const FILES: &[Row<'static>] = &[
             Step::Files(&[b"a\0", b"\nb\0", b""]),
         ],
     ),
-];
-
-#[test]
-fn writes_one_chunk(rt: HostRuntime) -> Result<(), Fail> {
-    play_rows(&rt, rt.alloc(), Tells::Nothing, ONE)
-}
-
-const ONE: &[Row<'static>] = &[
+    // One chunk is written to standard output.
     (
         Way::Chunk(1, THREE),
         6,
@@ -243,14 +240,7 @@ const ONE: &[Row<'static>] = &[
         false,
         &[Step::Feed(b"a\nb"), Step::Close, Step::Wrote(b"b")],
     ),
-];
-
-#[test]
-fn tells_of_another_length(rt: HostRuntime) -> Result<(), Fail> {
-    play_rows(&rt, rt.alloc(), Tells::Nothing, OTHER)
-}
-
-const OTHER: &[Row<'static>] = &[
+    // It tells of an input that has another length than it said.
     (
         Way::Chunks(THREE),
         2,
@@ -323,15 +313,8 @@ const OTHER: &[Row<'static>] = &[
             Step::Wrote(b""),
         ],
     ),
-];
-
-/// Chunks to files take an open, a write and a close for each that isn't empty, and an open and a close for others.
-#[test]
-fn stops_at_a_broken_output(rt: HostRuntime) -> Result<(), Fail> {
-    play_rows(&rt, rt.alloc(), Tells::Nothing, BROKEN)
-}
-
-const BROKEN: &[Row<'static>] = &[
+    // It stops at a broken output. Chunks to files take an open, a write and a close for each that isn't empty, and an open
+    // and a close for others.
     (
         Way::Chunks(THREE),
         4,
@@ -464,7 +447,10 @@ fn fails(alloc: Global, said: u64, row: &Failing<'_>) -> Result<bool, Fault> {
 
 #[test]
 fn tells_of_files_of_chunks(rt: HostRuntime) -> Result<(), Fail> {
-    play_rows(&rt, rt.alloc(), Tells::Openings, TOLD)
+    for (number, row) in TOLD.iter().enumerate() {
+        play_row(&rt, rt.alloc(), Tells::Openings, number, row)?;
+    }
+    Ok(())
 }
 
 const TOLD: &[Row<'static>] = &[
@@ -537,16 +523,7 @@ const TOLD: &[Row<'static>] = &[
 
 const ALL_TOLD: &[u8] = b"creating file 'xaa'\ncreating file 'xab'\ncreating file 'xac'\n";
 
-/// Takes the steps of each row with an engine of its own.
-fn play_rows(rt: &impl Abort, alloc: Global, tells: Tells, rows: &[Row<'_>]) -> Result<(), Fail>
-    requires { TellsNoSizes tells }
-{
-    for (number, row) in rows.iter().enumerate() {
-        play_row(rt, alloc, tells, number, row)?;
-    }
-    Ok(())
-}
-
+/// Takes the steps of a row with an engine of its own.
 fn play_row(
     rt: &impl Abort,
     alloc: Global,

@@ -39,11 +39,14 @@ type Row<'a> = (
 const SIZES: [usize; 4] = [1, 2, 3, 100];
 
 #[test]
-fn cuts_into_sections(rt: HostRuntime) -> Result<(), Fail> {
-    check_rows(&rt, rt.alloc(), &SECTIONS)
+fn writes_what_each_row_says(rt: HostRuntime) {
+    for row in ROWS {
+        check_row(&rt, rt.alloc(), row);
+    }
 }
 
-const SECTIONS: [Row<'static>; 16] = [
+const ROWS: &[Row<'static>] = &[
+    // An input is cut into sections.
     (
         Options::Plain,
         &["/^b/", "{*}"],
@@ -165,14 +168,7 @@ const SECTIONS: [Row<'static>; 16] = [
         &[b"1\n2\n", b"3\n", b"b\n4\n", b"b\n5\n"],
     ),
     (Options::Plain, &["/b/", "{*}"], b"", None, b"0\n", &[b""]),
-];
-
-#[test]
-fn leaves_out_the_line_at_a_cut(rt: HostRuntime) -> Result<(), Fail> {
-    check_rows(&rt, rt.alloc(), &SUPPRESSED)
-}
-
-const SUPPRESSED: [Row<'static>; 6] = [
+    // The line at a cut is left out.
     (
         Options::Suppress,
         &["/b/"],
@@ -224,11 +220,14 @@ const SUPPRESSED: [Row<'static>; 6] = [
 ];
 
 #[test]
-fn ends_where_an_operand_finds_no_line(rt: HostRuntime) -> Result<(), Fail> {
-    check_rows(&rt, rt.alloc(), &FAULTS)
+fn ends_as_each_row_says(rt: HostRuntime) {
+    for row in ENDS {
+        check_row(&rt, rt.alloc(), row);
+    }
 }
 
-const FAULTS: [Row<'static>; 8] = [
+const ENDS: &[Row<'static>] = &[
+    // It ends where an operand finds no line.
     (
         Options::Keep,
         &["/c/-3"],
@@ -293,47 +292,7 @@ const FAULTS: [Row<'static>; 8] = [
         b"4\n",
         &[],
     ),
-];
-
-/// Cuts the input of each row, in pieces of each size.
-fn check_rows(rt: &impl Abort, alloc: Global, rows: &[Row<'_>]) -> Result<(), Fail> {
-    for row in rows {
-        for size in SIZES {
-            check_row(rt, alloc, row, size);
-        }
-    }
-    Ok(())
-}
-
-fn check_row(rt: &impl Abort, alloc: Global, row: &Row<'_>, size: usize) {
-    let (options, words, input, fault, sizes, files) = row;
-    let pieces = chunks_of(rt, alloc, input, size);
-    let style = style_of(alloc, *options).expect(rt, "there is memory");
-    let operands = read_operands(alloc, Calling::Cutters, words).expect(rt, "these are operands");
-    let mut outs = MemOut::new(alloc).expect(rt, "there is memory");
-    let end = run(alloc, &style, &operands, &pieces, &mut outs);
-    let is_so = end.err() == *fault && has_left(&outs, files) && outs.bytes(0) == *sizes;
-    assert!(rt; is_so, "at {words:?} in pieces of {size}");
-}
-
-/// Operands, what comes in, how many bytes wait then, and the first file's bytes. A line that lacks its newline waits.
-type Wait<'a> = (&'a [&'a str], &'a [u8], u64, &'a [u8]);
-
-#[test]
-fn holds_what_an_offset_may_take_back(rt: HostRuntime) -> Result<(), Fail> {
-    for row in WAITS {
-        holds(&rt, rt.alloc(), row)?;
-    }
-    Ok(())
-}
-
-/// The cut of a pattern one line past the last is made at once.
-#[test]
-fn cuts_one_line_past_the_last(rt: HostRuntime) -> Result<(), Fail> {
-    check_rows(&rt, rt.alloc(), &PAST)
-}
-
-const PAST: [Row<'static>; 14] = [
+    // It cuts one line past the last. The cut of a pattern one line past the last is made at once.
     (
         Options::Past,
         &["/b/+1"],
@@ -433,6 +392,35 @@ const PAST: [Row<'static>; 14] = [
     ),
     (Options::Past, &["/b/+1", "{*}"], b"", None, b"0\n", &[b""]),
 ];
+
+/// Cuts the input of a row, in pieces of each size.
+fn check_row(rt: &impl Abort, alloc: Global, row: &Row<'_>) {
+    for size in SIZES {
+        check_pieces(rt, alloc, row, size);
+    }
+}
+
+fn check_pieces(rt: &impl Abort, alloc: Global, row: &Row<'_>, size: usize) {
+    let (options, words, input, fault, sizes, files) = row;
+    let pieces = chunks_of(rt, alloc, input, size);
+    let style = style_of(alloc, *options).expect(rt, "there is memory");
+    let operands = read_operands(alloc, Calling::Cutters, words).expect(rt, "these are operands");
+    let mut outs = MemOut::new(alloc).expect(rt, "there is memory");
+    let end = run(alloc, &style, &operands, &pieces, &mut outs);
+    let is_so = end.err() == *fault && has_left(&outs, files) && outs.bytes(0) == *sizes;
+    assert!(rt; is_so, "at {words:?} in pieces of {size}");
+}
+
+/// Operands, what comes in, how many bytes wait then, and the first file's bytes. A line that lacks its newline waits.
+type Wait<'a> = (&'a [&'a str], &'a [u8], u64, &'a [u8]);
+
+#[test]
+fn holds_what_an_offset_may_take_back(rt: HostRuntime) -> Result<(), Fail> {
+    for row in WAITS {
+        holds(&rt, rt.alloc(), row)?;
+    }
+    Ok(())
+}
 
 const WAITS: &[Wait<'static>] = &[
     (&["/c/-1"], b"a\nb\n", 2, b"a\n"),

@@ -12,11 +12,15 @@ use std::test::Fail;
 type Row<'a> = (Side, Unit, u64, u8, &'a [Step<'a>]);
 
 #[test]
-fn writes_each_piece_at_once(rt: HostRuntime) -> Result<(), Fail> {
-    play_rows(&rt, rt.alloc(), FIRST)
+fn writes_what_each_row_says(rt: HostRuntime) -> Result<(), Fail> {
+    for (number, row) in ROWS.iter().enumerate() {
+        play_row(&rt, rt.alloc(), number, row)?;
+    }
+    Ok(())
 }
 
-const FIRST: &[Row<'static>] = &[
+const ROWS: &[Row<'static>] = &[
+    // The first are written piece by piece, at once.
     (
         Side::First,
         Unit::Lines,
@@ -80,14 +84,7 @@ const FIRST: &[Row<'static>] = &[
             Step::Wrote(b"a\nb\0"),
         ],
     ),
-];
-
-#[test]
-fn holds_back_the_last(rt: HostRuntime) -> Result<(), Fail> {
-    play_rows(&rt, rt.alloc(), BUT_LAST)
-}
-
-const BUT_LAST: &[Row<'static>] = &[
+    // The last are held back.
     (
         Side::ButLast,
         Unit::Lines,
@@ -170,17 +167,7 @@ const BUT_LAST: &[Row<'static>] = &[
             Step::Wrote(b"a\nb\n"),
         ],
     ),
-];
-
-/// What follows decides whether the second line is written.
-const OPEN_LINE: Step<'static> = Step::Feed(b"a\nb");
-
-#[test]
-fn writes_the_last_at_the_end(rt: HostRuntime) -> Result<(), Fail> {
-    play_rows(&rt, rt.alloc(), LAST)
-}
-
-const LAST: &[Row<'static>] = &[
+    // The last are written at the end.
     (
         Side::Last,
         Unit::Lines,
@@ -257,18 +244,7 @@ const LAST: &[Row<'static>] = &[
         b',',
         &[COMMAS, Step::Close, Step::Wrote(b"z")],
     ),
-];
-
-const THREE_LINES: Step<'static> = Step::Feed(b"a\nb\nc");
-
-const COMMAS: Step<'static> = Step::Feed(b"x,y\n,z");
-
-#[test]
-fn writes_all_from_the_nth_on(rt: HostRuntime) -> Result<(), Fail> {
-    play_rows(&rt, rt.alloc(), FROM_NTH)
-}
-
-const FROM_NTH: &[Row<'static>] = &[
+    // All from the nth on are written.
     (
         Side::FromNth,
         Unit::Lines,
@@ -304,18 +280,24 @@ const FROM_NTH: &[Row<'static>] = &[
     ),
 ];
 
-/// Takes the steps of each row with an engine of its own.
-fn play_rows(rt: &impl Abort, alloc: Global, rows: &[Row<'_>]) -> Result<(), Fail> {
-    for (row, (side, unit, count, delim, steps)) in rows.iter().enumerate() {
-        let asked = Asked {
-            side: *side,
-            unit: *unit,
-            count: *count,
-            delim: *delim,
-        };
-        let mut outs = MemOut::new(alloc)?;
-        let mut engine = open_ends(alloc, asked)?;
-        play(rt, &mut engine, &mut outs, row, steps);
-    }
+/// What follows decides whether the second line is written.
+const OPEN_LINE: Step<'static> = Step::Feed(b"a\nb");
+
+const THREE_LINES: Step<'static> = Step::Feed(b"a\nb\nc");
+
+const COMMAS: Step<'static> = Step::Feed(b"x,y\n,z");
+
+/// Takes the steps of a row with an engine of its own.
+fn play_row(rt: &impl Abort, alloc: Global, number: usize, row: &Row<'_>) -> Result<(), Fault> {
+    let (side, unit, count, delim, steps) = *row;
+    let asked = Asked {
+        side,
+        unit,
+        count,
+        delim,
+    };
+    let mut outs = MemOut::new(alloc)?;
+    let mut engine = open_ends(alloc, asked)?;
+    play(rt, &mut engine, &mut outs, number, steps);
     Ok(())
 }

@@ -20,11 +20,15 @@ type Row<'a> = (Limit, &'a [Step<'a>]);
 const LONG_LINE: &[u8] = b"b\naaaaaaaaaa\nc\n";
 
 #[test]
-fn cuts_into_files(rt: HostRuntime) -> Result<(), Fail> {
-    play_rows(&rt, rt.alloc(), WHOLE)
+fn writes_what_each_row_says(rt: HostRuntime) -> Result<(), Fail> {
+    for (number, row) in ROWS.iter().enumerate() {
+        play_row(&rt, rt.alloc(), number, row)?;
+    }
+    Ok(())
 }
 
-const WHOLE: &[Row<'static>] = &[
+const ROWS: &[Row<'static>] = &[
+    // An input is cut into files.
     (
         Limit::Lines(2, b'\n'),
         &[
@@ -100,25 +104,7 @@ const WHOLE: &[Row<'static>] = &[
             Step::Files(&[b"b:", b"aaaa", b"a:c:"]),
         ],
     ),
-];
-
-#[test]
-fn cuts_pieces_as_it_cuts_the_whole(rt: HostRuntime) -> Result<(), Fail> {
-    let files: [&[u8]; 5] = [b"b\n", b"aaaa", b"aaaa", b"aa\n", b"c\n"];
-    let mut outs = MemOut::new(rt.alloc())?;
-    outs.short(1);
-    let limit = Limit::LineBytes(4, b'\n');
-    let bytes = pieces_of(rt.alloc(), LONG_LINE, u32::MAX)?;
-    assert!(rt; agrees_in_pieces(rt.alloc(), limit, &bytes, &files, &mut outs)?);
-    Ok(())
-}
-
-#[test]
-fn what_follows_decides_where_an_open_line_goes(rt: HostRuntime) -> Result<(), Fail> {
-    play_rows(&rt, rt.alloc(), WAITING)
-}
-
-const WAITING: &[Row<'static>] = &[
+    // What follows decides where an open line goes.
     (
         Limit::LineBytes(4, b'\n'),
         &[
@@ -171,35 +157,19 @@ const WAITING: &[Row<'static>] = &[
             Step::Done(false),
         ],
     ),
-];
-
-const OPEN_LINE: Step<'static> = Step::Feed(b"a\nb");
-
-const NONE_WAITS: Step<'static> = Step::Waits(0);
-
-#[test]
-fn opens_a_file_with_its_first_byte(rt: HostRuntime) -> Result<(), Fail> {
-    play_rows(&rt, rt.alloc(), OPENED)
-}
-
-const OPENED: &[Row<'static>] = &[(
-    Limit::Bytes(2),
-    &[
-        Step::Feed(b""),
-        Step::Files(&[]),
-        Step::Feed(b"ab"),
-        Step::Files(&[b"ab"]),
-        Step::Feed(b"c"),
-        Step::Files(&[b"ab", b"c"]),
-    ],
-)];
-
-#[test]
-fn stops_at_a_broken_file(rt: HostRuntime) -> Result<(), Fail> {
-    play_rows(&rt, rt.alloc(), BROKEN)
-}
-
-const BROKEN: &[Row<'static>] = &[
+    // A file is opened with its first byte.
+    (
+        Limit::Bytes(2),
+        &[
+            Step::Feed(b""),
+            Step::Files(&[]),
+            Step::Feed(b"ab"),
+            Step::Files(&[b"ab"]),
+            Step::Feed(b"c"),
+            Step::Files(&[b"ab", b"c"]),
+        ],
+    ),
+    // It stops at a broken file.
     (
         Limit::Lines(1, b'\n'),
         &[
@@ -231,15 +201,8 @@ const BROKEN: &[Row<'static>] = &[
             Step::Files(&[b"a"]),
         ],
     ),
-];
-
-/// A line of the first file takes an open, a write and a close; the next file is opened after these.
-#[test]
-fn closes_a_file_before_it_opens_the_next(rt: HostRuntime) -> Result<(), Fail> {
-    play_rows(&rt, rt.alloc(), IN_ORDER)
-}
-
-const IN_ORDER: &[Row<'static>] = &[
+    // A file is closed before the next one is opened. A line of the first file takes an open, a write and a close; the next
+    // file is opened after these.
     (
         Limit::Lines(1, b'\n'),
         &[
@@ -284,17 +247,31 @@ const IN_ORDER: &[Row<'static>] = &[
     ),
 ];
 
+#[test]
+fn cuts_pieces_as_it_cuts_the_whole(rt: HostRuntime) -> Result<(), Fail> {
+    let files: [&[u8]; 5] = [b"b\n", b"aaaa", b"aaaa", b"aa\n", b"c\n"];
+    let mut outs = MemOut::new(rt.alloc())?;
+    outs.short(1);
+    let limit = Limit::LineBytes(4, b'\n');
+    let bytes = pieces_of(rt.alloc(), LONG_LINE, u32::MAX)?;
+    assert!(rt; agrees_in_pieces(rt.alloc(), limit, &bytes, &files, &mut outs)?);
+    Ok(())
+}
+
+const OPEN_LINE: Step<'static> = Step::Feed(b"a\nb");
+
+const NONE_WAITS: Step<'static> = Step::Waits(0);
+
 const TWO_LINES: &[u8] = b"a\nb\n";
 
 const AFTER: Step<'static> = Step::FeedFails(b"c", Fault::Failed);
 
-/// Takes the steps of each row with an engine of its own.
-fn play_rows(rt: &impl Abort, alloc: Global, rows: &[Row<'_>]) -> Result<(), Fail> {
-    for (row, (limit, steps)) in rows.iter().enumerate() {
-        let mut outs = MemOut::new(alloc)?;
-        let mut splitter = open(alloc, *limit, &mut outs)?;
-        play(rt, &mut splitter, &mut outs, row, steps);
-    }
+/// Takes the steps of a row with an engine of its own.
+fn play_row(rt: &impl Abort, alloc: Global, number: usize, row: &Row<'_>) -> Result<(), Fault> {
+    let (limit, steps) = *row;
+    let mut outs = MemOut::new(alloc)?;
+    let mut splitter = open(alloc, limit, &mut outs)?;
+    play(rt, &mut splitter, &mut outs, number, steps);
     Ok(())
 }
 

@@ -176,28 +176,17 @@ pub(crate) const SOUND: Case<'static> = Case {
 };
 
 /// Runs each case, in its own pieces and in pieces of one byte.
-fn check_both(rt: &impl Abort, alloc: Global, cases: &[Case<'_>]) -> Result<(), Fail> {
-    for case in cases {
-        check(rt, alloc, case)?;
-        check(rt, alloc, &Case { piece: 1, ..*case })?;
-    }
-    Ok(())
-}
-
-/// Runs each case in its own pieces.
-fn check_each(rt: &impl Abort, alloc: Global, cases: &[Case<'_>]) -> Result<(), Fail> {
-    for case in cases {
-        check(rt, alloc, case)?;
-    }
-    Ok(())
-}
-
 #[test]
-fn every_output_gets_every_byte(rt: HostRuntime) -> Result<(), Fail> {
-    check_both(&rt, rt.alloc(), WHOLE)
+fn leaves_what_each_case_says_in_any_pieces(rt: HostRuntime) -> Result<(), Fail> {
+    for case in IN_ANY_PIECES {
+        check(&rt, rt.alloc(), case)?;
+        check(&rt, rt.alloc(), &Case { piece: 1, ..*case })?;
+    }
+    Ok(())
 }
 
-const WHOLE: &[Case<'static>] = &[
+const IN_ANY_PIECES: &[Case<'static>] = &[
+    // Every output gets every byte.
     SOUND,
     Case {
         names: &[],
@@ -214,43 +203,7 @@ const WHOLE: &[Case<'static>] = &[
         },
         ..SOUND
     },
-];
-
-#[test]
-fn short_writes_are_gone_on_with(rt: HostRuntime) -> Result<(), Fail> {
-    let alloc = rt.alloc();
-    let mut inputs = inputs_of(alloc, INPUT, 4)?;
-    let mut outs = outs_of(alloc, &[]).expect(&rt, "there is memory");
-    outs.short(1);
-    let status = run(alloc, &["s", "t"], Mode::Fresh, &mut inputs, &mut outs);
-    check_left(&rt, &outs, &SOUND, status);
-    Ok(())
-}
-
-#[test]
-fn hyphen_is_a_file(rt: HostRuntime) -> Result<(), Fail> {
-    let alloc = rt.alloc();
-    let mut inputs = inputs_of(alloc, b"ab", 1)?;
-    let mut outs = outs_of(alloc, &[]).expect(&rt, "there is memory");
-    let status = run(alloc, &["-"], Mode::Append, &mut inputs, &mut outs);
-    assert!(rt; has_left(&outs, &HYPHEN, status) && outs.name(2) == "-");
-    Ok(())
-}
-
-/// What `tee -` leaves of two bytes.
-const HYPHEN: Left<'static> = Left {
-    output: b"ab",
-    files: &[b"ab"],
-    messages: b"",
-    status: 0,
-};
-
-#[test]
-fn broken_output_alone_suffers(rt: HostRuntime) -> Result<(), Fail> {
-    check_both(&rt, rt.alloc(), BROKEN)
-}
-
-const BROKEN: &[Case<'static>] = &[
+    // A broken output alone suffers.
     Case {
         limits: &[(2, 3)],
         left: Left {
@@ -302,15 +255,7 @@ const BROKEN: &[Case<'static>] = &[
         },
         ..SOUND
     },
-];
-
-/// Once no output is left the run is over, and a fault of the input that would come later isn't met.
-#[test]
-fn ends_where_no_output_is_left(rt: HostRuntime) -> Result<(), Fail> {
-    check_both(&rt, rt.alloc(), VAIN)
-}
-
-const VAIN: &[Case<'static>] = &[
+    // Once no output is left the run is over, and a fault of the input that would come later isn't met.
     Case {
         names: &[],
         breaks_at: Some(4),
@@ -348,20 +293,46 @@ const VAIN: &[Case<'static>] = &[
     },
 ];
 
-/// Where it exits, the run ends after the piece in which the first output broke, and the others have what was read.
 #[test]
-fn stops_where_an_output_broke(rt: HostRuntime) -> Result<(), Fail> {
-    check_each(&rt, rt.alloc(), STOPPED)
+fn short_writes_are_gone_on_with(rt: HostRuntime) -> Result<(), Fail> {
+    let alloc = rt.alloc();
+    let mut inputs = inputs_of(alloc, INPUT, 4)?;
+    let mut outs = outs_of(alloc, &[]).expect(&rt, "there is memory");
+    outs.short(1);
+    let status = run(alloc, &["s", "t"], Mode::Fresh, &mut inputs, &mut outs);
+    check_left(&rt, &outs, &SOUND, status);
+    Ok(())
 }
 
-/// The same as `SOUND`, in pieces of two bytes, and it exits.
-const STOPS: Case<'static> = Case {
-    piece: 2,
-    on_broken: OnBroken::Exit,
-    ..SOUND
+#[test]
+fn hyphen_is_a_file(rt: HostRuntime) -> Result<(), Fail> {
+    let alloc = rt.alloc();
+    let mut inputs = inputs_of(alloc, b"ab", 1)?;
+    let mut outs = outs_of(alloc, &[]).expect(&rt, "there is memory");
+    let status = run(alloc, &["-"], Mode::Append, &mut inputs, &mut outs);
+    assert!(rt; has_left(&outs, &HYPHEN, status) && outs.name(2) == "-");
+    Ok(())
+}
+
+/// What `tee -` leaves of two bytes.
+const HYPHEN: Left<'static> = Left {
+    output: b"ab",
+    files: &[b"ab"],
+    messages: b"",
+    status: 0,
 };
 
-const STOPPED: &[Case<'static>] = &[
+/// Runs each case in its own pieces.
+#[test]
+fn leaves_what_each_case_says(rt: HostRuntime) -> Result<(), Fail> {
+    for case in IN_PIECES {
+        check(&rt, rt.alloc(), case)?;
+    }
+    Ok(())
+}
+
+const IN_PIECES: &[Case<'static>] = &[
+    // Where it exits, the run ends after the piece in which the first output broke, and the others have what was read.
     STOPS,
     Case {
         limits: &[(2, 3)],
@@ -447,14 +418,7 @@ const STOPPED: &[Case<'static>] = &[
         },
         ..STOPS
     },
-];
-
-#[test]
-fn messages_follow_the_calls(rt: HostRuntime) -> Result<(), Fail> {
-    check_each(&rt, rt.alloc(), IN_ORDER)
-}
-
-const IN_ORDER: &[Case<'static>] = &[
+    // Messages follow the calls.
     Case {
         piece: 1,
         limits: &[(0, 3), (2, 4), (3, 2)],
@@ -477,18 +441,7 @@ const IN_ORDER: &[Case<'static>] = &[
         },
         ..SOUND
     },
-];
-
-/// What is left where something was refused.
-const FAILED: Left<'static> = Left { status: 1, ..ALL };
-
-/// They are two opens, three writes and two closes; an output that broke is not asked again.
-#[test]
-fn each_call_is_refused(rt: HostRuntime) -> Result<(), Fail> {
-    check_each(&rt, rt.alloc(), REFUSED)
-}
-
-const REFUSED: &[Case<'static>] = &[
+    // Calls are refused: two opens, three writes and two closes. An output that broke is not asked again.
     Case {
         refused: 1,
         left: Left {
@@ -555,6 +508,16 @@ const REFUSED: &[Case<'static>] = &[
         ..SOUND
     },
 ];
+
+/// The same as `SOUND`, in pieces of two bytes, and it exits.
+const STOPS: Case<'static> = Case {
+    piece: 2,
+    on_broken: OnBroken::Exit,
+    ..SOUND
+};
+
+/// What is left where something was refused.
+const FAILED: Left<'static> = Left { status: 1, ..ALL };
 
 /// In pieces of one byte there are two opens, eighteen writes and two closes.
 #[test]

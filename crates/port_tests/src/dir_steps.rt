@@ -56,16 +56,21 @@ pub(crate) fn play_in(
     steps: &[Step<'_>],
 ) -> Result<(), Fail> {
     make_folder(&rt, folder)?;
-    play(abort, rt, steps)?;
+    play(abort, rt, folder, steps)?;
     remove_folder(&rt, folder)
 }
 
-/// Takes all steps with the ports of a run.
-pub(crate) fn play(abort: &impl Abort, rt: HostRuntime, steps: &[Step<'_>]) -> Result<(), Fail> {
+/// Takes all steps in a folder with the ports of a run.
+pub(crate) fn play(
+    abort: &impl Abort,
+    rt: HostRuntime,
+    folder: &str,
+    steps: &[Step<'_>],
+) -> Result<(), Fail> {
     let noted = InputFiles::new(rt.alloc());
     let mut outs = outs_of(rt, &noted);
     let mut inputs = inputs_of(rt, &noted);
-    take_all(abort, &rt, &mut outs, &mut inputs, steps)
+    take_all(abort, &rt, &mut outs, &mut inputs, folder, steps)
 }
 
 fn take_all(
@@ -73,12 +78,13 @@ fn take_all(
     rt: &HostRuntime,
     outs: &mut DirOut<'_, HostRuntime>,
     inputs: &mut DirIn<'_, HostRuntime>,
+    folder: &str,
     steps: &[Step<'_>],
 ) -> Result<(), Fail> {
     let mut number = 0usize;
     for step in steps {
         let is_so = take(abort, rt, outs, inputs, step)?;
-        assert!(abort; is_so, "at step {number}");
+        assert!(abort; is_so, "in {folder}, at step {number}");
         number = number.saturating_add(1);
     }
     Ok(())

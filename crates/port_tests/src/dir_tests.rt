@@ -44,11 +44,6 @@ const WRITTEN: &[Step<'static>] = &[
     Step::Left(4, "", false),
 ];
 
-#[test]
-fn files_are_written(rt: HostRuntime) -> Result<(), Fail> {
-    play_in(&rt, rt, "ports_core_written", WRITTEN)
-}
-
 /// What is asked of a file with three bytes to its end.
 const TO_THE_END: &[Call<'static>] = &[
     Call::Read(4, 3, b"abc"),
@@ -76,11 +71,6 @@ const SPARED: &[Step<'static>] = &[
     Step::Holds("ports_core_spared/i", b"def"),
 ];
 
-#[test]
-fn an_input_is_not_written_over(rt: HostRuntime) -> Result<(), Fail> {
-    play_in(&rt, rt, "ports_core_spared", SPARED)
-}
-
 const DEVICE: &[Step<'static>] = &[
     Step::Ask("/dev/null", 1, &[]),
     Step::WriteOnce("/dev/null", Mode::Fresh, 2, b"abc", Ok(3)),
@@ -88,7 +78,7 @@ const DEVICE: &[Step<'static>] = &[
 
 #[test]
 fn a_device_is_read_and_written(rt: HostRuntime) -> Result<(), Fail> {
-    play(&rt, rt, DEVICE)
+    play(&rt, rt, "/dev", DEVICE)
 }
 
 const APPENDED: &[Step<'static>] = &[
@@ -96,21 +86,11 @@ const APPENDED: &[Step<'static>] = &[
     Step::Holds("ports_core_append/f", b""),
 ];
 
-#[test]
-fn an_append_makes_the_file(rt: HostRuntime) -> Result<(), Fail> {
-    play_in(&rt, rt, "ports_core_append", APPENDED)
-}
-
 const REMOVED: &[Step<'static>] = &[
     Step::Close("ports_core_removed/f", 2),
     Step::Remove("ports_core_removed/g", 3),
     Step::Lose("ports_core_removed/h", 4),
 ];
-
-#[test]
-fn files_are_removed(rt: HostRuntime) -> Result<(), Fail> {
-    play_in(&rt, rt, "ports_core_removed", REMOVED)
-}
 
 /// A name with a byte 0 opens nothing: neither does what stands before that byte.
 const ZERO: &[Step<'static>] = &[
@@ -124,22 +104,12 @@ const ZERO: &[Step<'static>] = &[
     Step::InputSays(1, Reason::NotUtf8),
 ];
 
-#[test]
-fn nothing_is_opened_by_a_name_with_a_byte_0(rt: HostRuntime) -> Result<(), Fail> {
-    play_in(&rt, rt, "ports_core_zero", ZERO)
-}
-
 /// A folder, a file in no folder, and a file that the user may not open.
 const CLOSED_OFF: &[Step<'static>] = &[
     Step::Refuse("ports_core_closed_off", Mode::Fresh, 2),
     Step::Refuse("ports_core_closed_off/no/f", Mode::Append, 3),
     Step::CloseOff("ports_core_closed_off/f"),
 ];
-
-#[test]
-fn outputs_that_do_not_open(rt: HostRuntime) -> Result<(), Fail> {
-    play_in(&rt, rt, "ports_core_closed_off", CLOSED_OFF)
-}
 
 const FULL: &[Step<'static>] = &[
     Step::WriteOnce("/dev/full", Mode::Append, 2, b"abc", Err(Fault::Write(2))),
@@ -150,7 +120,7 @@ const FULL: &[Step<'static>] = &[
 #[test]
 fn an_output_without_room(rt: HostRuntime) -> Result<(), Fail> {
     if is_there(&rt, "/dev/full") {
-        return play(&rt, rt, FULL);
+        return play(&rt, rt, "/dev", FULL);
     }
     Ok(())
 }
@@ -171,11 +141,6 @@ const READ: &[Step<'static>] = &[
     Step::Ask("ports_core_read/f", 3, &[Call::Read(3, 3, b"abc")]),
 ];
 
-#[test]
-fn files_are_read(rt: HostRuntime) -> Result<(), Fail> {
-    play_in(&rt, rt, "ports_core_read", READ)
-}
-
 /// A read into no room, and one into enough.
 const NO_ROOM: &[Step<'static>] = &[
     Step::Make("ports_core_no_room/f", b"abc"),
@@ -186,17 +151,32 @@ const NO_ROOM: &[Step<'static>] = &[
     ),
 ];
 
-#[test]
-fn a_read_into_no_room_tells_no_end(rt: HostRuntime) -> Result<(), Fail> {
-    play_in(&rt, rt, "ports_core_no_room", NO_ROOM)
-}
-
 /// A folder opens, and its first read fails.
 const FOLDER: &[Step<'static>] = &[Step::Ask(".", 1, &[Call::Fails(8, Fault::Read(1))])];
 
 #[test]
 fn a_folder_is_read(rt: HostRuntime) -> Result<(), Fail> {
-    play(&rt, rt, FOLDER)
+    play(&rt, rt, ".", FOLDER)
+}
+
+/// A folder, and what is done there and must come of it.
+const FOLDERS: &[(&str, &[Step<'static>])] = &[
+    ("ports_core_written", WRITTEN),
+    ("ports_core_spared", SPARED),
+    ("ports_core_append", APPENDED),
+    ("ports_core_removed", REMOVED),
+    ("ports_core_zero", ZERO),
+    ("ports_core_closed_off", CLOSED_OFF),
+    ("ports_core_read", READ),
+    ("ports_core_no_room", NO_ROOM),
+];
+
+#[test]
+fn each_step_has_its_result(rt: HostRuntime) -> Result<(), Fail> {
+    for (folder, steps) in FOLDERS {
+        play_in(&rt, rt, folder, steps)?;
+    }
+    Ok(())
 }
 
 /// This many outputs are open at once. Where `tests/files` sets a limit, it is more than the system lets be open, and

@@ -298,9 +298,9 @@ const FOLDER_AND_DEVICE: &[Step<'static>] = &[
 #[test]
 fn what_is_no_file_shows_nothing(rt: HostRuntime) -> Result<(), Fail> {
     if is_there(&rt, "/dev/zero") {
-        return play(&rt, rt, FOLDER_AND_DEVICE);
+        return play(&rt, rt, ".", FOLDER_AND_DEVICE);
     }
-    play(&rt, rt, FOLDER)
+    play(&rt, rt, ".", FOLDER)
 }
 
 #[test]

@@ -1,5 +1,0 @@
-use Rattle.std.proofs.Common.{refl}
-use Rattle.engine_tests.proofs.follow_tests.of_two_names.Goals as goal
-
-pub returns : goal.returns
-returns c = refl
