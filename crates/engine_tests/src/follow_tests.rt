@@ -3,7 +3,13 @@
 ghost use Rattle.std.specs.Prelude.{◌≡◌, [], ◌∷◌, Some, drop, codes, true, false, IfOk};
 ghost use Rattle.watch_core.specs.Edits.{append, bar, truncate, replace, remove, edited_by, empty_world, seen_in};
 ghost use Rattle.mem_core.specs.MemWatchState.{seen};
-ghost use Rattle.follow_core.specs.{Followed.followed, Look.{unopened, unread}, inner.Placing.looks_after};
+ghost use Rattle.follow_core.specs.{
+  Followed.followed,
+  Look.{unopened, unread},
+  Telling.{failed, found},
+  declared.notice.Notice.TheVariants.{Appeared, Inaccessible, Replaced, Truncated},
+  inner.Placing.looks_after,
+};
 ghost use Rattle.ends_core.specs.Ends.{tail_of};
 
 use ends_core::Unit;
@@ -19,43 +25,43 @@ use watch_core::Watch;
 fn examples()
     // `tail -F -n 1 f`: what is appended, a truncation, and a replacement after more was appended.
     ensures by_name { followed (record { first = 0; by_name = true; start = tail_of 10 Unit.Lines false 1; seeks = true }) false (codes "f" ∷ []) (looks_after false ((replace (codes "f") (codes "a\nb\n") ∷ []) ∷ (append (codes "f") (codes "c") ∷ []) ∷ (truncate (codes "f") 0 ∷ []) ∷ (append (codes "f") (codes "z\n") ∷ []) ∷ (append (codes "f") (codes "w") ∷ replace (codes "f") (codes "q\n") ∷ []) ∷ []))
-        ≡ record { out = codes "b\ncz\nwq\n"; messages = codes "tail: 'f': file truncated\n" ∷ codes "tail: 'f': file replaced\n" ∷ []; has_failed = false } }
+        ≡ record { out = codes "b\ncz\nwq\n"; messages = found Truncated (codes "f") ∷ found Replaced (codes "f") ∷ []; has_failed = false } }
     // `tail -F f`, where the file comes after the first look.
     ensures that_appears { followed (record { first = 0; by_name = true; start = tail_of 10 Unit.Lines false 10; seeks = true }) false (codes "f" ∷ []) (looks_after false ([] ∷ (replace (codes "f") (codes "x\n") ∷ []) ∷ []))
-        ≡ record { out = codes "x\n"; messages = codes "tail: cannot open 'f'\n" ∷ codes "tail: 'f': file appeared\n" ∷ []; has_failed = true } }
+        ≡ record { out = codes "x\n"; messages = failed (record { fault = Fault.Open 0; why = Reason.Other }) (codes "f") ∷ found Appeared (codes "f") ∷ []; has_failed = true } }
     // `tail -F f`, where the file is removed and another one comes.
     ensures that_comes_again { followed (record { first = 0; by_name = true; start = tail_of 10 Unit.Lines false 10; seeks = true }) false (codes "f" ∷ []) (looks_after false ((replace (codes "f") (codes "a\n") ∷ []) ∷ (remove (codes "f") ∷ []) ∷ (replace (codes "f") (codes "b\n") ∷ []) ∷ []))
-        ≡ record { out = codes "a\nb\n"; messages = codes "tail: 'f': file inaccessible\n" ∷ codes "tail: 'f': file appeared\n" ∷ []; has_failed = false } }
+        ≡ record { out = codes "a\nb\n"; messages = found Inaccessible (codes "f") ∷ found Appeared (codes "f") ∷ []; has_failed = false } }
     // `tail -f f`, where the file is removed and another one comes: the one that was opened is followed.
     ensures that_is_left { followed (record { first = 0; by_name = false; start = tail_of 10 Unit.Lines false 10; seeks = true }) false (codes "f" ∷ []) (looks_after false ((replace (codes "f") (codes "a\n") ∷ []) ∷ (remove (codes "f") ∷ []) ∷ (replace (codes "f") (codes "b\n") ∷ []) ∷ []))
         ≡ record { out = codes "a\n"; messages = []; has_failed = false } }
     // `tail -f g`, where there is no such file.
     ensures that_is_missing { followed (record { first = 0; by_name = false; start = tail_of 10 Unit.Lines false 10; seeks = true }) false (codes "g" ∷ []) (looks_after false ([] ∷ []))
-        ≡ record { out = []; messages = codes "tail: cannot open 'g'\n" ∷ []; has_failed = true } }
+        ≡ record { out = []; messages = failed (record { fault = Fault.Open 0; why = Reason.Other }) (codes "g") ∷ []; has_failed = true } }
     // `tail -f -c 2 f`, where the file is truncated.
     ensures that_is_truncated { followed (record { first = 0; by_name = false; start = tail_of 10 Unit.Bytes false 2; seeks = false }) false (codes "f" ∷ []) (looks_after false ((replace (codes "f") (codes "abc") ∷ []) ∷ (truncate (codes "f") 1 ∷ []) ∷ (append (codes "f") (codes "d") ∷ []) ∷ []))
-        ≡ record { out = codes "bcad"; messages = codes "tail: 'f': file truncated\n" ∷ []; has_failed = false } }
+        ≡ record { out = codes "bcad"; messages = found Truncated (codes "f") ∷ []; has_failed = false } }
     // `tail -f -n 1 f g`: a header stands where the text of another name begins.
     ensures of_two_names { followed (record { first = 0; by_name = false; start = tail_of 10 Unit.Lines false 1; seeks = true }) true (codes "f" ∷ codes "g" ∷ []) (looks_after false ((replace (codes "f") (codes "a\n") ∷ replace (codes "g") (codes "b\n") ∷ []) ∷ (append (codes "f") (codes "c\n") ∷ []) ∷ (append (codes "f") (codes "d\n") ∷ []) ∷ (append (codes "g") (codes "e\n") ∷ []) ∷ []))
         ≡ record { out = codes "==> f <==\na\n\n==> g <==\nb\n\n==> f <==\nc\nd\n\n==> g <==\ne\n"; messages = []; has_failed = false } }
     // The same, where the first call on `f` fails.
     ensures of_one_that_breaks { let first = replace (codes "f") (codes "a\n") ∷ replace (codes "g") (codes "b\n") ∷ [] in
         let later = (append (codes "f") (codes "c\n") ∷ []) ∷ (append (codes "f") (codes "d\n") ∷ []) ∷ (append (codes "g") (codes "e\n") ∷ []) ∷ [] in
-        followed (record { first = 0; by_name = false; start = tail_of 10 Unit.Lines false 1; seeks = true }) true (codes "f" ∷ codes "g" ∷ []) (record { snapshot = seen_in (edited_by first empty_world); fates = unopened ∷ [] } ∷ drop 1 (looks_after false (first ∷ later)))
-        ≡ record { out = codes "==> g <==\nb\ne\n"; messages = codes "tail: cannot open 'f'\n" ∷ []; has_failed = true } }
+        followed (record { first = 0; by_name = false; start = tail_of 10 Unit.Lines false 1; seeks = true }) true (codes "f" ∷ codes "g" ∷ []) (record { snapshot = seen_in (edited_by first empty_world); visits = record { fate = unopened; why = Reason.Denied } ∷ [] } ∷ drop 1 (looks_after false (first ∷ later)))
+        ≡ record { out = codes "==> g <==\nb\ne\n"; messages = failed (record { fault = Fault.Open 0; why = Reason.Denied }) (codes "f") ∷ []; has_failed = true } }
     // `tail -F f`, where another file comes that can't be opened: what came to the open one is written, and that it was replaced is told.
     ensures that_cannot_be_opened { let first = replace (codes "f") (codes "a\n") ∷ [] in let later = append (codes "f") (codes "c\n") ∷ replace (codes "f") (codes "q\n") ∷ [] in
         followed (record { first = 0; by_name = true; start = tail_of 10 Unit.Lines false 1; seeks = true }) false (codes "f" ∷ [])
-        (record { snapshot = seen_in (edited_by first empty_world); fates = [] } ∷ record { snapshot = seen_in (edited_by later (edited_by first empty_world)); fates = unopened ∷ [] } ∷ [])
-        ≡ record { out = codes "a\nc\n"; messages = codes "tail: 'f': file replaced\n" ∷ codes "tail: cannot open 'f'\n" ∷ []; has_failed = true } }
+        (record { snapshot = seen_in (edited_by first empty_world); visits = [] } ∷ record { snapshot = seen_in (edited_by later (edited_by first empty_world)); visits = record { fate = unopened; why = Reason.Denied } ∷ [] } ∷ [])
+        ≡ record { out = codes "a\nc\n"; messages = found Replaced (codes "f") ∷ failed (record { fault = Fault.Open 0; why = Reason.Denied }) (codes "f") ∷ []; has_failed = true } }
     // `tail -f -c 2 f`, where a read of its sixth byte fails: what stands before it is written.
     ensures that_cannot_be_read { let first = replace (codes "f") (codes "abc") ∷ [] in let later = append (codes "f") (codes "defg") ∷ [] in
         followed (record { first = 0; by_name = false; start = tail_of 10 Unit.Bytes false 2; seeks = false }) false (codes "f" ∷ [])
-        (record { snapshot = seen_in (edited_by first empty_world); fates = [] } ∷ record { snapshot = seen_in (edited_by later (edited_by first empty_world)); fates = unread (Some 0) 5 ∷ [] } ∷ [])
-        ≡ record { out = codes "bcde"; messages = codes "tail: cannot read 'f'\n" ∷ []; has_failed = true } }
+        (record { snapshot = seen_in (edited_by first empty_world); visits = [] } ∷ record { snapshot = seen_in (edited_by later (edited_by first empty_world)); visits = record { fate = unread (Some 0) 5; why = Reason.Input } ∷ [] } ∷ [])
+        ≡ record { out = codes "bcde"; messages = failed (record { fault = Fault.Read 0; why = Reason.Input }) (codes "f") ∷ []; has_failed = true } }
     // `tail -F f` by its own name, where the file can't be read for a look after more came to it: it is missing there, and then comes whole.
     ensures that_is_barred { followed (record { first = 0; by_name = true; start = tail_of 10 Unit.Lines false 1; seeks = true }) false (codes "f" ∷ []) (looks_after true ((replace (codes "f") (codes "a\nb\n") ∷ []) ∷ (append (codes "f") (codes "c\n") ∷ bar (codes "f") true ∷ []) ∷ (bar (codes "f") false ∷ []) ∷ []))
-        ≡ record { out = codes "b\nc\na\nb\nc\n"; messages = codes "tail: 'f': file inaccessible\n" ∷ codes "tail: 'f': file appeared\n" ∷ []; has_failed = false } }
+        ≡ record { out = codes "b\nc\na\nb\nc\n"; messages = found Inaccessible (codes "f") ∷ found Appeared (codes "f") ∷ []; has_failed = false } }
     // The same edits before one look: it was never missing.
     ensures that_is_barred_unseen { followed (record { first = 0; by_name = true; start = tail_of 10 Unit.Lines false 1; seeks = true }) false (codes "f" ∷ []) (looks_after true ((replace (codes "f") (codes "a\nb\n") ∷ []) ∷ (append (codes "f") (codes "c\n") ∷ bar (codes "f") true ∷ bar (codes "f") false ∷ []) ∷ []))
         ≡ record { out = codes "b\nc\n"; messages = []; has_failed = false } }
