@@ -26,9 +26,9 @@ ghost use Rattle.operand_core.specs.{Reading.Asks, declared.operand.Operand.Oper
 ghost use Rattle.tools_core.specs.{
   Promises.{AllSplit, AreChunks, AreCopies, AreDealt, AreLinePieces, AreListed, AreNumbered, ArePieces, AreSections},
   Promises.{AreUncut, BeginsEach, Completes, CountAlike, Does, AsksToFollow, EndsWithBreak, FindAlike},
-  Promises.{Follows, FollowsOne, GivesOther, HasInput, HasLong, IsBare, IsChunkAsShown, IsCutAsShown, IsHead, IsOfProgram},
-  Promises.{IsSilent, LostReader, IsStopped, IsTail, SaysWhy, LeaveAlike, IsGrowing, Ran, SkipNothing, Splits},
-  Promises.{WhyBroken, contents_of, files_of, lines_telling, held, makes_files, output_of, tail_part, text_at, versions_of},
+  Promises.{Follows, FollowsOne, HasInput, HasLong, IsBare, IsChunkAsShown, IsCutAsShown, IsHead, IsOfProgram},
+  Promises.{IsSilent, IsStopped, IsTold, IsTail, SaysWhy, LeaveAlike, IsGrowing, Ran, SkipNothing, Splits, SplitsOther},
+  Promises.{contents_of, files_of, lines_telling, held, makes_files, output_of, tail_part, text_at, versions_of},
   Run.{IsUnread, Run},
 };
 ghost use Rattle.words_core.specs.{
@@ -167,11 +167,11 @@ pub fn split_loses_nothing()
         → AllSplit runs asked n (λ place. way.Turn place n delim) input
         → AreDealt delim n false input (map (λ place. output_of (runs place)) (range_with_len 0 n)) }
     ensures changed { (split : Run) (asked : SplitAsked) (chunks : Chunks) (input : Input) (shown bytes : List ℕ)
-        → Completes split (Split asked) → GivesOther split input shown bytes → asked.way ≡ way.Chunks chunks
+        → SplitsOther split asked (way.Chunks chunks) input shown bytes
         → IsCutAsShown split asked chunks input.name shown bytes }
     ensures chunk_changed { (one : Run) (asked : SplitAsked) (place : ℕ) (chunks : Chunks) (input : Input)
-        (shown bytes : List ℕ) → Completes one (Split asked) → GivesOther one input shown bytes
-        → asked.way ≡ way.Chunk place chunks → IsChunkAsShown one asked place chunks input.name shown bytes }
+        (shown bytes : List ℕ) → SplitsOther one asked (way.Chunk place chunks) input shown bytes
+        → IsChunkAsShown one asked place chunks input.name shown bytes }
 {}
 
 /// `csplit` loses nothing. Its files are numbered in their order, and no two have the same name. They come in the order
@@ -186,9 +186,9 @@ pub fn csplit_loses_nothing()
     ensures joined { (csplit : Run) (asked : CsplitAsked) (input : List ℕ) → Does csplit (Csplit asked)
         → HasInput csplit input → asked.style.suppress ≡ false → SkipNothing asked.operands
         → joined (contents_of csplit) ≡ input }
-    ensures sections { (csplit : Run) (asked : CsplitAsked) (input : List ℕ) → Does csplit (Csplit asked)
-        → HasInput csplit input → (operands : List Operand) × Asks asked.calling asked.operands operands
-        × AreSections asked.style operands input (contents_of csplit) }
+    ensures sections { (run : Run) (asked : CsplitAsked) (input : List ℕ) → Does run (Csplit asked)
+        → HasInput run input → (operands : List Operand) × Asks asked.calling asked.operands operands
+        × AreSections asked.style operands input (contents_of run) }
 {}
 
 /// A fault leaves nothing but a beginning. Whatever a run met over its inputs, standard output and each file have a
@@ -207,8 +207,7 @@ pub fn faults_leave_a_beginning()
         → (well : Run) × FindAlike asked run well × Completes well asked }
     ensures says { (run : Run) (asked : Settings) → Ran run asked → run.status ≡ 1 → SaysWhy run asked }
     ensures broken { (run : Run) (asked : Settings) (place : ℕ) → Ran run asked → (place ≡ 1 → ⊥)
-        → (slot_at run.outputs place).is_broken ≡ true → ((run.status ≡ 1) × WhyBroken run asked place)
-        ⊎ (IsSilent run asked × (LostReader run place ⊎ WhyBroken run asked place)) }
+        → (slot_at run.outputs place).is_broken ≡ true → IsTold run asked place }
 {}
 
 /// `tail -f` writes all, once. Of one file that only grows, if no header is written, it writes the last lines or bytes
