@@ -29,7 +29,7 @@ use Rattle.ports_core.specs.{
 use Rattle.ports_core.proofs.OrderLemmas.{in_order}
 use Rattle.tools_core.{
   specs.Promises.{AreInOrder, Splits, makes_files, text_at, Does, HasInput, AreListed, ArePieces, AreLinePieces},
-  specs.Promises.{AreUncut, AreDealt, EndsLine, IsFilled, IsSound, contents_of, Completes, GivesOther},
+  specs.Promises.{AreUncut, AreDealt, EndsLine, IsFilled, IsSound, contents_of, SplitsOther},
   specs.Promises.{IsChunkAsShown, IsCutAsShown, TellsMet, files_of, lines_telling, output_of, removes_files},
   specs.Tasks.{filing_of, names_of, naming_of, speaker_of, split_task},
   proofs.{
@@ -636,8 +636,8 @@ judged_made : (task : Task) (work : Work) (name : List ℕ) (content : Content) 
 judged_made task work name content None ends judged stay bare = grind (arith, common_steps)
 judged_made task work name content (Some verdict) ends judged stay bare = grind (arith, common_steps)
 
-module _ {split : Run} {asked : SplitAsked} {input : Input} {shown bytes : List ℕ}
-    (whole : Completes split (Split asked)) (gives : GivesOther split input shown bytes) where
+module _ {split : Run} {asked : SplitAsked} {how : Way} {input : Input} {shown bytes : List ℕ}
+    (splits : SplitsOther split asked how input shown bytes) where
   abbrev task : Task
   task = split_task Cutters asked
 
@@ -652,17 +652,17 @@ module _ {split : Run} {asked : SplitAsked} {input : Input} {shown bytes : List 
       → work.verdict bytes ≡ verdict → LeftSo (made_at task input.name (work.whole bytes) verdict)
   left_so work verdict is stay judged = subst LeftSo made (all.fits, all.left) where
     all : LeftBy split (Split asked)
-    all = completes_left whole
+    all = completes_left splits.whole
 
     content : Content
     content = record { bytes = bytes; breaks_off = false; shown = Some shown }
 
     only : inputs_at split.world (names_of (Split asked)) ≡ input ∷ []
-    only = rw whole.read at gives.only
+    only = rw splits.whole.read at splits.only
 
     made : all.made ≡ made_at task input.name (work.whole bytes) verdict
     made = makes_task (Split asked) task (inputs_at split.world (names_of (Split asked))) refl all.of ∙ ap
-        (made_by task) only ∙ rw (gives.showed, gives.gave, is)
+        (made_by task) only ∙ rw (splits.showed, splits.gave, is)
         (judged_made task work input.name content verdict refl judged stay refl)
 
   -- the work is that of the way that was asked for
@@ -685,7 +685,7 @@ module _ {split : Run} {asked : SplitAsked} {input : Input} {shown bytes : List 
     size = length shown
 
     can : CanSplit asked
-    can = (by_words split.calling split.words whole.read).1
+    can = (by_words split.calling split.words splits.whole.read).1
 
     limits : IsInLimits (way.Chunks chunks)
     limits = rw is at can.way
@@ -697,7 +697,7 @@ module _ {split : Run} {asked : SplitAsked} {input : Input} {shown bytes : List 
     named = rw is at (all_have_names asked can.named)
 
     left : LeftSo (made_at task input.name ((chunks_work plan (Some size)).whole bytes) (Some Changed))
-    left = left_so (chunks_work plan (Some size)) (Some Changed) (way_is is) refl (changed_told plan size bytes gives.other)
+    left = left_so (chunks_work plan (Some size)) (Some Changed) (way_is is) refl (changed_told plan size bytes splits.other)
 
     written : contents_of split ≡ map (λ file. file.written) ((chunks_work plan (Some size)).whole bytes).files
     written = rw left.1.swept
@@ -715,4 +715,4 @@ module _ {split : Run} {asked : SplitAsked} {input : Input} {shown bytes : List 
     changed : has_ended chunks (length shown) bytes place ≡ false
         → LeftSo (made_at task input.name (work.whole bytes) (Some Changed))
     changed short = left_so work (Some Changed) (way_is is) refl
-        (changed_alone place chunks (length shown) bytes gives.other short)
+        (changed_alone place chunks (length shown) bytes splits.other short)

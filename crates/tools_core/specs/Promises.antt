@@ -446,15 +446,6 @@ abbrev pub Tells : Run → Settings → Fault → List ℕ → Type 0
 Tells run asked fault name = (before : List Message) × (after : List Message)
     × SaysLines run asked (before ++ message_by run fault name ∷ after)
 
--- The run has one input, which showed a text that has a byte, and then gave these bytes, which are fewer or more, and
--- ended after them.
-pub record GivesOther (run : Run) (input : Input) (shown bytes : List ℕ) : Type 0 where
-  pub only : inputs_at run.world (names_read run.calling run.words) ≡ input ∷ []
-  pub showed : input.shown ≡ Some shown
-  pub some : 0 < length shown
-  pub gave : input.content ≡ Some (record { bytes = bytes; breaks_off = false; shown = Some shown })
-  pub other : length bytes ≡ length shown → ⊥
-
 -- The files have what came, up to the length that was shown, each what goes with its chunk of a text of that length. It
 -- was told that the input of this name changed.
 pub record IsCutAsShown (run : Run) (asked : SplitAsked) (chunks : Chunks)
@@ -535,12 +526,17 @@ pub record Completes (run : Run) (asked : Settings) : Type 0 where
   pub read : settings_of run.calling run.words ≡ Ok asked
   pub does : DoesAll run (inputs_at run.world (names_of asked)) asked
 
--- a run was to split this input in this way, and no fault stopped it
+-- A run was to split its one input in this way, and no fault stopped it. The input showed a text that has a byte, and
+-- then gave these bytes, which are fewer or more, and ended after them.
 pub record SplitsOther (run : Run) (asked : SplitAsked) (way : Way) (input : Input)
     (shown bytes : List ℕ) : Type 0 where
   pub whole : Completes run (Split asked)
-  pub gives : GivesOther run input shown bytes
   pub is : asked.way ≡ way
+  pub only : inputs_at run.world (names_read run.calling run.words) ≡ input ∷ []
+  pub showed : input.shown ≡ Some shown
+  pub some : 0 < length shown
+  pub gave : input.content ≡ Some (record { bytes = bytes; breaks_off = false; shown = Some shown })
+  pub other : length bytes ≡ length shown → ⊥
 
 -- Why an output of a run is broken was told, and the status is 1; or the run may be silent about a reader that is gone.
 abbrev pub IsTold : Run → Settings → ℕ → Type 0

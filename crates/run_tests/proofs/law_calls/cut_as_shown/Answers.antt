@@ -1,10 +1,11 @@
 use Rattle.std.proofs.Common.{◌≡◌, ℕ, ◌<◌, List, [], ◌∷◌, Some, Result, codes, false, length, inl, inr, refl, ◌∙◌, ap, arith}
 use Rattle.mem_core.specs.MemInState.{shown_by}
+use Rattle.seg_core.specs.declared.cut.{Chunks.Chunks, Way.TheVariants.Chunks as Chunked}
 use Rattle.run_core.specs.Input.{Input, file_input, inputs_at}
 use Rattle.words_core.specs.{SplitWords.SplitAsked, declared.settings.Settings.{Settings, TheVariants.Split}}
 use Rattle.tools_core.specs.{
   Outcome.{names_at, names_read},
-  Promises.{GivesOther},
+  Promises.{Completes, SplitsOther},
 }
 use Rattle.run_tests.{
   specs.inner.Calls.{in_file, run_of},
@@ -20,10 +21,13 @@ shown_some (byte ∷ text) some = refl
 abbrev changing : (bytes shown : List ℕ) → Input
 changing bytes shown = file_input (codes "f") 1 (Some (record { bytes = bytes; breaks_off = false; shown = shown_by shown }))
 
-gives_other : (run : Run) (asked : SplitAsked) (bytes shown : List ℕ) → names_read run.calling run.words ≡ codes "f" ∷ []
-    → inputs_at run.world (codes "f" ∷ []) ≡ changing bytes shown ∷ []
-    → 0 < length shown → (length bytes ≡ length shown → ⊥) → GivesOther run (changing bytes shown) shown bytes
-gives_other run asked bytes shown only lies some other = record {
+splits_other : {run : Run} {asked : SplitAsked} {chunks : Chunks} (bytes shown : List ℕ) → Completes run (Split asked)
+    → asked.way ≡ Chunked chunks → names_read run.calling run.words ≡ codes "f" ∷ []
+    → inputs_at run.world (codes "f" ∷ []) ≡ changing bytes shown ∷ [] → 0 < length shown
+    → (length bytes ≡ length shown → ⊥) → SplitsOther run asked (Chunked chunks) (changing bytes shown) shown bytes
+splits_other {run = run} bytes shown whole way only lies some other = record {
+  whole = whole;
+  is = way;
   only = ap (inputs_at run.world) only ∙ lies;
   showed = shown_some shown some;
   some = some;
@@ -43,7 +47,7 @@ returns c asked chunks read only way some other =
       refl,
       elim (c.cutting_changes_nothing.ensures.ended one (Split asked) ran) [
         | inl whole ↦ inl (c.split_loses_nothing.ensures.changed one asked chunks (changing bytes shown) shown bytes
-            (record { whole = whole; gives = gives_other one asked bytes shown names refl some other; is = way }))
+            (splits_other bytes shown whole way names refl some other))
         | inr short ↦ inr short
       ],
     )

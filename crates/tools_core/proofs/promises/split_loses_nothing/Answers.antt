@@ -48,8 +48,8 @@ returns c = record {
       ∙ ap (λ n. flat_map (λ place. get_or (chunks_in chunks input) place []) (range_with_len 0 n)) (sym (count_chunks chunks input some))
       ∙ all_pieces (chunks_in chunks input) 0 (chunks_in chunks input) (λ i. ap (λ at. get_or (chunks_in chunks input) at []) (omega arith))
       ∙ join_chunks chunks input some;
-  changed = λ split asked chunks input shown bytes splits. cut_as_shown splits.whole splits.gives splits.is;
-  chunk_changed = λ one asked place chunks input shown bytes splits. chunk_as_shown splits.whole splits.gives splits.is;
+  changed = λ split asked chunks input shown bytes splits. cut_as_shown splits splits.is;
+  chunk_changed = λ one asked place chunks input shown bytes splits. chunk_as_shown splits splits.is;
   turns = λ runs asked n delim input some each.
       rw (map_same (λ place. output_of (runs place)) (share_of delim n input) 0 n
       (λ place from within. wrote_alone (each place (omega (arith, within))) refl)) (dealt_lines some);
