@@ -36,7 +36,7 @@ call_of (unread file from) = Some (broken.Read file from)
 -- how a look at one name ended
 pub record Visit : Type 0 where
   pub fate : Fate
-  -- the system's reason: why the call failed, or why the name is missing at the first look; it says nothing otherwise
+  -- if a call failed, the system's reason for that; if the name is missing at the first look, some reason
   pub why : Reason
 
 abbrev pub sound_visit : Visit

@@ -58,7 +58,7 @@ pub data HasAll (work : Work) (content : Content) (x : List ℕ) : Type 0 where
   to_end : content.breaks_off ≡ false → content.bytes ≡ x → HasAll work content x
   enough : (rest : List ℕ) → content.bytes ≡ x ++ rest → work.is_complete x ≡ true → HasAll work content x
 
--- a step between these parts, after which no byte was given back
+-- a step between these parts, before which no byte was given back; the input hasn't ended by it
 abbrev pub step_of : Output → (files : Bool) → Needs → (read : List ℕ) → (low high : Part) → Step
 step_of output files needs read low high = record {
   low = low;
@@ -105,7 +105,8 @@ pub record StoppedStep (told : Bool) (before : List Slot) (first : ℕ) (clears 
   -- then the files were removed, from the output of number `first` on, if the work clears them
   pub swept : Swept clears first reached new
 
--- How feeding an input ends, from the state `before` of the outputs on; `IsStep` is true of each call of the engine.
+-- How feeding an input ends, from the state `before` of the outputs on. `IsStep` is true of the call that a fault
+-- stopped, and of what was left of the input then.
 pub data FedAs (told : Bool) (before : List Slot) (work : Work) (content : Content) (IsStep : Step → Type 0)
     (new : List Slot) : Result Fed Fault → Type 0 where
   -- the input ended before the output was complete; the work ends well
@@ -169,7 +170,8 @@ pub record Feed : Type 0 where
 abbrev pub feed_of : Work → Needs → ℕ → ℕ → Feed
 feed_of work opening most slot = record { work = work; opening = opening; most = most; slot = slot }
 
--- how that ended, and what it left of the input
+-- How feeding an input ended, and what it left of the input: `old` and `new` are the sources before and after it,
+-- `before` and `slots` the outputs.
 abbrev pub FedFrom : (told_in told : Bool) → Feed → (old new : List Source) → (before slots : List Slot)
     → Result Fed Fault → Type 0
 FedFrom told_in told feed old new before slots result = let source = source_at new feed.slot in

@@ -12,7 +12,7 @@ use Rattle.split_core.specs.{
 abbrev pub IfNamed : ChunksPlan → Type 0 → Type 0
 IfNamed plan A = 0 < plan.chunks.count → are_named plan.filing.names plan.chunks.count ≡ true → A
 
--- of any input, `one` writes to standard output what `all` writes to the file at this place, with files for empty chunks
+-- of any input, `one` writes to standard output what `all` writes to the file at this place, empty files counted
 abbrev pub WritesFile : (place : ℕ) → Filing → (one all : Way) → Type 0
 WritesFile place filing one all = (said : Option ℕ) (x : List ℕ) → (way_work one false filing said).whole x
     ≡ only_out (get_or (file_bytes ((way_work all false filing said).whole x)) place [])

@@ -13,7 +13,7 @@ use Rattle.tee_core.specs.Run.{ComesIn, TeeRun, all_opened, output_at}
 
 -- what an output has in the end, which was `start` when it was opened, once these pieces were copied
 pub data EndsWith (told : Bool) (pieces : List (List ℕ)) (start : Slot) : Slot → Type 0 where
-  -- it never broke: it has all, and a file is closed
+  -- it never broke: it has all, and is open or closed
   all_open : EndsWith told pieces start (adds (told_of told (concat pieces)) start)
   all_closed : EndsWith told pieces start (closes (adds (told_of told (concat pieces)) start))
   -- it broke in a piece: it has all before this piece, and a beginning of the piece
