@@ -33,10 +33,12 @@ is_by_name Name = true
 is_by_name PresentName = true
 is_by_name FirstFile = true
 
--- What each look of a run shows. If `tail` was called by its own name and goes on with names (`Name`), a name that
--- can't be opened or read counts as missing, and a call can fail only on a name that no file can have. If names are
--- followed as long as they lead to a file (`PresentName`), a call on a name that leads nowhere fails. If the first file
--- of a name is followed (`FirstFile`), the name leads to this file from then on, and a call on it can fail.
+-- What each look of a run shows. `Descriptor` is `-f`, and `Name` is `-F`. Only by its own name `tail` knows the
+-- others: `PresentName` is `--follow=name` without `--retry`, and `FirstFile` is `-f --retry`. If `tail` was called by
+-- its own name and goes on with names (`Name`), a name that can't be opened or read counts as missing, and a call can
+-- fail only on a name that no file can have. If names are followed as long as they lead to a file (`PresentName`), a
+-- call on a name that leads nowhere fails. If the first file of a name is followed (`FirstFile`), the name leads to
+-- this file from then on, and a call on it can fail.
 abbrev pub shows_by : Calling → Method → (ℕ → Snapshot) → ℕ → Snapshot
 shows_by calling Descriptor shows = shows
 shows_by Cutters Name shows = shows
@@ -119,6 +121,7 @@ pub data FollowEndsAs (told_in told : Bool) (asked : Asked) (count : ℕ) (shows
       → TellsOn told (tail_by asked.calling) fault mid left.slots
       → status ≡ status_after fault asked.calling (output_reason mid fault)
       → FollowEndsAs told_in told asked count shows left status
+  -- Before a look it was seen that nobody reads standard output any more. No further look was made.
   unread : (looks : List Look) (shares : List Share) (before : List Slot) → asked.calling ≡ OwnName
       → left.seen ≡ snapshots looks → AreWatched asked.ways looks asked.names left.watched
       → Made told_in asked.ways asked.names shows looks → length looks < count

@@ -88,6 +88,7 @@ pub record Asked : Type 0 where
   pub ways : Ways
   pub headers : Bool
   pub names : List (List ℕ)
+  -- the outputs as they were before
   pub first : List Slot
 
 -- a request to follow these names, which are watched from number 0 on; `first` are the outputs before that
@@ -141,8 +142,8 @@ pub data Begun (told_in : Bool) (ways : Ways) (names : List (List ℕ)) (looks :
       (slice_index_or names place [])))
       → Begun told_in ways names looks snapshot watched shares (share ∷ [])
 
--- Following ended in the look after these, at one name. The outputs got all that these looks give, all that this look
--- gives for the names before that name, and a beginning of what it gives for that name.
+-- Following ended in the look after these, before the first name or at a name. The outputs got all that these looks
+-- give, all that this look gives for the names before that name, and a beginning of what it gives for that name.
 pub record Halted (told_in told : Bool) (asked : Asked) (looks : List Look) (snapshot : Snapshot)
     (watched : List Watched) (slots : List Slot) (why : Fault) : Type 0 where
   pub shares : List Share

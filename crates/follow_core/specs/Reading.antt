@@ -33,11 +33,10 @@ pub data AreRead (told : Bool) (snapshot : Snapshot) (name : List ℕ) (file : O
       → Saw told snapshot name (reads_as file at piece)
       → AreRead told snapshot name file from (bytes ++ piece) (at + length piece)
 
--- The index of type `Option Fate` says how far calls came. `Some sound`: all were made. `Some fate`: the call of this
--- fate failed. `None`: following ended before, and the outputs got a beginning of the events.
-
--- Reads of a file of this length gave these bytes, from `from` on: up to the length, or until a read gave nothing; up to
--- a read that failed; or as far as following went.
+-- Reads of a file of this length gave these bytes, from `from` on: up to the length, or until a read gave nothing; up
+-- to a read that failed; or as far as following went. Here and below an index of type `Option Fate` says how far calls
+-- came. `Some sound`: all were made. `Some fate`: the call of this fate failed. `None`: following ended before, and the
+-- outputs got a beginning of the events.
 pub data ReadOn (told : Bool) (snapshot : Snapshot) (name : List ℕ) (file : Option ℕ) (from len : ℕ) : Option Fate
     → List Event → Type 0 where
   read_all : {bytes : List ℕ} {at : ℕ} → AreRead told snapshot name file from bytes at

@@ -1,4 +1,4 @@
--- Runs of versions, and the text that they give.
+-- Sequences of versions of a file, here called runs, and the text that they give.
 use Rattle.std.specs.{
   Prelude.{◌≡◌, ℕ, ◌==◌, Bool, true, false, ◌&&◌, nat_le, List, [], ◌∷◌, ◌++◌, length, drop, if◌then◌else◌},
   List.onto_first,

@@ -21,7 +21,7 @@ pub record Share : Type 0 where
   -- whether this was the first look, and it opened a file of the name
   pub is_opened : Bool
   pub events : List Event
-  -- why nothing more came: a call failed, or the name was missing at the first look
+  -- why nothing more came: a call failed, and so the name is dropped; or the name was missing at the first look
   pub failure : Option Failure
 
 abbrev pub bytes_of : Share → List ℕ

@@ -50,8 +50,8 @@ pub record IsWatched (ways : Ways) (looks : List Look) (place : ℕ) (name : Lis
   pub broke : BrokeIn ways looks place (failed_of watched)
   pub closed : is_some watched.failed ≡ true → watched.opened ≡ None
 
--- The watched names end with these names, from the number `first` on. Once a look was made, all of them are watched.
--- Before that some or all of them may be missing at the end. Each is watched by its own name.
+-- The last of the watched names are these names, from the number `first` on. Once a look was made, all of them are
+-- watched. Before that some or all of them may be missing at the end. Each is watched by its own name.
 abbrev pub AreWatched : Ways → List Look → List (List ℕ) → List Watched → Type 0
 AreWatched ways looks names watched = (length watched ≤ ways.first + length names)
     × (0 < length looks → length watched ≡ ways.first + length names)

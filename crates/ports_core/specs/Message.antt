@@ -53,6 +53,7 @@ abbrev pub TellsIf : (quiet : Bool) → Bool → Speaker → Reason → Message 
 TellsIf true told speaker why message old new = new ≡ old
 TellsIf false told speaker why message old new = SaysFor told speaker why message old new
 
+-- an output got the line of a fault with this name, unless nothing is to be said of it (`is_quiet`)
 abbrev pub Tells : Bool → Speaker → Reason → Fault → List ℕ → Slot → Slot → Type 0
 Tells told speaker why fault name =
     TellsIf (is_quiet fault speaker.calling why) told speaker why (message_of fault name)
@@ -69,8 +70,8 @@ output_reason slots (Write slot) = (slot_at slots slot).reason
 output_reason slots (Open slot) = (slot_at slots slot).reason
 output_reason slots fault = Other
 
--- a fault was reported on standard error, with the name of the output that it names, and the reason why this output
--- broke
+-- A fault was reported on standard error, unless nothing is to be said of it. The line has the name of the output that
+-- the fault names, and the reason why this output broke.
 abbrev pub TellsOn : Bool → Speaker → Fault → List Slot → List Slot → Type 0
 TellsOn told speaker fault old new =
     OnError (Tells told speaker (output_reason old fault) fault (output_named old fault)) old new

@@ -49,7 +49,7 @@ pub record Work : Type 0 where
   -- how many more bytes than it uses the tool may be given, of an input that others read after it
   pub ahead : ℕ
 
--- the work of a tool that always ends well
+-- the verdicts of a tool whose work always ends well: none
 abbrev pub always_well : List ℕ → Option Verdict
 always_well x = None
 

@@ -3,7 +3,7 @@
 pub enum OnBroken {
     /// The run goes on with the outputs that are left.
     Warn,
-    /// The run ends, and the other outputs keep what they have.
+    /// The run ends once the other outputs have got the piece that was read.
     Exit,
     /// As `Warn`, but if an output's reader is gone nothing is said, and it is no fault.
     WarnNoPipe,

@@ -28,7 +28,7 @@ made_of work content = if is_enough work content then work.whole content.bytes e
 pub record Step : Type 0 where
   -- what was written before the step
   pub low : Part
-  -- what is written with the step
+  -- what is written once the step is done: `low`, and what the step adds
   pub high : Part
   -- what it writes to standard output
   pub output : Output
@@ -190,9 +190,10 @@ pub record Uses (work : Work) (most slot : ℕ) (there : Content) (source : Sour
   pub enough : (source.left.bytes ≡ []) ⊎ (work.is_complete read ≡ true)
   -- what it took was needed: without the last piece, of at most `most` bytes, the output isn't complete
   pub needed : IsNeeded work.is_complete most read
-  -- if the work ends well, each byte was needed: without the last byte the output isn't complete
+  -- if the work ends without a verdict, each byte was needed: without the last byte the output isn't complete
   pub exact : work.verdict read ≡ None → IsNeeded work.is_complete 1 read
-  -- of standard input, which others may read later, reads gave at most this much more, which was given back
+  -- of standard input, which others may read later, reads gave at most this much more; the run gave it back, but to a
+  -- real pipe nothing can be given back
   pub few : slot ≡ 0 → source.reached ≤ length read + work.ahead
 
 -- `left` is left of the input that was there, and what was read was needed

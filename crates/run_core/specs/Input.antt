@@ -8,7 +8,7 @@ use Rattle.ports_core.specs.{Inputs.empty, Source.Content}
 pub record Input : Type 0 where
   -- what headers and messages call it
   pub name : List ℕ
-  -- its number among the inputs, if it has one
+  -- its number among the sources: 0 is standard input; a second `-` has none
   pub slot : Option ℕ
   -- what it shows before it is read, if it shows anything
   pub shown : Option (List ℕ)

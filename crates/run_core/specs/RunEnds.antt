@@ -65,10 +65,11 @@ SaysOf told task sources (input ∷ inputs) old new = (mid : Slot)
     × SaysFrom told task.speaker (reason_of input.slot sources) (of_input task true input).messages old mid
     × SaysOf told task sources inputs mid new
 
--- All inputs were done.
+-- All inputs were done: each was written, or reported, or both.
 pub record AllDone (told_in told : Bool) (task : Task) (inputs : List Input) (sources : List Source)
     (new : List Slot) : Type 0 where
-  -- standard error at the end, which has the messages; it stands so among the outputs from the beginning
+  -- Standard error at the end, which has all messages. Slots keep no order between outputs, so here it stands among
+  -- them from the beginning.
   pub error : Slot
   pub says : SaysOf told task sources inputs standard_error error
   -- the outcome is written, and then files were removed if that is due
@@ -87,15 +88,16 @@ pub record StoppedAt (told_in told : Bool) (task : Task) (inputs : List Input) (
   pub are : inputs ≡ before ++ input ∷ after
   pub done : AreDone told_in task.work largest_piece before sources
   pub untouched : AreUntouched after sources
-  -- standard error with their messages, which stands so among the outputs from the beginning
+  -- standard error with their messages; here, too, it stands among the outputs from the beginning
   pub error : Slot
   pub says : SaysOf told task sources before standard_error error
   pub stop : StoppedStep told (streams_with error) 2 (task.work input.shown).clears
       (RunStep told_in task largest_piece (made_by task before).part (are_missing before) input sources) fault new
 
--- How a run ends.
+-- How a run ends. `inputs` are what was found at the names that it was given, in their order.
 pub data EndsAs (told_in told : Bool) (task : Task) (inputs : List Input) (sources : List Source) (new : List Slot)
     (status : ℕ) : Type 0 where
+  -- All inputs were done, and the status is that of the outcome.
   as_defined : AllDone told_in told task inputs sources new → status ≡ status_of (made_by task inputs)
       → EndsAs told_in told task inputs sources new status
   -- A fault stopped it, and left the outputs `mid`. It was reported, unless nothing is said of a reader that is gone.
@@ -103,7 +105,7 @@ pub data EndsAs (told_in told : Bool) (task : Task) (inputs : List Input) (sourc
       → TellsOn told task.speaker fault mid new
       → status ≡ status_after fault task.speaker.calling (output_reason mid fault)
       → EndsAs told_in told task inputs sources new status
-  -- There was no memory for the run, and no input was opened or touched.
+  -- There was no memory for the run. No input was opened or touched, so there is standard input alone.
   no_room : (error : Slot) → SaysAll told task.speaker (message_of Memory [] ∷ []) standard_error error
       → new ≡ streams_with error → AreUntouched inputs sources → length sources ≡ 1 → status ≡ 1
       → EndsAs told_in told task inputs sources new status

@@ -31,7 +31,7 @@ pub record Outcome : Type 0 where
   pub part : Part
   -- what is reported on standard error, in order
   pub messages : List Message
-  -- whether a fault was met
+  -- whether there is a fault or a verdict: an input can't be opened or read further, or its work ends with a verdict
   pub failed : Bool
   -- whether the files are removed at the end
   pub sweeps : Bool

@@ -1,5 +1,5 @@
--- What `split` makes of an input that it cuts into chunks, or of which it writes what one file would have: GNU coreutils
--- manual, split, `-n N`, `-n l/N`, `-n K/N`, `-n l/K/N` and `-n r/K/N`.
+-- What `split` makes of an input that it cuts into chunks, or of which it writes what one file would have: GNU
+-- coreutils manual, split, `-n N`, `-n l/N`, `-n K/N`, `-n l/K/N` and `-n r/K/N`.
 use Rattle.std.specs.{
   Option.is_none,
   Prelude.{◌≡◌, ℕ, ◌||◌, max, Bool, true, false, List, [], ◌++◌, map, filter, get_or, IsTrue, Option, Some, None},
@@ -60,7 +60,8 @@ abbrev pub chunks_whole : ChunksPlan → Option ℕ → List ℕ → Part
 chunks_whole plan said x =
     part_of (manner_of plan.filing) (map (share Closed) (files_by plan.elide (in_the_end plan.chunks said x)))
 
--- The work of chunks in files. If the input showed another length than it has, it changed, and what was written stays.
+-- The work of chunks in files. If the input showed another length than it has, it changed: if fewer bytes came, later
+-- chunks have no file, and if more came, these are left out.
 -- If it showed none, files are opened at the end, too.
 abbrev pub chunks_work : ChunksPlan → Option ℕ → Work
 chunks_work plan said = record {
@@ -90,8 +91,9 @@ abbrev pub ahead_of : Counted → ℕ
 ahead_of Lines = 4096
 ahead_of Bytes = 0
 
--- The work of one chunk, on standard output. What stands before it is dropped, and the first chunk is written as far as
--- it is decided. If the input showed its size, nothing waits, so no memory is asked for.
+-- The work of `-n K/N` and `-n l/K/N`, where the place is K - 1: one chunk, on standard output. What stands before it
+-- is dropped, and the first chunk is written as far as it is decided. If the input showed its size, nothing waits, so
+-- no memory is asked for.
 abbrev pub chunk_work : ℕ → Chunks → Option ℕ → Work
 chunk_work place chunks said = record {
   settled = λ x. piece_at place (decided chunks (max place 1) said x);
@@ -108,7 +110,8 @@ chunk_work place chunks said = record {
 abbrev pub turn_of : ℕ → ℕ → ℕ → List ℕ → Part
 turn_of place count delim x = only_out (dealt count place 0 (lines_of delim x))
 
-abbrev pub turn_work : ℕ → ℕ → ℕ → Work
+-- the work of `-n r/K/N`, where the place is K - 1
+abbrev pub turn_work : (place count delim : ℕ) → Work
 turn_work place count delim = record {
   settled = turn_of place count delim;
   whole = turn_of place count delim;

@@ -141,7 +141,8 @@ pub record SaysTo (run : TeeRun) (reports : List Report) (old new : List Slot) :
 abbrev pub has_failed : List Standing → Option Fault → Bool
 has_failed standings fault = not (is_none fault) || any_is Broken standings
 
--- the status if an output is gone; under `Signal` it is 141, as if a signal had ended the run
+-- The status if an output is gone. Under `Signal`, which is by the tool's own name with neither `-p` nor
+-- `--output-error`, it is 141, as if a signal had ended the run.
 abbrev pub gone_status : OnBroken → Bool → ℕ
 gone_status Signal failed = 141
 gone_status WarnNoPipe failed = if failed then 1 else 0
@@ -163,8 +164,8 @@ abbrev pub AreSound : List Slot → Type 0
 AreSound slots = (place : ℕ) → (place ≡ 1 → ⊥) → (slot_at slots place).is_broken ≡ false
 
 -- How far an input is read: to its end; until it breaks off; up to a piece with which it has more bytes than any tool
--- takes; or, if `is_vain`, up to the piece with which broken outputs ended the run. x is all that was copied, and
--- `Leaves` says what is left unread.
+-- takes, and which isn't copied; or, if `is_vain`, up to the piece with which broken outputs ended the run. x is all
+-- that was copied, and `Leaves` says what is left unread.
 pub data IsRead (content : Content) (Leaves : List ℕ → Type 0) : (is_vain : Bool) → List ℕ → Option Fault → Type 0 where
   to_end : (x : List ℕ) → content.bytes ≡ x → content.breaks_off ≡ false → Leaves []
       → IsRead content Leaves false x None
@@ -182,7 +183,7 @@ LeavesOf told source rest = told ≡ true → source.left.bytes ≡ rest
 abbrev pub IsAsFound : Bool → Content → Source → Type 0
 IsAsFound told content source = (there : Content) × (source ≡ source_of there) × (told ≡ true → there ≡ content)
 
--- the last read gave the last of these pieces
+-- the last read gave as many bytes as the last of these pieces has
 abbrev pub GaveLast : List (List ℕ) → Source → Type 0
 GaveLast pieces source = (before : List (List ℕ)) (piece : List ℕ) → pieces ≡ before ++ piece ∷ []
     → source.last ≡ length piece
@@ -202,7 +203,8 @@ pub record ComesIn (told : Bool) (content : Content) (source : Source) (is_vain 
   -- one read for each piece, and one that reported the end, failed or gave too much, unless broken outputs ended that
   pub reads : source.reads ≡ length pieces + (if is_vain then 0 else 1)
 
--- What `OpensAll` starts from: the streams as a run finds them, and for each name a slot as if its file had been opened.
+-- What `OpensAll` starts from: the streams as a run finds them, and for each name a slot as if its file had been
+-- opened.
 abbrev pub all_opened : TeeRun → List Slot
 all_opened run = standard_output ∷ standard_error ∷ map (λ name. opened name run.mode) run.names
 
@@ -222,8 +224,8 @@ pub record Step (run : TeeRun) (fault : Fault) (Change : Slot → Slot → Type 
   pub changes : ChangesEach Change IsOne old mid
   pub said : SaysTo run (said_in run fault old mid) mid new
 
--- Each file was opened, or couldn't be. The 0 of `Open 0` and `Write 0` says nothing: a message has the name of an output,
--- and no number of a slot.
+-- Each file was opened, or couldn't be. The 0 of `Open 0` and `Write 0` says nothing: a message has the name of an
+-- output, and no number of a slot.
 abbrev pub OpensAll : TeeRun → List Slot → List Slot → Type 0
 OpensAll run = Step run (Open 0) (λ file now. OpensAs file.mode file.name now) (IsFileOf run.names)
 
@@ -247,8 +249,7 @@ pub data Copied (run : TeeRun) : List (List ℕ) → List Slot → Type 0 where
 pub data EndsAs (run : TeeRun) (told_in : Bool) (content : Content) (source : Source) (new : List Slot) (status : ℕ)
     : Type 0 where
   -- The input came in pieces, and each was copied: `fed` is what that left. Then the fault that ended the reading was
-  -- reported, if one did (`mid`), with the reason of the source, and the files were closed. The status says whether
-  -- anything failed.
+  -- reported, if one did (`mid`), with the reason of the source, and the files were closed.
   copied : (pieces : List (List ℕ)) (fault : Option Fault) (fed mid : List Slot)
       → ComesIn told_in content source (is_done run.on_broken (standings_of fed)) pieces fault → Copied run pieces fed
       → SaysTo run (said_of_input source fault) fed mid → ClosesAll run mid new
