@@ -1,7 +1,7 @@
 //! Laws of what words spell and ask for, with no code: each stands on the contract of a function whose body is empty.
 ghost use Rattle.std.specs.{
   Prelude.{◌≡◌, ◌≢◌, ◌↔◌, ◌+◌, ◌-◌, ◌*◌, ◌^◌, ◌≤◌, ◌<◌, ◌==◌, ◌++◌, ℕ, List, [], ◌∷◌, All, Some, None, Ok, Err, IsOk},
-  Prelude.{true, false, length, filter, codes, if◌then◌else◌, slice_get, ◌⊎◌},
+  Prelude.{true, false, length, max, filter, codes, if◌then◌else◌, slice_get, ◌⊎◌},
   List.Contains,
 };
 ghost use Rattle.ports_core.specs.declared.fault.UsageKind.{
@@ -50,7 +50,7 @@ use crate::settings::{Headers, Settings, Topic};
 use crate::spelled::Chosen;
 use crate::table::Takes;
 use crate::value::Followed;
-use ports_core::{Alphabet, Calling, Fault, Mode, OnBroken, Tool};
+use ports_core::{Alphabet, Base, Calling, Fault, Filling, Mode, OnBroken, Tool};
 use seg_core::count::{Count, Sign};
 use seg_core::cut::{Cut, Limit, Way};
 use seg_core::unit::Unit;
@@ -540,6 +540,13 @@ pub fn csplit_options_ask()
       suppress = false;
       one_past = false;
     }) }
+    ensures form { (digits : ℕ) → decimal_form digits ≡ record {
+      base = Base.Decimal;
+      is_marked = false;
+      width = 0;
+      filling = Filling.BlanksBefore;
+      precision = max 1 digits;
+    } }
     ensures prefix { (text : List ℕ) → CsplitAsks (codes "-f" ∷ text ∷ []) (record plain_style { prefix = text }) }
     ensures digits { (value : List ℕ) (digits : ℕ) → up_to 255 (digits_of value) ≡ Ok digits
         → CsplitAsks (codes "-n" ∷ value ∷ []) (record plain_style { form = decimal_form digits }) }
