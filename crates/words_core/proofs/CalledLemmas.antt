@@ -5,18 +5,19 @@ use Rattle.std.proofs.{
     List.map-append,
     Option.{get_or_from_slice_get, slice_get_cases, slice_get_within},
     Slice.Eq.bytes_eq-Decides,
-    Str.{IsUtf8-from_is_utf8, is_utf8-from_IsUtf8},
+    Str.{IsUtf8-from_is_utf8, IsUtf8-string_bytes, is_utf8-from_IsUtf8},
   },
   Math.{ListN.drop_of_length-le, Seq.drop-cons},
   Common.{◌≡◌, ℕ, Bool, true, false, List, [], ◌∷◌, ◌++◌, Option, Some, None, Result, Ok, Err, IfOk, if◌then◌else◌},
   Common.{codes, map, option_map, bytes_eq, string_bytes, refl, sym, ◌∙◌, ap, subst, arith, rules, ◌+◌, ◌<◌, inl, inr},
   Common.{length, drop, get_or, add-one, append_assoc},
 }
-use Rattle.std.specs.{List.slice_get, Str.{IsUtf8, is_utf8, Lossy.utf8_lossy}}
+use Rattle.std.specs.{List.slice_get, declared.string.String.String, Str.{IsUtf8, is_utf8, Lossy.utf8_lossy}}
 use Rattle.ports_core.specs.declared.{calling.Calling.TheVariants.Cutters, tool.Tool.Tool}
 use Rattle.words_core.specs.{
-  declared.args.{Args.{Args}, ArgsFault.{ArgsFault}},
-  Called.{AreGiven, IsCalled, called_by, has_slash, last_part, reads_any, text_of, tool_called, word_of, words_called},
+  declared.args.{Args.{Args}, ArgsFault.{ArgsFault, TheVariants.{Memory, NotUtf8}}},
+  Called.{AreGiven, IfNotUtf8, IsCalled, IsFirstInvalid, called_by, has_slash, last_part, reads_any, text_of, tool_called},
+  Called.{word_of, words_called, words_of},
   Table.{ToolRow, row_named, tools},
   Words.{tool_named},
 }
@@ -80,6 +81,25 @@ pub marked_is : (tool : Option Tool) (argument : List ℕ) {word : List ℕ} →
 marked_is tool argument any none is =
     rw (any, no_text (is_utf8 argument) (IsUtf8-from_is_utf8 argument) none) is
 
+-- a word that isn't UTF-8, if such arguments aren't read
+pub invalid_is : (tool : Option Tool) (argument : List ℕ) → reads_any tool ≡ false → (IsUtf8 argument → ⊥)
+    → is_utf8 (word_of tool argument) ≡ false
+invalid_is tool argument own none = rw own (no_text (is_utf8 argument) (IsUtf8-from_is_utf8 argument) none)
+
+-- it is the first such word, since those before it are strings
+pub first_invalid : {Z : Type 0} (words : List (String Z)) (word : List ℕ) → is_utf8 word ≡ false
+    → IsFirstInvalid (map string_bytes words ++ word ∷ []) (length words)
+first_invalid [] word is = (rw is refl, omega arith)
+first_invalid (text ∷ words) word is =
+    let (first, within) = first_invalid words word is in
+    (rw (is_utf8-from_IsUtf8 _ (IsUtf8-string_bytes text)) (omega (arith, first)), omega (arith, within))
+
+-- if it is true of a place, so is what follows from it
+pub place_is : {Before After : ℕ → Type 0} (fault : ArgsFault) → ((place : ℕ) → Before place → After place)
+    → IfNotUtf8 Before fault → IfNotUtf8 After fault
+place_is Memory goes is = tt
+place_is (NotUtf8 place) goes is = goes place is
+
 -- one more argument is read
 pub read_on : (tool : Option Tool) (argument : List ℕ) (first read : List (List ℕ)) {words more : List (List ℕ)}
     → words ≡ first ++ map (word_of tool) read → more ≡ words ++ word_of tool argument ∷ []
@@ -87,6 +107,12 @@ pub read_on : (tool : Option Tool) (argument : List ℕ) (first read : List (Lis
 read_on tool argument first read so_far is = is ∙ ap (λ words. words ++ word_of tool argument ∷ []) so_far
     ∙ append_assoc first (map (word_of tool) read) (word_of tool argument ∷ [])
     ∙ ap (λ rest. first ++ rest) (sym (map-append (word_of tool) read (argument ∷ [])))
+
+-- the first words and those that follow are all words, if this tool is called
+pub words_so : (name : List ℕ) {tool : Option Tool} {first : List (List ℕ)} (rest : List (List ℕ))
+    → tool ≡ tool_called name → first ≡ words_called tool → first ++ map (word_of tool) rest ≡ words_of (name ∷ rest)
+words_so name {tool} rest is words = ap (λ before. before ++ map (word_of tool) rest) words
+    ∙ ap (λ called. words_called called ++ map (word_of called) rest) is
 
 -- if a program's own name is given and calls this tool, the first words and those that follow are all its words
 pub all_words : (gives : ℕ → Option (List ℕ) → Type 0) {name : List ℕ} {tool : Option Tool} (first : Args)
@@ -97,12 +123,11 @@ pub all_words : (gives : ℕ → Option (List ℕ) → Type 0) {name : List ℕ}
     × (map string_bytes args.words.items ≡ map string_bytes first.words.items ++ map (word_of tool) rest))
     → IfOk result (λ args. args.calling ≡ first.calling)
     → IfOk result (λ args. IsCalled gives args.calling (map string_bytes args.words.items))
-all_words gives {name} {tool} first (Ok args) given is words calling rest same = record {
+all_words gives {name} first (Ok args) given is words calling rest same = record {
   arguments = name ∷ rest.0;
   given = (given, rest.1);
   called = same ∙ calling ∙ ap called_by is;
-  read = rest.2 ∙ ap (λ before. before ++ map (word_of tool) rest.0) words
-      ∙ ap (λ called. words_called called ++ map (word_of called) rest.0) is;
+  read = rest.2 ∙ words_so name rest.0 is words;
 }
 all_words gives first (Err fault) given is words calling rest same = tt
 

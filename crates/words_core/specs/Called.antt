@@ -1,7 +1,8 @@
 -- With which words a program was started, and how it was called.
 use Rattle.std.specs.{
-  Prelude.{◌≡◌, ℕ, ◌+◌, ◌==◌, ◌||◌, Bool, true, false, List, [], ◌∷◌, ◌++◌, map, take, Option, Some, None, Result, Ok},
-  Prelude.{Err, if◌then◌else◌, ⊤},
+  Prelude.{◌≡◌, ℕ, ◌+◌, ◌<◌, ◌==◌, ◌||◌, Bool, true, false, List, [], ◌∷◌, ◌++◌, map, take, length, Option, Some, None},
+  Prelude.{Result, Ok, Err, if◌then◌else◌, ⊤},
+  List.prefix_len,
   Str.{is_utf8, Lossy.utf8_lossy},
   declared.env.FillError.{FillError, TheVariants.{NotPresent, TooLong}},
 }
@@ -9,7 +10,10 @@ use Rattle.ports_core.specs.{
   Text.tool_name,
   declared.{calling.Calling.{Calling, TheVariants.{Cutters, OwnName}}, tool.Tool.{Tool, TheVariants.Csplit}},
 }
-use Rattle.words_core.specs.Words.{tool_named}
+use Rattle.words_core.specs.{
+  declared.args.ArgsFault.{ArgsFault, TheVariants.{Memory, NotUtf8}},
+  Words.{tool_named},
+}
 
 -- Which tool a program's own name calls: the tool whose name is the last part of it. A `-` at the front of this part
 -- doesn't count: it says that a shell is a login shell.
@@ -85,3 +89,24 @@ pub record IsCalled (gives : ℕ → Option (List ℕ) → Type 0) (calling : Ca
   pub given : AreGiven gives 0 arguments
   pub called : calling ≡ calling_of arguments
   pub read : words ≡ words_of arguments
+
+-- Why a program's words can't be read. An argument that is read as its text is no reason: its word is UTF-8.
+
+-- the arguments from a place on may begin with these
+abbrev pub MayBegin : (ℕ → Option (List ℕ) → Type 0) → ℕ → List (List ℕ) → Type 0
+MayBegin gives place [] = ⊤
+MayBegin gives place (argument ∷ arguments) = gives place (Some argument) × MayBegin gives (place + 1) arguments
+
+-- the first of these words that isn't UTF-8 is the one at this place
+abbrev pub IsFirstInvalid : List (List ℕ) → ℕ → Type 0
+IsFirstInvalid words place = (prefix_len is_utf8 words ≡ place) × (place < length words)
+
+-- memory was refused, or a word isn't UTF-8, and this is true of its place
+abbrev pub IfNotUtf8 : (ℕ → Type 0) → ArgsFault → Type 0
+IfNotUtf8 Holds Memory = ⊤
+IfNotUtf8 Holds (NotUtf8 place) = Holds place
+
+-- the arguments may begin so that the first word that isn't UTF-8 is the one at this place
+abbrev pub IsUnreadable : (ℕ → Option (List ℕ) → Type 0) → ℕ → Type 0
+IsUnreadable gives place = (arguments : List (List ℕ)) × MayBegin gives 0 arguments
+    × IsFirstInvalid (words_of arguments) place

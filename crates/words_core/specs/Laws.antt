@@ -179,7 +179,7 @@ abbrev pub Gives : List OptionRow → State → (front : List (List ℕ)) → Ch
 Gives rows state front choice = (words : List (List ℕ)) (place : ℕ) → spelled rows (front ++ words) place state
     ≡ given_before (one_option choice place) (spelled rows words (place + length front) Reading)
 
--- a word gives this option, and then what it gives without the option's letter: this other word
+-- a word such as `-qv` gives this option, and then all that the other word, such as `-v`, gives in its place
 abbrev pub GivesBefore : List OptionRow → (word other : List ℕ) → Choice → Type 0
 GivesBefore rows word other choice = (words : List (List ℕ)) (place : ℕ) → spelled rows (word ∷ words) place Reading
     ≡ given_before (one_option choice place) (spelled rows (other ∷ words) place Reading)
@@ -331,7 +331,7 @@ abbrev pub RefusedAsShort : {A : Type 0} → List (List ℕ × A) → UsageKind 
 RefusedAsShort values kind words = (place : ℕ) × (settings_of Cutters words ≡ Err (Usage kind place))
     × HasShortValue values (word_at words place)
 
--- `cutters` refuses these words: they ask to follow what can't be followed, or what is followed is cut short
+-- `cutters` refuses these words: they ask to follow what can't be followed, or the value of `--follow` is cut short
 abbrev pub RefusedToFollow : List (List ℕ) → Type 0
 RefusedToFollow words = (settings_of Cutters words ≡ Err (Usage BadFollow 0))
     ⊎ RefusedAsShort follow_values BadFollow words

@@ -116,6 +116,7 @@ abbrev pub counted_with : ℕ → Measured → Result Count UsageKind → Result
 counted_with place unit (Ok count) more = before (one_option (Amount unit count) place) more
 counted_with place unit (Err fault) more = Err (Usage fault place)
 
+-- the digits give a count, in the unit that a letter stands for; then come the options that the other letters name
 abbrev pub count_and_options : List OptionRow → Sign → (place : ℕ) → (digits letters : List ℕ) → Result Meaning Fault
 count_and_options rows sign place digits letters =
     counted_with place (unit_in letters).0 (times sign digits (unit_in letters).1) (cluster rows place (others letters))

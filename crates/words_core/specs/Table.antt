@@ -53,7 +53,7 @@ pub record ToolRow : Type 0 where
 
 -- The table of the manuals. `choice_in` says what each kind of value means.
 
--- a row of an option, and one of a tool: their texts as text, and their fields in that order
+-- the row of an option, and the row of a tool: their fields in the order of the record, with texts written as strings
 
 abbrev pub option : (names : List String) → Takes → (value does : String) → OptionRow
 option names takes value does =

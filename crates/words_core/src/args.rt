@@ -1,10 +1,11 @@
 //! The words that the program was started with. The system gives them as bytes.
 ghost use Rattle.std.specs.{
-  Prelude.{◌≡◌, ℕ, List, [], ◌∷◌, ◌++◌, Option, map, option_map, string_bytes, IfOk, ⊤},
-  Str.Lossy.utf8_lossy,
+  Prelude.{◌≡◌, ℕ, List, [], ◌∷◌, ◌++◌, Option, false, map, option_map, string_bytes, IfErr, IfOk, ⊤},
+  Str.{is_utf8, Lossy.utf8_lossy},
 };
 ghost use Rattle.words_core.specs.{
-  Called.{AreGiven, IsCalled, Tells, called_by, last_part, reads_any, tool_called, without_hyphen, word_of, words_called},
+  Called.{AreGiven, IfNotUtf8, IsCalled, IsFirstInvalid, IsUnreadable, MayBegin, Tells, called_by, last_part},
+  Called.{reads_any, tool_called, without_hyphen, word_of, words_called},
 };
 
 use crate::words::find_tool;
@@ -65,7 +66,9 @@ impl<E: Env> Arguments for E {
 ///
 /// `NotUtf8`: the first word that isn't UTF-8, if such words aren't read. `Memory` if there is no room for the words.
 pub fn read_args<A: Arguments>(arguments: &A, alloc: Global) -> Result<Args, ArgsFault>
-    ensures { IfOk result (λ args. IsCalled (A.gives arguments.now) args.calling (map string_bytes args.words.items)) }
+    ensures called { IfOk result
+        (λ args. IsCalled (A.gives arguments.now) args.calling (map string_bytes args.words.items)) }
+    ensures unreadable { IfErr result (IfNotUtf8 (IsUnreadable (A.gives arguments.now))) }
 {
     let tool = match read_argument(arguments, alloc, 0) {
         Ok(Some(name)) => called_tool(&name),
@@ -147,6 +150,9 @@ fn read_rest<A: Arguments>(
     ensures words { IfOk result (λ args. (rest : List (List ℕ)) × AreGiven (A.gives arguments.now) 1 rest
         × (map string_bytes args.words.items ≡ map string_bytes first.words.items ++ map (word_of tool) rest)) }
     ensures calling { IfOk result (λ args. args.calling ≡ first.calling) }
+    ensures unreadable { IfErr result (IfNotUtf8 (λ place. (rest : List (List ℕ))
+        × MayBegin (A.gives arguments.now) 1 rest
+        × IsFirstInvalid (map string_bytes first.words.items ++ map (word_of tool) rest) place)) }
 {
     let mut words = first.words;
     for place in 1..usize::MAX {
@@ -171,8 +177,10 @@ fn push_word(
     words: &mut Vec<String>,
     bytes: Vec<u8>,
 ) -> Result<(), ArgsFault>
-    ensures { IfOk result (λ _. map string_bytes words.new.items
+    ensures pushed { IfOk result (λ _. map string_bytes words.new.items
         ≡ map string_bytes words.old.items ++ word_of tool bytes.items ∷ []) }
+    ensures unreadable { IfErr result (IfNotUtf8
+        (IsFirstInvalid (map string_bytes words.old.items ++ word_of tool bytes.items ∷ []))) }
 {
     let word = read_word(alloc, tool, words.len(), bytes)?;
     match words.push(word) {
@@ -188,7 +196,9 @@ fn read_word(
     place: usize,
     bytes: Vec<u8>,
 ) -> Result<String, ArgsFault>
-    ensures { IfOk result (λ word. string_bytes word ≡ word_of tool bytes.items) }
+    ensures word { IfOk result (λ word. string_bytes word ≡ word_of tool bytes.items) }
+    ensures unreadable { IfErr result (IfNotUtf8
+        (λ found. (found ≡ place) × (is_utf8 (word_of tool bytes.items) ≡ false))) }
 {
     match String::from_utf8(bytes) {
         Ok(word) => Ok(word),

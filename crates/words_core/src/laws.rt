@@ -1,7 +1,7 @@
 //! Laws of what words spell and ask for, with no code: each stands on the contract of a function whose body is empty.
 ghost use Rattle.std.specs.{
-  Prelude.{◌≡◌, ◌≢◌, ◌↔◌, ◌+◌, ◌-◌, ◌*◌, ◌^◌, ◌≤◌, ◌<◌, ◌++◌, ℕ, List, [], ◌∷◌, All, Some, None, Ok, Err, IsOk, true},
-  Prelude.{false, length, filter, codes, if◌then◌else◌, slice_get, ◌⊎◌},
+  Prelude.{◌≡◌, ◌≢◌, ◌↔◌, ◌+◌, ◌-◌, ◌*◌, ◌^◌, ◌≤◌, ◌<◌, ◌==◌, ◌++◌, ℕ, List, [], ◌∷◌, All, Some, None, Ok, Err, IsOk},
+  Prelude.{true, false, length, max, filter, codes, if◌then◌else◌, slice_get, ◌⊎◌},
   List.Contains,
 };
 ghost use Rattle.ports_core.specs.declared.fault.UsageKind.{
@@ -30,17 +30,17 @@ ghost use Rattle.words_core.specs.{
   Laws.{names_process, plain_style, retries, says_followed, says_on_broken, separates, spells, tells_of_files},
   Laws.{ten_of_input, thousands, widens},
   EndsWords.{ends_of, ten_lines},
-  Lettered.{is_lettered, is_start, unit_in, unit_of},
+  Lettered.{is_lettered, is_start, times, unit_in, unit_of},
   SplitWords.{SplitAsked, is_way, least_width, split_asked, split_of, way_in, way_of, separator_in},
   Spelling.{count_and_options, given_before, mixed, spelled, with_letters},
   Table.{OptionRow, alone, beginning, begins_one, head_table, option_called, option_named, tail_table, tools},
   TailWords.{retry_by, tail_of, unfollowed},
   TeeWords.{tee_asked, tee_of},
-  Value.{byte_in, ending_in, follow_values, hex_in, on_broken_values, pause_in, size_in, up_to},
+  Value.{byte_in, counted, ending_in, follow_values, hex_in, on_broken_values, pause_in, size_in, up_to},
   Words.{settings_of, tool_named},
 };
 ghost use Rattle.seg_core.specs.{
-  Count.{count_of, digits_of, is_number, value_of},
+  Count.{count_of, digits_of, is_number, sized, value_of},
 };
 
 use crate::choice::{Choice, Kind};
@@ -50,7 +50,7 @@ use crate::settings::{Headers, Settings, Topic};
 use crate::spelled::Chosen;
 use crate::table::Takes;
 use crate::value::Followed;
-use ports_core::{Alphabet, Calling, Fault, Mode, OnBroken, Tool};
+use ports_core::{Alphabet, Base, Calling, Fault, Filling, Mode, OnBroken, Tool};
 use seg_core::count::{Count, Sign};
 use seg_core::cut::{Cut, Limit, Way};
 use seg_core::unit::Unit;
@@ -305,6 +305,8 @@ pub fn letters_ask()
     ensures asks { (rows : List OptionRow) (sign : Sign) (text digits letters : List ℕ) (place : ℕ)
         → IsParted text digits letters
         → with_letters rows sign place text ≡ count_and_options rows sign place digits letters }
+    ensures count { (sign : Sign) (digits : List ℕ) (each : ℕ) → times sign digits each
+        ≡ counted (sized sign ((if length digits == 0 then 10 else value_of digits) * each)) }
     ensures unit { (rows : List OptionRow) (text digits letters : List ℕ) (letter : ℕ) (unit : Unit × ℕ)
         → HasLetters rows text digits letters → Contains letters letter → unit_of letter ≡ Some unit
         → unit_in letters ≡ unit }
@@ -538,6 +540,13 @@ pub fn csplit_options_ask()
       suppress = false;
       one_past = false;
     }) }
+    ensures form { (digits : ℕ) → decimal_form digits ≡ record {
+      base = Base.Decimal;
+      is_marked = false;
+      width = 0;
+      filling = Filling.BlanksBefore;
+      precision = max 1 digits;
+    } }
     ensures prefix { (text : List ℕ) → CsplitAsks (codes "-f" ∷ text ∷ []) (record plain_style { prefix = text }) }
     ensures digits { (value : List ℕ) (digits : ℕ) → up_to 255 (digits_of value) ≡ Ok digits
         → CsplitAsks (codes "-n" ∷ value ∷ []) (record plain_style { form = decimal_form digits }) }
