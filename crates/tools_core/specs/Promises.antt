@@ -143,11 +143,14 @@ pub record GivesBytes (asked : Settings) (input : Input) (bytes : List ℕ) : Ty
   pub is : input.content ≡ Some content
   pub gives : Gives asked input.shown content bytes
 
--- Two inputs are the same, or have one name, and give the same bytes to runs of these settings.
+-- Two inputs are the same, or have one name, and give the same bytes to runs of these settings. Or, if the tool doesn't
+-- look at what inputs show, they have one name, and the same content except for what it shows.
 pub data AreAlike (asked : Settings) (one other : Input) : Type 0 where
   are_same : one ≡ other → AreAlike asked one other
   give_same : (bytes : List ℕ) → one.name ≡ other.name → GivesBytes asked one bytes → GivesBytes asked other bytes
       → AreAlike asked one other
+  hold_same : (content : Content) (shown : Option (List ℕ)) → looks asked ≡ false → one.name ≡ other.name
+      → one.content ≡ Some content → other.content ≡ Some (record content { shown = shown }) → AreAlike asked one other
 
 -- each of the inputs and the one at its place in the other list
 abbrev pub AllAlike : Settings → List Input → List Input → Type 0
@@ -157,8 +160,8 @@ AllAlike asked [] (other ∷ others) = ⊥
 AllAlike asked (one ∷ ones) (other ∷ others) = AreAlike asked one other × AllAlike asked ones others
 
 -- Two runs of these settings read inputs of the same names, in order, and find the same under each: the same bytes, which
--- end or break off alike, or nothing. In how many reads bytes come is no part of what lies there, nor what an input that
--- ends shows before, if the tool doesn't look at it.
+-- end or break off alike, or nothing. In how many reads bytes come is no part of what lies there. Nor is what an input
+-- shows before it is read, if the tool doesn't look at that.
 abbrev pub FindAlike : Settings → Run → Run → Type 0
 FindAlike asked one other = AllAlike asked (inputs_at one.world (names_read one.calling one.words))
     (inputs_at other.world (names_read other.calling other.words))
