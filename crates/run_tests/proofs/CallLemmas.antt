@@ -9,10 +9,11 @@ use Rattle.mem_core.specs.MemInState.{shown_by}
 use Rattle.words_core.specs.{Words.settings_of, declared.settings.Settings.Settings}
 use Rattle.tools_core.specs.{
   Outcome.names_at,
-  Promises.{HasInput, in_full},
+  Promises.{Completes, FindAlike, HasInput, IsSilent, IsStopped, LeaveAlike, Ran, in_full},
   Tasks.names_of,
 }
 use Rattle.tools_core.specs.Run.{Run}
+use Rattle.run_tests.specs.inner.Calls.{IsCutShort}
 
 -- what is true of what was left may be replaced by what follows from it
 pub weaker : {A E : Type 0} (result : Result (Option A) E) (P Q : A → Type 0) → ((left : A) → P left → Q left)
@@ -56,3 +57,24 @@ pub below_two : (P : ℕ → Type 0) → P 0 → P 1 → (place : ℕ) → place
 below_two P first second zero within = first
 below_two P first second (suc zero) within = second
 below_two P first second (suc (suc place)) within = absurd (omega (arith, within))
+
+-- both laws of runs that a fault may stop
+
+abbrev pub EndsSo : Type 0
+EndsSo = (run : Run) (asked : Settings) → Ran run asked → Completes run asked ⊎ IsStopped run asked ⊎ IsSilent run asked
+
+abbrev pub LeaveSo : Type 0
+LeaveSo = (one other : Run) (asked : Settings) → Completes one asked → Completes other asked → FindAlike asked one other
+    → LeaveAlike asked one other
+
+-- two runs over inputs that are alike leave the same, unless one of them was cut short
+pub alike_ends : EndsSo → LeaveSo → (one other : Run) (asked : Settings) → Ran one asked → Ran other asked
+    → FindAlike asked one other
+    → LeaveAlike asked one other ⊎ IsCutShort one asked ⊎ IsCutShort other asked
+alike_ends ends same one other asked ran ran_too find = elim (ends one asked ran) [
+  | inl whole ↦ elim (ends other asked ran_too) [
+    | inl whole_too ↦ inl (same one other asked whole whole_too find)
+    | inr short ↦ inr (inr short)
+  ]
+  | inr short ↦ inr (inl short)
+]

@@ -3,11 +3,13 @@
 ghost use Rattle.std.specs.{
   Prelude.{◌≡◌, ◌<◌, ◌^◌, ◌⊎◌, ◌∷◌, [], ℕ, Ok, false, length, map, codes, IfOk, IfSome},
 };
+ghost use Rattle.mem_core.specs.MemInState.{with_break};
 ghost use Rattle.ports_core.specs.{Part.IsBeginning, Slot.{slot_at, streams}, Source.IsFresh};
 ghost use Rattle.run_tests.specs.inner.Calls.{IsCutShort, in_file, in_pipe, run_of};
 ghost use Rattle.seg_core.specs.declared.cut.Chunks.{Chunks};
 ghost use Rattle.tools_core.specs.{
-  Promises.{AreDealt, BeginsEach, Completes, EndsWithBreak, FindAlike, IsCutAsShown, LeaveAlike, SaysWhy, Splits},
+  Promises.{AreDealt, BeginsEach, Completes, EndsWithBreak, FindAlike, IsCutAsShown, LeaveAlike, Ran, SaysWhy, Splits},
+  Promises.looks,
   Tasks.names_of,
 };
 ghost use Rattle.words_core.specs.{
@@ -132,6 +134,54 @@ fn left_twice(
     ran_over(alloc, calling, words, bytes, 1, &mut one)?;
     let mut other = MemOut::new(alloc)?;
     ran_over(alloc, calling, words, bytes, 64, &mut other)?;
+    Ok((one, other))
+}
+
+/// Runs the words over a file `f` that shows this text, gives this many of the bytes, and then breaks off. It returns
+/// the status.
+fn ran_broken(
+    alloc: Global,
+    calling: Calling,
+    words: &[&str],
+    bytes: &[u8],
+    shown: &[u8],
+    at: usize,
+    outs: &mut MemOut,
+) -> Result<u8, Fault>
+    requires { outs.old ≡ streams }
+    ensures { (asked : Settings) → settings_of calling (map (λ word. word.now) words.now) ≡ Ok asked
+        → follows calling false asked ≡ false
+        → IfOk result
+        (λ status. (rest : Run) × Ran
+        (run_of calling (map (λ word. word.now) words.now) (with_break 1 at (in_file bytes.now shown.now)) rest outs.new
+        status) asked) }
+{
+    let mut inputs = file_input(alloc, bytes, shown)?;
+    inputs.break_at(1, at)?;
+    ran(alloc, calling, words, &mut inputs, outs)
+}
+
+/// What the words leave of `f`, which breaks off, if it shows a text, and if it shows nothing: the same, if the tool
+/// doesn't look at that, unless a fault stopped one of both runs.
+fn left_broken(
+    alloc: Global,
+    calling: Calling,
+    words: &[&str],
+    bytes: &[u8],
+    shown: &[u8],
+    at: usize,
+) -> Result<(MemOut, MemOut), Fault>
+    ensures { (asked : Settings) → settings_of calling (map (λ word. word.now) words.now) ≡ Ok asked
+        → follows calling false asked ≡ false → looks asked ≡ false → names_of asked ≡ codes "f" ∷ []
+        → IfOk result
+        (λ left. (one other : Run) × (one.outputs ≡ left.0) × (other.outputs ≡ left.1)
+        × (LeaveAlike asked one other ⊎ IsCutShort one asked ⊎ IsCutShort other asked)) }
+{
+    cutting_changes_nothing();
+    let mut one = MemOut::new(alloc)?;
+    ran_broken(alloc, calling, words, bytes, shown, at, &mut one)?;
+    let mut other = MemOut::new(alloc)?;
+    ran_broken(alloc, calling, words, bytes, b"", at, &mut other)?;
     Ok((one, other))
 }
 
@@ -262,6 +312,15 @@ fn no_match_leaves_the_same(rt: HostRuntime) -> Result<(), Fail> {
     let (one, other) = left_twice(rt.alloc(), Calling::OwnName, &words, TEXT)?;
     assert!(rt; has(&one, 2, b"a\n") && has(&other, 2, b"a\n"));
     assert!(rt; one.bytes(1) == other.bytes(1));
+    Ok(())
+}
+
+#[test]
+fn what_a_broken_file_shows_is_no_matter(rt: HostRuntime) -> Result<(), Fail> {
+    let words = ["split", "-l", "2", "f"];
+    let (one, other) = left_broken(rt.alloc(), Calling::Cutters, &words, TEXT, b"vw\n", 6)?;
+    assert!(rt; has(&one, 2, b"a\nbb\n") && has(&other, 2, b"a\nbb\n"));
+    assert!(rt; has(&one, 3, b"c") && has(&other, 3, b"c") && one.bytes(1) == other.bytes(1));
     Ok(())
 }
 

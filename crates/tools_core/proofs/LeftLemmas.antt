@@ -38,7 +38,7 @@ use Rattle.ends_core.specs.Shown.{head_in, tail_in}
 use Rattle.tools_core.{
   proofs.SameLemmas.{KnowsNoMore, all_made_alike, head_knows, shows_none, split_knows, tail_knows},
   specs.Promises.{AllAlike, AreAlike, GivesBytes, are_same, give_same, SaysLines, Completes, FindAlike, IsCopied},
-  specs.Promises.{Gives, at_first, in_full},
+  specs.Promises.{Gives, at_first, hold_same, in_full},
   specs.Promises.{IsMet, Tells, IsFound, DoesAll, IsGone, LeaveAlike, Ran, TellsMet},
   specs.Promises.{message_by},
   specs.Promises.{broken_off, failing, judged, missing, removes_files},
@@ -655,6 +655,7 @@ tee_alike : (asked : TeeAsked) (content other : Content)
     → tee_made asked other ≡ tee_made asked content
 tee_alike asked content other (are_same is) = grind (arith, common_steps, same_content)
 tee_alike asked content other (give_same bytes named gives gives_too) = grind (arith, common_steps, given_content)
+tee_alike asked content other (hold_same held shown blind named is is_too) = grind (arith, common_steps)
 
 -- each tool makes the same of an input that gives these bytes, whether the input shows them or not
 pub task_knows : (calling : Calling) (asked : Settings) (task : Task) → IsTask calling asked task

@@ -25,7 +25,8 @@ use Rattle.words_core.specs.{
   declared.{settings.Settings.{Settings, TheVariants.{Head, Tail, Split}}, tail_words.TailSettings.TailSettings},
 }
 use Rattle.tools_core.specs.{
-  Promises.{AllAlike, AreAlike, Gives, GivesBytes, are_same, at_first, give_same, in_full, is_chunked, looks, looks_for_ends},
+  Promises.{AllAlike, AreAlike, Gives, GivesBytes, are_same, at_first, give_same, hold_same, in_full},
+  Promises.{is_chunked, looks, looks_for_ends},
   Tasks.{is_minus, is_plus},
 }
 use Rattle.seg_core.specs.declared.cut.Way.TheVariants as way
@@ -190,6 +191,7 @@ missing_alike : (asked : Settings) (one other : Input) → AreAlike asked one ot
     → is_missing one.content ≡ is_missing other.content
 missing_alike asked one other (are_same is) = rw is
 missing_alike asked one other (give_same bytes named gives gives_too) = rw (gives.is, gives_too.is)
+missing_alike asked one other (hold_same content shown blind named is is_too) = rw (is, is_too)
 
 alike_made : (asked : Settings) (task : Task) → KnowsNoMore asked task.work → (is_first : Bool) (one other : Input)
     → AreAlike asked one other
@@ -198,6 +200,8 @@ alike_made asked task knows is_first one other (are_same is) = rw is
 alike_made asked task knows is_first one other (give_same bytes named gives gives_too) =
     steady_made asked task knows is_first other.name bytes one named gives
     ∙ sym (steady_made asked task knows is_first other.name bytes other refl gives_too)
+alike_made asked task knows is_first one other (hold_same content shown blind named is is_too) =
+    rw (named, is, is_too, knows.blind one.shown blind, knows.blind other.shown blind) refl
 
 -- what is made of inputs that are alike is the same
 pub all_made_alike : (asked : Settings) (task : Task) → KnowsNoMore asked task.work → (is_first : Bool)

@@ -54,7 +54,8 @@ pause_by OwnName pause = min pause 500
 pause_by Cutters pause = pause
 
 -- These files are followed, in as many looks or until the process is gone that is asked for, and the run ended so that it
--- gave exactly what these looks give. Each shows that pause, 1 ms at least, and names as `shows_by` says.
+-- gave exactly what these looks give. If no change is seen, a look begins at most the pause of `pause_by` after the look
+-- before it, or 1 ms if that is 0. Looks show names as `shows_by` says.
 abbrev pub FollowsAs : Visible → Run → (looks : ℕ) → TailSettings → Followed → Type 0
 FollowsAs told run looks asked followed = let ends = asked.ends in
     FollowEndsBy asked.process told.watch told.outputs
@@ -66,7 +67,7 @@ FollowsAs told run looks asked followed = let ends = asked.ends in
 abbrev pub IsUnseen : Run → Type 0
 IsUnseen run = (run.seen ≡ []) × (run.watched ≡ [])
 
--- words that follow nothing are refused
+-- what these settings ask to follow was followed; words that follow nothing were refused, and no look was made
 abbrev pub FollowsTail : Visible → Run → (looks : ℕ) → TailSettings → Option Followed → Type 0
 FollowsTail told run looks asked (Some followed) = FollowsAs told run looks asked followed
 FollowsTail told run looks asked None = IsUnseen run × Refuses told run (Usage BadFollow 0)

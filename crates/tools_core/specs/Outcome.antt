@@ -108,6 +108,7 @@ RunEndsAt told run (Ok settings) = RunsOver told.inputs run.world (names_of sett
     (λ found. DoesAsked told run found settings ⊎ (IsUnread run × RefusesOperands told run settings))
 RunEndsAt told run (Err fault) = IsUnread run × Refuses told run fault
 
+-- a run over inputs did what its words ask for, or refused them
 abbrev pub RunEnds : Visible → Run → Type 0
 RunEnds told run = RunEndsAt told run (settings_of run.calling run.words)
 

@@ -78,7 +78,7 @@ use Rattle.ports_core.specs.declared.fault.Fault.TheVariants as fault
 use Rattle.ports_core.specs.declared.slot.State.TheVariants as state
 use Rattle.seg_core.specs.declared.cut.Way.TheVariants as way
 
--- it ended as `run_words` ensures, which the program calls
+-- a run ended as `run_words` ensures, which the program calls
 abbrev pub IsOfProgram : Run → Type 0
 IsOfProgram run = ProgramEnds all_visible run
 
@@ -143,11 +143,14 @@ pub record GivesBytes (asked : Settings) (input : Input) (bytes : List ℕ) : Ty
   pub is : input.content ≡ Some content
   pub gives : Gives asked input.shown content bytes
 
--- Two inputs are the same, or have one name, and give the same bytes to runs of these settings.
+-- Two inputs are the same, or have one name, and give the same bytes to runs of these settings. Or, if the tool doesn't
+-- look at what inputs show, they have one name, and the same content except for what it shows.
 pub data AreAlike (asked : Settings) (one other : Input) : Type 0 where
   are_same : one ≡ other → AreAlike asked one other
   give_same : (bytes : List ℕ) → one.name ≡ other.name → GivesBytes asked one bytes → GivesBytes asked other bytes
       → AreAlike asked one other
+  hold_same : (content : Content) (shown : Option (List ℕ)) → looks asked ≡ false → one.name ≡ other.name
+      → one.content ≡ Some content → other.content ≡ Some (record content { shown = shown }) → AreAlike asked one other
 
 -- each of the inputs and the one at its place in the other list
 abbrev pub AllAlike : Settings → List Input → List Input → Type 0
@@ -157,8 +160,8 @@ AllAlike asked [] (other ∷ others) = ⊥
 AllAlike asked (one ∷ ones) (other ∷ others) = AreAlike asked one other × AllAlike asked ones others
 
 -- Two runs of these settings read inputs of the same names, in order, and find the same under each: the same bytes, which
--- end or break off alike, or nothing. In how many reads bytes come is no part of what lies there, nor what an input that
--- ends shows before, if the tool doesn't look at it.
+-- end or break off alike, or nothing. In how many reads bytes come is no part of what lies there. Nor is what an input
+-- shows before it is read, if the tool doesn't look at that.
 abbrev pub FindAlike : Settings → Run → Run → Type 0
 FindAlike asked one other = AllAlike asked (inputs_at one.world (names_read one.calling one.words))
     (inputs_at other.world (names_read other.calling other.words))
@@ -521,7 +524,8 @@ DoesAll run found (About tool topic) =
 DoesAll run found asked = (task : Task) × IsTask run.calling asked task
     × AllDone true true task found run.inputs run.outputs × (run.status ≡ status_of (made_by task found))
 
--- The run did so over what it found, whatever its status.
+-- A run's words are read as these settings, and it did all that they ask for over what it found, whatever its status.
+-- No fault stopped it.
 pub record Completes (run : Run) (asked : Settings) : Type 0 where
   pub read : settings_of run.calling run.words ≡ Ok asked
   pub does : DoesAll run (inputs_at run.world (names_of asked)) asked
@@ -543,8 +547,8 @@ abbrev pub IsTold : Run → Settings → ℕ → Type 0
 IsTold run asked place = ((run.status ≡ 1) × WhyBroken run asked place)
     ⊎ (IsSilent run asked × (LostReader run place ⊎ WhyBroken run asked place))
 
--- Such a fault stopped the run, which told it; or, of `tee`, an output broke: it went on with the others or ended with
--- that, and no more is said here of that run.
+-- A fault that stops a run was met: the run told it, and its status is 1. If that is an output of `tee` that broke, the
+-- run went on with the others or ended with that, and no more is said here of it.
 pub record IsStopped (run : Run) (asked : Settings) : Type 0 where
   pub failed : run.status ≡ 1
   pub why : Fault
@@ -628,7 +632,8 @@ showing run followed = shows_by run.calling (method_of followed) run.shows
 abbrev pub tail_part : EndsAsked → List ℕ → List ℕ
 tail_part options = tail_of options.delim options.unit (is_plus options.count.sign) options.count.amount
 
--- such a run that follows one name so, and writes no header
+-- A run of `tail` with these options followed one name, in as many looks as its caller asks for. It met no fault, and
+-- wrote no header.
 pub record FollowsOne (run : Run) (count : ℕ) (options : EndsAsked) : Type 0 where
   pub followed : Followed
   pub name : List ℕ
@@ -636,7 +641,8 @@ pub record FollowsOne (run : Run) (count : ℕ) (options : EndsAsked) : Type 0 w
   pub bare : IsBare options
   pub named : options.names ≡ name ∷ []
 
--- the versions of its file that the looks found
+-- What the looks that were made found under the one name that a run follows, in order: the versions of its file, or of
+-- several files, and gaps.
 abbrev pub versions_of : {run : Run} {count : ℕ} {options : EndsAsked} → FollowsOne run count options → List Entry
 versions_of {run = run} one = entries_of (is_name one.followed) one.name run.seen
 

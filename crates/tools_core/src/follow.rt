@@ -36,7 +36,7 @@ pub fn run_follow<W: Watch, O: Outs>(
     requires unseen { W.seen watch.old ≡ [] }
     requires unwatched { W.watched watch.old ≡ [] }
     requires outputs { O.slots outs.old ≡ streams }
-    ensures { (rest : Run) → FollowingEnds (visible false W.told O.told) (record rest {
+    ensures { (told_in : Bool) (rest : Run) → FollowingEnds (visible told_in W.told O.told) (record rest {
       calling = Calling.Cutters;
       words = map (λ word. word.now) words.now;
       fed = false;

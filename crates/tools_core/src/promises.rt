@@ -86,6 +86,7 @@ pub fn tee_copies()
 
 /// How an input comes changes nothing. Two runs that are asked for the same, over inputs of the same bytes, leave the
 /// same outputs, whether a read gives one byte or all of them. What lies at a name doesn't say how much a read gives.
+/// What an input shows before it is read changes nothing, either, if the tool doesn't look at that.
 /// If the status is 1 and no fault stopped the runs, as for an input that breaks off or a pattern that isn't found,
 /// they leave the same status, too, and the same bytes under the same names, and report the same lines; but a file that
 /// was to be removed may stay in one of them. A fault that stops a run is reported, as far as standard error takes

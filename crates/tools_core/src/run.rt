@@ -37,7 +37,7 @@ use words_core::{Settings, detail_of, find_tool, read_words};
 pub fn run<I: Inputs, O: Outs>(alloc: Global, words: &[&str], inputs: &mut I, outs: &mut O) -> u8
     requires inputs { IsFresh (I.sources inputs.old) }
     requires outputs { O.slots outs.old ≡ streams }
-    ensures ends { (rest : Run) → RunEnds (visible I.told false O.told) (record rest {
+    ensures ends { (told_watched : Bool) (rest : Run) → RunEnds (visible I.told told_watched O.told) (record rest {
       calling = Calling.Cutters;
       words = map (λ word. word.now) words.now;
       world = world_of (I.laid inputs.old) (I.sources inputs.old);

@@ -4,10 +4,10 @@ use Rattle.tools_core.{specs.Run.{Run, visible}, proofs.RunLemmas.refused_words}
 use Rattle.tools_core.proofs.follow.run_follow.Goals as goal
 
 pub returns-in-Ok : goal.returns-in-Ok
-returns-in-Ok g c rest = rw c.in-Ok.ensures.ok (c.follow_asked.ensures false rest)
+returns-in-Ok g c told rest = rw c.in-Ok.ensures.ok (c.follow_asked.ensures told rest)
 
 pub returns-in-Err : goal.returns-in-Err
-returns-in-Err g c rest =
+returns-in-Err g c told rest =
     let run : Run = record rest {
       calling = Cutters;
       words = map (λ word. word.now) c.args.words.now;
@@ -18,4 +18,4 @@ returns-in-Err g c rest =
       outputs = g.O.Outs.slots c.refuse_words.new.outs;
       status = c.refuse_words.result;
     } in
-    refused_words (visible false _ _) run c.args.looks (c.requires.unseen, c.requires.unwatched) c.in-Err.ensures.err c.refuse_words.ensures
+    refused_words (visible told _ _) run c.args.looks (c.requires.unseen, c.requires.unwatched) c.in-Err.ensures.err c.refuse_words.ensures

@@ -1,11 +1,11 @@
-use Rattle.std.proofs.Common.{false, map, refl}
+use Rattle.std.proofs.Common.{map, refl}
 use Rattle.ports_core.{specs.declared.calling.Calling.TheVariants.Cutters, proofs.InputsLemmas.fresh_asks}
 use Rattle.tools_core.{specs.{Outcome.names_read, Run.Run}, proofs.RunLemmas.{ends_as_asked, refused_or_memory}}
 use Rattle.run_core.{specs.RunSteps.world_of, proofs.InputLemmas.{fresh_counts, fresh_is}}
 use Rattle.tools_core.proofs.run.run.Goals as goal
 
 pub returns-in-Ok-clause-ends : goal.returns-in-Ok-clause-ends
-returns-in-Ok-clause-ends g c rest =
+returns-in-Ok-clause-ends g c told rest =
     let run : Run = record rest {
       calling = Cutters;
       words = map (λ word. word.now) c.args.words.now;
@@ -14,13 +14,13 @@ returns-in-Ok-clause-ends g c rest =
       outputs = g.O.Outs.slots c.run_tool.new.outs;
       status = c.run_tool.result;
     } in
-    ends_as_asked _ run c.in-Ok.settings c.in-Ok.ensures.ok (c.run_tool.ensures.ends false run)
+    ends_as_asked _ run c.in-Ok.settings c.in-Ok.ensures.ok (c.run_tool.ensures.ends told run)
 
 pub returns-in-Err : goal.returns-in-Err
 returns-in-Err g c = record {
   untouched = λ none. refl;
   unopened = λ none. refl;
-  ends = λ rest.
+  ends = λ told rest.
       let run : Run = record rest {
         calling = Cutters;
         words = map (λ word. word.now) c.args.words.now;
