@@ -1,7 +1,7 @@
 -- Lemmas: what a run leaves if a fault stops it is a beginning of what it leaves if no fault does.
 use Rattle.std.{
   proofs.lemmas.{Grind.common_steps, Bool.{cases_eq, false≢true, cond_both}},
-  proofs.Common.{◌≡◌, ℕ, ◌+◌, ◌≤◌, ◌<◌, zero, suc, Bool, true, false, List, [], ◌∷◌, ◌++◌, length, map, Option, inl},
+  proofs.Common.{◌≡◌, ℕ, ◌+◌, ◌≤◌, ◌<◌, zero, suc, Bool, true, false, List, [], ◌∷◌, ◌++◌, length, Option, inl},
   proofs.Common.{inr, ◌⊎◌, refl, sym, ◌∙◌, arith, rules, None, append_assoc, not, ◌&&◌},
   proofs.Math.Bool.{and_assoc, or-true},
 }

@@ -27,7 +27,6 @@ use Rattle.tools_core.{
 use Rattle.ends_core.specs.Ends.{tail_of}
 use Rattle.ports_core.specs.{
   Slot.{Slot, slot_at, streams},
-  Source.source_of,
   declared.{calling.Calling.Calling, reason.Reason.Reason},
 }
 use Rattle.words_core.specs.{

@@ -1,12 +1,12 @@
 -- Lemmas on inputs that give what they showed: what is made of them is what is made of inputs that show nothing.
 use Rattle.std.proofs.{
   Common.{◌≡◌, ◌⊎◌, ℕ, ◌&&◌, Bool, true, false, not, List, [], ◌∷◌, ◌++◌, Option, Some, None, inl, inr, refl, sym, ◌∙◌, ap, length},
-  Common.option_map,
-  Math.Bool.or-true,
-  lemmas.{Bool.eq-eqb, List.append-nil},
+  Common.{option_map, ◌+◌, arith, nat_lt},
+  Math.{Bool.or-true, Seq.{take-append_seam, take-length}},
+  lemmas.{Bool.{eq-eqb, le-leb, ltb-true}, List.{append-nil, length-append}},
 }
 use Rattle.ports_core.specs.{Source.{Content, unshown}, Work.{IsLawful, Work}}
-use Rattle.seg_core.specs.declared.{unit.Unit.Unit as Counted, cut.Way.Way}
+use Rattle.seg_core.specs.declared.{unit.Unit.Unit as Counted, cut.{Chunks.Chunks, Way.Way}}
 use Rattle.ends_core.{
   specs.{
     Shown.{head_in, place_of, tail_in},
@@ -17,7 +17,12 @@ use Rattle.ends_core.{
   proofs.ShownLemmas.{head_shown-enough, tail_shown-enough, verdict-head_shown, verdict-tail_shown},
   proofs.ShownLemmas.{whole-head_shown, whole-tail_shown},
 }
-use Rattle.split_core.specs.{Chunks.is_as_said, ChunkWork.{is_written, way_work}, Split.Filing}
+use Rattle.split_core.specs.{
+  Chunks.{has_ended, is_as_said},
+  ChunkWork.{is_written, way_work},
+  Split.Filing,
+  laws.ChunkLaws.start_within,
+}
 use Rattle.run_core.specs.{Input.Input, Task.{Task, Outcome, is_missing, joined, of_content, of_input, of_inputs}}
 use Rattle.words_core.specs.{
   EndsWords.EndsAsked,
@@ -26,7 +31,7 @@ use Rattle.words_core.specs.{
 }
 use Rattle.tools_core.specs.{
   Promises.{AllAlike, AreAlike, Gives, GivesBytes, are_same, at_first, give_same, hold_same, in_full},
-  Promises.{is_chunked, looks, looks_for_ends},
+  Promises.{is_chunked, is_one_chunk, looks, takes_shown},
   Tasks.{is_minus, is_plus},
 }
 use Rattle.seg_core.specs.declared.cut.Way.TheVariants as way
@@ -38,14 +43,14 @@ pub record KnowsNoMore (asked : Settings) (work : Option (List ℕ) → Work) : 
   pub whole : (text : List ℕ) → (work (Some text)).whole text ≡ (work None).whole text
   pub verdict : (text : List ℕ) → (work (Some text)).verdict text ≡ (work None).verdict text
   pub clears : (text : List ℕ) → (work (Some text)).clears ≡ (work None).clears
-  -- if the tool looks for the end of the text, what comes after it doesn't matter
-  pub enough : (text more : List ℕ) → looks_for_ends asked ≡ true
+  -- if the tool takes what is shown alone, what comes after it doesn't matter
+  pub enough : (text more : List ℕ) → takes_shown asked ≡ true
       → ((work (Some text)).is_complete (text ++ more) ≡ true)
       × ((work (Some text)).whole (text ++ more) ≡ (work None).whole text)
       × ((work (Some text)).verdict (text ++ more) ≡ (work None).verdict text)
 
 -- a work that is the same whatever is shown
-pub shows_none : (asked : Settings) (work : Work) → looks_for_ends asked ≡ false → KnowsNoMore asked (λ shown. work)
+pub shows_none : (asked : Settings) (work : Work) → takes_shown asked ≡ false → KnowsNoMore asked (λ shown. work)
 shows_none asked work none = record {
   blind = λ shown is. refl;
   whole = λ text. refl;
@@ -80,7 +85,7 @@ tail_in_lawful delim unit false n (Some text) = between_lawful (place_of delim u
 tail_in_lawful delim unit false n None = tail_lawful delim unit false n
 tail_in_lawful delim unit true n shown = tail_lawful delim unit true n
 
-head_knows_by : (asked : EndsAsked) (but_last : Bool) → looks_for_ends (Head asked) ≡ but_last
+head_knows_by : (asked : EndsAsked) (but_last : Bool) → takes_shown (Head asked) ≡ but_last
     → KnowsNoMore (Head asked) (head_in asked.delim asked.unit but_last asked.count.amount)
 head_knows_by asked true is = record {
   blind = λ shown none. absurd (cc);
@@ -99,7 +104,7 @@ pub head_knows : (asked : EndsAsked)
     → KnowsNoMore (Head asked) (head_in asked.delim asked.unit (is_minus asked.count.sign) asked.count.amount)
 head_knows asked = head_knows_by asked (is_minus asked.count.sign) refl
 
-tail_knows_by : (asked : TailSettings) (from_nth : Bool) → looks_for_ends (Tail asked) ≡ not from_nth
+tail_knows_by : (asked : TailSettings) (from_nth : Bool) → takes_shown (Tail asked) ≡ not from_nth
     → KnowsNoMore (Tail asked) (tail_in asked.ends.delim asked.ends.unit from_nth asked.ends.count.amount)
 tail_knows_by asked false is = record {
   blind = λ shown none. absurd (cc);
@@ -123,28 +128,39 @@ tail_knows asked = tail_knows_by asked (is_plus asked.ends.count.sign) refl
 said_so : (text : List ℕ) → is_as_said (Some (length text)) text ≡ true
 said_so text = eq-eqb (length text) (length text) refl
 
+-- what comes after the text that an input showed is in no chunk, and each chunk has ended before it
+chunk_ended : (place : ℕ) (chunks : Chunks) (text more : List ℕ) → nat_lt place chunks.count ≡ true
+    → has_ended chunks (length text) (text ++ more) place ≡ true
+chunk_ended place chunks text more is =
+    let within = ltb-true place chunks.count is in
+    rw (le-leb (length text) (length (text ++ more)) (omega (arith, length-append text more))) (le-leb _ _
+    (start_within chunks.count (length text) (place + 1) (omega (arith, within)) (omega (arith, within))))
+
 way_knows : (asked : SplitAsked) (way : Way) (filing : Filing) → looks (Split asked) ≡ is_chunked way
+    → takes_shown (Split asked) ≡ is_one_chunk way
     → KnowsNoMore (Split asked) (λ shown. way_work way asked.elide filing (option_map length shown))
-way_knows asked (way.Cut cut) filing is = shows_none (Split asked) _ refl
-way_knows asked (way.Chunks chunks) filing is = record {
+way_knows asked (way.Cut cut) filing is takes = shows_none (Split asked) _ takes
+way_knows asked (way.Chunks chunks) filing is takes = record {
   blind = λ shown none. absurd (cc);
   whole = λ text. refl;
   verdict = λ text. rw (said_so text);
   clears = λ text. refl;
   enough = λ text more looks. absurd (cc);
 }
-way_knows asked (way.Chunk place chunks) filing is = record {
+way_knows asked (way.Chunk place chunks) filing is takes = record {
   blind = λ shown none. absurd (cc);
   whole = λ text. refl;
   verdict = λ text. rw (said_so text, or-true (is_written place chunks (Some (length text)) text));
   clears = λ text. refl;
-  enough = λ text more looks. absurd (cc);
+  enough = λ text more does.
+      let ended = chunk_ended place chunks text more (sym takes ∙ does) in
+      (ended, rw (take-append_seam text more, take-length text) refl, rw ended refl);
 }
-way_knows asked (way.Turn place count delim) filing is = shows_none (Split asked) _ refl
+way_knows asked (way.Turn place count delim) filing is takes = shows_none (Split asked) _ takes
 
 pub split_knows : (asked : SplitAsked) (filing : Filing)
     → KnowsNoMore (Split asked) (λ shown. way_work asked.way asked.elide filing (option_map length shown))
-split_knows asked filing = way_knows asked asked.way filing refl
+split_knows asked filing = way_knows asked asked.way filing refl refl
 
 -- what is made of an input, by its fields
 of_fields : Task → Work → Bool → List ℕ → List ℕ → Bool → Outcome
@@ -165,8 +181,8 @@ module _ (asked : Settings) (task : Task) (knows : KnowsNoMore asked task.work) 
     | inr all ↦ rw (all, knows.whole bytes, knows.verdict bytes, knows.clears bytes) refl
   ]
 
-  -- what comes after the bytes that were shown doesn't matter if the tool looks for their end
-  shown_first : (more : List ℕ) (breaks_off : Bool) → looks_for_ends asked ≡ true
+  -- what comes after the bytes that were shown doesn't matter if the tool takes them alone
+  shown_first : (more : List ℕ) (breaks_off : Bool) → takes_shown asked ≡ true
       → of_fields task (task.work (Some bytes)) is_first name (bytes ++ more) breaks_off
       ≡ of_fields task (task.work None) is_first name bytes false
   unfolding of_fields

@@ -1,7 +1,7 @@
 -- What people rest on, in a manual's words: what a run leaves, over inputs and outputs that tell their bytes, as those
 -- in memory do.
 use Rattle.std.specs.{
-  Prelude.{◌≡◌, ℕ, ◌+◌, ◌^◌, ◌/◌, ◌%◌, ◌<◌, ◌≤◌, ◌==◌, suc, Bool, true, false, not, List, [], ◌∷◌},
+  Prelude.{◌≡◌, ℕ, ◌+◌, ◌^◌, ◌/◌, ◌%◌, ◌<◌, ◌≤◌, ◌==◌, nat_lt, suc, Bool, true, false, not, List, [], ◌∷◌},
   Prelude.{◌++◌, length, map, take, drop, All, slice_index_or, ◌⊎◌, Option, Some, None, Ok, if◌then◌else◌},
   List.{concat, flat_map},
   declared.cmp.Ordering.TheVariants.Less,
@@ -108,24 +108,33 @@ is_chunked (way.Chunks chunks) = true
 is_chunked (way.Chunk place chunks) = true
 is_chunked (way.Turn place n delim) = false
 
--- `head` of all but the last, or `tail` of the last: it looks at what an input shows before it is read
-abbrev pub looks_for_ends : Settings → Bool
-looks_for_ends (Head asked) = is_minus asked.count.sign
-looks_for_ends (Tail asked) = not (is_plus asked.ends.count.sign)
-looks_for_ends asked = false
+-- one chunk goes to standard output: that at this place, counted from 0
+abbrev pub is_one_chunk : Way → Bool
+is_one_chunk (way.Cut cut) = false
+is_one_chunk (way.Chunks chunks) = false
+is_one_chunk (way.Chunk place chunks) = nat_lt place chunks.count
+is_one_chunk (way.Turn place n delim) = false
 
--- the tool looks at that: so does `split` that makes chunks
+-- `head` of all but the last, `tail` of the last, or `split` that writes one chunk: if an input shows a text before it
+-- is read, the tool takes this text, and nothing that comes after it
+abbrev pub takes_shown : Settings → Bool
+takes_shown (Head asked) = is_minus asked.count.sign
+takes_shown (Tail asked) = not (is_plus asked.ends.count.sign)
+takes_shown (Split asked) = is_one_chunk asked.way
+takes_shown asked = false
+
+-- the tool looks at what an input shows: so does `split` that makes chunks in files, too
 abbrev pub looks : Settings → Bool
 looks (Split asked) = is_chunked asked.way
-looks asked = looks_for_ends asked
+looks asked = takes_shown asked
 
 -- An input that shows this and has this content gives these bytes to a run of these settings. It has them and ends after
--- them; if the tool looks at what it shows, that is just these bytes, or nothing. Or they are what it shows to a `head` or
--- `tail` that looks, and it has them first, whatever comes after them.
+-- them; if the tool looks at what it shows, that is just these bytes, or nothing. Or they are what it shows to a tool
+-- that takes this text alone, and it has them first, whatever comes after them.
 pub data Gives (asked : Settings) (shown : Option (List ℕ)) (content : Content) (bytes : List ℕ) : Type 0 where
   in_full : content.bytes ≡ bytes → content.breaks_off ≡ false
       → (looks asked ≡ true → (shown ≡ None) ⊎ (shown ≡ Some bytes)) → Gives asked shown content bytes
-  at_first : (more : List ℕ) → content.bytes ≡ bytes ++ more → looks_for_ends asked ≡ true → shown ≡ Some bytes
+  at_first : (more : List ℕ) → content.bytes ≡ bytes ++ more → takes_shown asked ≡ true → shown ≡ Some bytes
       → Gives asked shown content bytes
 
 -- the run has one input, which gives it these bytes

@@ -113,11 +113,12 @@ pub fn cutting_changes_nothing()
 /// each line is in the piece in whose chunk its first byte is. Standard output has nothing; with `--verbose` it has a
 /// line for each file, in their order. With K there is no file, and standard output has piece K. With `-n r/K/N` it has
 /// what file K has without `-e`: the lines from the Kth on, each N lines after the line before it. So `split -n K/N`,
-/// for K from 1 to N, writes the input, and `-n r/K/N` writes each of its lines once. If an input gives fewer or more
-/// bytes than it showed before it was read, the files of `-n N` and `-n l/N` have the bytes that came, up to the length
-/// that was shown, as the chunks of this length are. That the input changed is reported with its name, and the status
-/// is 1. With K standard output has what came of that chunk, and the change is reported unless the chunk got all that
-/// goes with it.
+/// for K from 1 to N, writes the input, and `-n r/K/N` writes each of its lines once. If an input shows a text before
+/// it is read, and gives this text first, the runs with `-n K/N` speak of this text: a file may grow while they run. If an
+/// input gives fewer or more bytes than it showed before it was read, the files of `-n N` and `-n l/N` have the bytes
+/// that came, up to the length that was shown, as the chunks of this length are. That the input changed is reported
+/// with its name, and the status is 1. With K standard output has what came of that chunk, and the change is reported
+/// unless the chunk got all that goes with it.
 pub fn split_loses_nothing()
     ensures listed { (split : Run) (asked : SplitAsked) (input : List ℕ) → Does split (Split asked)
         → HasInput split input → AreListed asked (files_of split) }
