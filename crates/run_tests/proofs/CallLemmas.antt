@@ -1,7 +1,7 @@
 -- Lemmas that the callers in `law_tests` and `law_calls` share.
 use Rattle.std.proofs.{
   Common.{◌≡◌, ◌⊎◌, ◌<◌, ℕ, zero, suc, List, [], ◌∷◌, true, false, codes, Option, Some, None, Result, Ok, inl, inr},
-  Common.{refl, ◌∙◌, ap, arith, subst, IfOk, IfSome},
+  Common.{refl, ◌∙◌, ap, arith, subst, length, IfOk, IfSome},
   lemmas.{Option.IfSome_then, Result.IfOk-weaker},
 }
 use Rattle.ports_core.specs.Source.{unshown}
@@ -34,6 +34,10 @@ pipe_given run asked bytes same read only = record {
 shown_as : (bytes : List ℕ) → (shown_by bytes ≡ None) ⊎ (shown_by bytes ≡ Some bytes)
 shown_as [] = inl refl
 shown_as (byte ∷ bytes) = inr refl
+
+pub shown_some : (text : List ℕ) → 0 < length text → shown_by text ≡ Some text
+shown_some [] some = absurd (omega (arith, some))
+shown_some (byte ∷ text) some = refl
 
 -- so does a file that shows them
 pub file_given : (run : Run) (asked : Settings) (bytes : List ℕ)

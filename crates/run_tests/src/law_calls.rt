@@ -1,7 +1,7 @@
 //! More callers of `run_words` that rest on the laws of `tools_core`, as those of `law_tests` do: by both ways to call the program, over a
 //! file that shows its bytes or another text, and of runs that a fault may stop.
 ghost use Rattle.std.specs.{
-  Prelude.{◌≡◌, ◌<◌, ◌^◌, ◌⊎◌, ◌∷◌, [], ℕ, Ok, false, length, map, codes, IfOk, IfSome},
+  Prelude.{◌≡◌, ◌<◌, ◌^◌, ◌⊎◌, ◌∷◌, ◌++◌, [], ℕ, List, Ok, true, false, length, map, codes, IfOk, IfSome},
 };
 ghost use Rattle.mem_core.specs.MemInState.{with_break};
 ghost use Rattle.ports_core.specs.{Part.IsBeginning, Slot.{slot_at, streams}, Source.IsFresh};
@@ -9,7 +9,7 @@ ghost use Rattle.run_tests.specs.inner.Calls.{IsCutShort, in_file, in_pipe, run_
 ghost use Rattle.seg_core.specs.declared.cut.Chunks.{Chunks};
 ghost use Rattle.tools_core.specs.{
   Promises.{AreDealt, BeginsEach, Completes, EndsWithBreak, FindAlike, IsCutAsShown, LeaveAlike, Ran, SaysWhy, Splits},
-  Promises.looks,
+  Promises.{looks, output_of, takes_shown},
   Tasks.names_of,
 };
 ghost use Rattle.words_core.specs.{
@@ -85,6 +85,29 @@ fn halves(
     let mut all = Vec::from_slice(alloc, front.bytes(0))?;
     all.extend_from_slice(back.bytes(0))?;
     Ok(Some(all))
+}
+
+/// What `split -n K/N` leaves of `f`, which shows a text, gives it first, and then more, if that goes well: it writes the
+/// same as any run that goes well and gets this text alone.
+fn chunk_of_grown(
+    alloc: Global,
+    calling: Calling,
+    words: &[&str],
+    bytes: &[u8],
+    shown: &[u8],
+) -> Result<Option<MemOut>, Fault>
+    ensures { (asked : SplitAsked) (place : ℕ) (chunks : Chunks) (more : List ℕ)
+        → settings_of calling (map (λ word. word.now) words.now) ≡ Ok (Split asked)
+        → asked.input ≡ codes "f" → asked.way ≡ way.Chunk place chunks → takes_shown (Split asked) ≡ true
+        → 0 < length shown.now → bytes.now ≡ shown.now ++ more
+        → IfOk result
+        (λ left. IfSome left
+        (λ outs. (other : Run) (same : SplitAsked) → Splits other same (way.Chunk place chunks) shown.now
+        → (slot_at outs 0).written ≡ output_of other)) }
+{
+    split_loses_nothing();
+    let mut inputs = file_input(alloc, bytes, shown)?;
+    left_over(alloc, calling, words, &mut inputs)
 }
 
 /// What two runs write of standard input, each of them the lines of one file of two, if both go well: each line is in one of them, in turn.
@@ -294,6 +317,14 @@ fn halves_meet(rt: HostRuntime) -> Result<(), Fail> {
         let found = halves(rt.alloc(), calling, &first, &second, TEXT)?;
         assert!(rt; found.is_some_and(|all| all.as_slice() == TEXT));
     }
+    Ok(())
+}
+
+#[test]
+fn chunk_is_of_what_was_shown(rt: HostRuntime) -> Result<(), Fail> {
+    let words = ["split", "-n", "2/2", "f"];
+    let found = chunk_of_grown(rt.alloc(), Calling::OwnName, &words, b"abcdefg", b"abcd")?;
+    assert!(rt; found.is_some_and(|outs| has(&outs, 0, b"cd")));
     Ok(())
 }
 

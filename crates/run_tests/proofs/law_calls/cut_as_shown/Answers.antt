@@ -1,4 +1,4 @@
-use Rattle.std.proofs.Common.{◌≡◌, ℕ, ◌<◌, List, [], ◌∷◌, Some, Result, codes, false, length, inl, inr, refl, ◌∙◌, ap, arith}
+use Rattle.std.proofs.Common.{◌≡◌, ℕ, ◌<◌, List, [], ◌∷◌, Some, Result, codes, false, length, inl, inr, refl, ◌∙◌, ap}
 use Rattle.mem_core.specs.MemInState.{shown_by}
 use Rattle.seg_core.specs.declared.cut.{Chunks.Chunks, Way.TheVariants.Chunks as Chunked}
 use Rattle.run_core.specs.Input.{Input, file_input, inputs_at}
@@ -7,15 +7,9 @@ use Rattle.tools_core.specs.{
   Outcome.{names_at, names_read},
   Promises.{Completes, SplitsOther},
 }
-use Rattle.run_tests.{
-  specs.inner.Calls.{in_file, run_of},
-}
+use Rattle.run_tests.{specs.inner.Calls.{in_file, run_of}, proofs.CallLemmas.shown_some}
 use Rattle.run_tests.proofs.law_calls.cut_as_shown.Goals as goal
 use Rattle.tools_core.specs.Run.{Run}
-
-shown_some : (text : List ℕ) → 0 < length text → shown_by text ≡ Some text
-shown_some [] some = absurd (omega (arith, some))
-shown_some (byte ∷ text) some = refl
 
 -- what a file shows and what it has, as an input
 abbrev changing : (bytes shown : List ℕ) → Input
