@@ -9,7 +9,19 @@ use Rattle.std.proofs.{
     Grind.common_steps,
   },
 }
-use Rattle.csplit_core.specs.{Agreed.{CanCome, kept_lines, whole_outputs, settled_outputs, AreFronts, IsAgreed}, Operand.{Minus, Target, Number, Search, Operand, Line, Plus, is_kept}, Plan.{State, start, Step, Ending, below, missed, Plan, ended, after_steps, CutPoint, search_line, MatchesNone, Misses}, Plan.{CutsAt, IsCut, line_after, state_after, step_of, Runs, is_used_up, misses, is_above, is_below, cuts}, laws.PlanLaws.{line_some, past_near, runs_on, goes_on, plan_runs, plan_once, cut_still, less_test, not_less_test}, laws.SectionLaws.{between_still, ends_as, are_within, closed_still, plan_grows, whole_covers, plan_goes_on}, inner.PlanLaws.{AreWithin, EndsAs, GoesOn}, Planned.plan, Section.{Section, section, section_of, lines_between, is_last_kept, whole_end, settled_end}, Section.{whole_sections, is_final, waiting_lines}, Place.{Place, in_section, left_out, nowhere, place_from, place_of, IsUndecided, is_in, lines_into, ArePlaced}}
+use Rattle.csplit_core.specs.{
+  Agreed.{CanCome, kept_lines, whole_outputs, settled_outputs, AreFronts, IsAgreed},
+  Operand.{Minus, Target, Number, Search, Operand, Line, Plus, is_kept},
+  Plan.{State, start, Step, Ending, below, missed, Plan, ended, after_steps, CutPoint, search_line, MatchesNone},
+  Plan.{Misses, CutsAt, IsCut, line_after, state_after, step_of, Runs, is_used_up, misses, is_above, is_below, cuts},
+  laws.PlanLaws.{line_some, past_near, runs_on, goes_on, plan_runs, plan_once, cut_still, less_test, not_less_test},
+  laws.SectionLaws.{between_still, ends_as, are_within, closed_still, plan_grows, whole_covers, plan_goes_on},
+  inner.PlanLaws.{AreWithin, EndsAs, GoesOn},
+  Planned.plan,
+  Section.{Section, section, section_of, lines_between, is_last_kept, whole_end, settled_end, whole_sections},
+  Section.{is_final, waiting_lines},
+  Place.{Place, in_section, left_out, nowhere, place_from, place_of, IsUndecided, is_in, lines_into, ArePlaced},
+}
 use Rattle.csplit_core.proofs.WholeLemmas.{between_rest, after_within, ends_after_all}
 use Rattle.ports_core.{specs.Part.IsBeginning, proofs.AgreedLemmas.{agreed_as, nothing_waits}}
 use Rattle.bre_core.specs.Pattern.{Pattern}

@@ -24,8 +24,34 @@ use Rattle.seg_core.{
     Carried.{but_last_lines-last, last_lines-is_drop, over-le-length},
   },
 }
-use Rattle.csplit_core.specs.{Csplit.{settled_of, whole_of}, Input.{newline, all_lines}, Operand.{Operand, Line}, Output.{Style, manner_of, opening_of, file_in, shares_in, part_of, sizes_wanted}, Plan.{State, start, Step, Ending, Plan, after_steps, CutPoint, Runs, search_line, line_after, state_after}, Plan.{step_of, is_used_up, misses, is_above, is_below, cuts}, Planned.plan, Section.{lines_between, is_last_kept, settled_end, whole_end, is_final, most_waiting, bytes_of, Section, section}, Section.section_of, Progress.state_of, declared.progress.Attempt.{Attempt, TheVariants.Below}, laws.{PlanLaws.{plan_once, goes_on, line_some, runs_on}, SectionLaws.{ends_as, closed_still, are_within, shares-append, section_grows}}, inner.{PlanLaws.EndsAs, Cutter.{Joins, settled_part, Keeps, KeepsBy, part_at, draft_at, bare, Puts, CutsIn, Arrives, HoldsLines}, Cutter.{suppress_in, search_after, Due, CutsNow, WentOn, IsAfter, CutAt, CutsAll, WillCut, WillSkip, IsEnd}}, Cutter.{kept_by, most_by, text_from, draft_by, settled_draft, CutterState, state_in, IsAt, EndsNow}, Cutter.{IsLive, IsFit, Leads}}
-use Rattle.csplit_core.proofs.{LineLemmas.{all_lines-append, bytes_between, length-all_lines, count-append, count_from, first_still, rest_more}, LineLemmas.{from_further, first_further}}
+use Rattle.csplit_core.specs.{
+  Csplit.{settled_of, whole_of},
+  Input.{newline, all_lines},
+  Operand.{Operand, Line},
+  Output.{Style, manner_of, opening_of, file_in, shares_in, part_of, sizes_wanted},
+  Plan.{State, start, Step, Ending, Plan, after_steps, CutPoint, Runs, search_line, line_after, state_after, step_of},
+  Plan.{is_used_up, misses, is_above, is_below, cuts},
+  Planned.plan,
+  Section.{lines_between, is_last_kept, settled_end, whole_end, is_final, most_waiting, bytes_of, Section, section},
+  Section.section_of,
+  Progress.state_of,
+  declared.progress.Attempt.{Attempt, TheVariants.Below},
+  laws.{
+    PlanLaws.{plan_once, goes_on, line_some, runs_on},
+    SectionLaws.{ends_as, closed_still, are_within, shares-append, section_grows},
+  },
+  inner.{
+    PlanLaws.EndsAs,
+    Cutter.{Joins, settled_part, Keeps, KeepsBy, part_at, draft_at, bare, Puts, CutsIn, Arrives, HoldsLines},
+    Cutter.{suppress_in, search_after, Due, CutsNow, WentOn, IsAfter, CutAt, CutsAll, WillCut, WillSkip, IsEnd},
+  },
+  Cutter.{kept_by, most_by, text_from, draft_by, settled_draft, CutterState, state_in, IsAt, EndsNow, IsLive, IsFit},
+  Cutter.Leads,
+}
+use Rattle.csplit_core.proofs.{
+  LineLemmas.{all_lines-append, bytes_between, length-all_lines, count-append, count_from, first_still, rest_more},
+  LineLemmas.{from_further, first_further},
+}
 use Rattle.ports_core.specs.{
   Draft.{Draft, share, made_of, shares_of, draft_part, with_bytes, with_next, told_of_files, size_of_file},
   Slot.Slot,

@@ -10,7 +10,29 @@ use Rattle.std.proofs.{
     List.{get_or-map, drop_at, take_all, take_at, take-append-drop, length-take-le, append-nil},
   },
 }
-use Rattle.csplit_core.specs.{Operand.{Target, Number, Search, Operand, Line, unmarked, is_match, Offset, moved, has_more}, Plan.{State, Ending, used_up, missed, above, search_line, MatchesNone, line_after, Runs, is_used_up, misses, is_above}, Plan.{is_below, cuts, below, Plan, ended, CutPoint, CutsAt, IsCut, state_after, past_last}, Output.Style, Planned.plan, laws.{PlanLaws.{cut_still, goes_on, plan_runs, plan_once, line_some, past_near, fewer_left, fewer}, SectionLaws.ends_as}, Progress.{state_of, EndsHere, AimsAt}, inner.Cutter.{AreSeen, AgreesWithPlan, FallsAt, GoesPast, WillCut, WillSkip, PassesOn, PassesCut, IsWhole, IsLine}, inner.Cutter.{Joins, past_in, past_by, suppress_in, search_after}, inner.Cutter.{Looked, IsFound, IsNoCut, StaysNear, Tries, TriesNext, AreClear, IsNextFound, Lacks, equipped}, inner.Cutter.{PassesClear, PassesOver, StopsAt}, inner.PlanLaws.{needed, EndsAs, MovesWithin}, declared.{progress.{Attempt.{Attempt, TheVariants.{UsedUp, Missed, Above, Below, Cuts}}, Progress.Progress}, line_cutter.Passed.Passed}, Measure.{IsRepeatedBy, Fits}, Input.{newline, without_newline, marked, all_lines, is_match_of}, Cutter.{CutterState, state_in, IsFit, pattern_by, pattern_in, IsLive, EndsNow, IsSound}}
+use Rattle.csplit_core.specs.{
+  Operand.{Target, Number, Search, Operand, Line, unmarked, is_match, Offset, moved, has_more},
+  Plan.{State, Ending, used_up, missed, above, search_line, MatchesNone, line_after, Runs, is_used_up, misses},
+  Plan.{is_above, is_below, cuts, below, Plan, ended, CutPoint, CutsAt, IsCut, state_after, past_last},
+  Output.Style,
+  Planned.plan,
+  laws.{
+    PlanLaws.{cut_still, goes_on, plan_runs, plan_once, line_some, past_near, fewer_left, fewer},
+    SectionLaws.ends_as,
+  },
+  Progress.{state_of, EndsHere, AimsAt},
+  inner.Cutter.{AreSeen, AgreesWithPlan, FallsAt, GoesPast, WillCut, WillSkip, PassesOn, PassesCut, IsWhole, IsLine},
+  inner.Cutter.{Joins, past_in, past_by, suppress_in, search_after, Looked, IsFound, IsNoCut, StaysNear, Tries},
+  inner.Cutter.{TriesNext, AreClear, IsNextFound, Lacks, equipped, PassesClear, PassesOver, StopsAt},
+  inner.PlanLaws.{needed, EndsAs, MovesWithin},
+  declared.{
+    progress.{Attempt.{Attempt, TheVariants.{UsedUp, Missed, Above, Below, Cuts}}, Progress.Progress},
+    line_cutter.Passed.Passed,
+  },
+  Measure.{IsRepeatedBy, Fits},
+  Input.{newline, without_newline, marked, all_lines, is_match_of},
+  Cutter.{CutterState, state_in, IsFit, pattern_by, pattern_in, IsLive, EndsNow, IsSound},
+}
 use Rattle.csplit_core.proofs.{
   WholeLemmas.after_within,
   LineLemmas.{all_lines-append, all_lines-line, length-all_lines, count-append, count-line, whole-append, whole_drop},

@@ -1,9 +1,25 @@
 -- What contracts see of the cutter of lines, and what its calls do.
-use Rattle.std.specs.{Prelude.{◌≡◌, ◌⊎◌, ℕ, ◌+◌, ◌-◌, ◌≤◌, max, Bool, true, false, List, [], ◌∷◌, length, map, Option, Some}, Prelude.None, List.flat_map}
+use Rattle.std.specs.{
+  Prelude.{◌≡◌, ◌⊎◌, ℕ, ◌+◌, ◌-◌, ◌≤◌, max, Bool, true, false, List, [], ◌∷◌, length, map, Option, Some, None},
+  List.flat_map,
+}
 use Rattle.bre_core.specs.Pattern.{Pattern}
 use Rattle.seg_core.specs.{Line.{line_count, after_lines, first_lines}, Window.Window}
 use Rattle.ports_core.specs.{Draft.Draft, FileWriter.{WriterState, Writes, seen_writer, size_of}}
-use Rattle.csplit_core.specs.{Input.{newline, all_lines}, Measure.Fits, Operand.{Target, Number, Search, Operand, Line, is_kept, most_held}, Output.{Style, manner_of, opening_of, file_in}, Plan.{State, start, Step, Plan, after_steps, Runs}, Planned.plan, Progress.{state_of, EndsHere, WillMove}, Section.{section_of, lines_between, is_last_kept, settled_end, is_final, most_waiting, bytes_of}, declared.{line_cutter.LineCutter.LineCutter, progress.{Progress.Progress, Attempt.{Attempt, TheVariants.{Above, Below, Cuts}}}}}
+use Rattle.csplit_core.specs.{
+  Input.{newline, all_lines},
+  Measure.Fits,
+  Operand.{Target, Number, Search, Operand, Line, is_kept, most_held},
+  Output.{Style, manner_of, opening_of, file_in},
+  Plan.{State, start, Step, Plan, after_steps, Runs},
+  Planned.plan,
+  Progress.{state_of, EndsHere, WillMove},
+  Section.{section_of, lines_between, is_last_kept, settled_end, is_final, most_waiting, bytes_of},
+  declared.{
+    line_cutter.LineCutter.LineCutter,
+    progress.{Progress.Progress, Attempt.{Attempt, TheVariants.{Above, Below, Cuts}}},
+  },
+}
 
 pub record CutterState : Type 0 where
   pub operands : List Operand

@@ -1,5 +1,14 @@
 -- Lemmas on what `csplit` leaves of its input.
-use Rattle.std.{proofs.lemmas.{Grind.common_steps, Bool.{cond_both, false≢true, lt-ltb}, List.{append-nil, Elements.{All-append, All-cons, All-map, All-nil}}}, proofs.Common.{suc, ◌≡◌, ℕ, ◌+◌, drop, Bool, true, false, eqb, List, [], ◌∷◌, Option, Some, None, refl, ◌∙◌, ◌-◌}, proofs.Common.{Result, Ok, Err, ◌≤◌, ◌++◌, length, map, sym, ap, arith, cond}, specs.List.flat_map}
+use Rattle.std.{
+  proofs.lemmas.{
+    Grind.common_steps,
+    Bool.{cond_both, false≢true, lt-ltb},
+    List.{append-nil, Elements.{All-append, All-cons, All-map, All-nil}},
+  },
+  proofs.Common.{suc, ◌≡◌, ℕ, ◌+◌, drop, Bool, true, false, eqb, List, [], ◌∷◌, Option, Some, None, refl, ◌∙◌, ◌-◌},
+  proofs.Common.{Result, Ok, Err, ◌≤◌, ◌++◌, length, map, sym, ap, arith, cond},
+  specs.List.flat_map,
+}
 use Rattle.operand_core.specs.{
   declared.{
     operand.{Operand.Operand, Target.{Target, TheVariants.{Number, Search}}, Times.{Times, TheVariants.Count}},
@@ -23,15 +32,11 @@ use Rattle.csplit_core.specs.{
 use Rattle.csplit_core.proofs.WholeLemmas.{ends_after_all, none_lost_at_end, between_rest, rest_is_all}
 use Rattle.tools_core.{
   specs.{
-    Promises.{SkipNothing, skips, Does, HasInput, AreNumbered, contents_of, files_of},
-    Promises.{in_turn, last_section, left_out},
+    Promises.{SkipNothing, skips, Does, HasInput, AreNumbered, contents_of, files_of, in_turn, last_section},
+    Promises.left_out,
     Tasks.csplit_task,
   },
-  proofs.{
-    SplitPromises.{are_made, order_by},
-    LeftLemmas.each_section,
-    PromiseLemmas.{did_one, one_made},
-  },
+  proofs.{SplitPromises.{are_made, order_by}, LeftLemmas.each_section, PromiseLemmas.{did_one, one_made}},
 }
 use Rattle.seg_core.{specs.Line.{joined, lines_of}, proofs.{FirstLines.joined-append, LinesOf.joined-lines_of}}
 use Rattle.ports_core.specs.{

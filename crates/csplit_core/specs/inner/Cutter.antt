@@ -1,7 +1,7 @@
 -- What private calls say of where a run stands, of the cutter of lines, and of the stage that takes in bytes.
 use Rattle.std.specs.{
-  Prelude.{◌≡◌, ℕ, ◌<◌, ◌≤◌, ◌-◌, Bool, false, List, ◌∷◌, length, drop, ◌⊎◌, ◌+◌, true, [], ◌++◌, take, get_or},
-  Prelude.{Option, Some, None, IfNone, IfSome, IfOk, Result, Ok, Err, ◌≢◌, OnOk, IsTrue, if◌then◌else◌},
+  Prelude.{◌≡◌, ℕ, ◌<◌, ◌≤◌, ◌-◌, Bool, false, List, ◌∷◌, length, drop, ◌⊎◌, ◌+◌, true, [], ◌++◌, take},
+  Prelude.{get_or, Option, Some, None, IfNone, IfSome, IfOk, Result, Ok, Err, ◌≢◌, OnOk, IsTrue, if◌then◌else◌},
 }
 use Rattle.csplit_core.specs.{
   Operand.{Operand, Line, is_match},

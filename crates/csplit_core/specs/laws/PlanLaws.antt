@@ -6,7 +6,14 @@ use Rattle.std.proofs.{
   Common.option_map,
   Math.Seq.get_or-append_seam,
 }
-use Rattle.csplit_core.specs.{Operand.{Operand, Line, is_match, moved, Target, Number, Search, has_more}, Plan.{State, search_line, start, Step, Ending, used_up, above, below, Plan, ended, after_steps, CutPoint}, Plan.{CutsAt, IsCut, line_after, state_after, step_of, past_last}, Plan.{Runs, is_used_up, misses, is_above, is_below, cuts}, Planned.{first_among, first_match, ends, goes, attempt, PlannedAttempt, cut_by, attempt_at, attempt_of, plan_within}, Planned.plan, inner.PlanLaws.{MatchesAs, CutsAs, after, left_of, needed_by, needed, MovesWithin}}
+use Rattle.csplit_core.specs.{
+  Operand.{Operand, Line, is_match, moved, Target, Number, Search, has_more},
+  Plan.{State, search_line, start, Step, Ending, used_up, above, below, Plan, ended, after_steps, CutPoint, CutsAt},
+  Plan.{IsCut, line_after, state_after, step_of, past_last, Runs, is_used_up, misses, is_above, is_below, cuts},
+  Planned.{first_among, first_match, ends, goes, attempt, PlannedAttempt, cut_by, attempt_at, attempt_of},
+  Planned.{plan_within, plan},
+  inner.PlanLaws.{MatchesAs, CutsAs, after, left_of, needed_by, needed, MovesWithin},
+}
 use Rattle.operand_core.specs.Style.{Style}
 
 matched_on : (operand : Operand) (lines : List Line) {from : ℕ} (has : Bool) → is_match operand lines from ≡ has

@@ -1,8 +1,8 @@
 -- Laws that traits cite: what sections are when more lines come.
 use Rattle.std.proofs.{
   lemmas.{Grind.{common_steps, flat_map-append}, List.{append-nil, map-append}},
-  Common.{rules, ◌≡◌, ◌⊎◌, inl, inr, ℕ, zero, suc, ◌+◌, ◌-◌, ◌≤◌, Bool, true, false, cond, List, [], ◌∷◌, ◌++◌, length},
-  Common.{map, take, drop, refl, sym, subst, arith, append_assoc, length-append},
+  Common.{rules, ◌≡◌, ◌⊎◌, inl, inr, ℕ, zero, suc, ◌+◌, ◌-◌, ◌≤◌, Bool, true, false, cond, List, [], ◌∷◌, ◌++◌},
+  Common.{length, map, take, drop, refl, sym, subst, arith, append_assoc, length-append},
 }
 use Rattle.ports_core.{
   specs.{
@@ -14,7 +14,17 @@ use Rattle.ports_core.{
   },
   proofs.ShareLemmas.{made_begin, part_grows, shares_wider},
 }
-use Rattle.csplit_core.specs.{Operand.{Operand, Line}, Plan.{State, Step, Ending, Plan, Runs, is_used_up, misses, is_above, is_below, cuts}, Planned.plan, Section.{Section, section, section_of, lines_between, bytes_of, is_last_kept, whole_end, settled_end}, Section.{sections_to, settled_sections}, Output.{Style, manner_of, opening_of, file_in, state_in, shares_in, part_of}, Csplit.{settled_of, whole_of}, laws.PlanLaws.{line_some, past_near, goes_on, runs_on, plan_runs, plan_once}, inner.PlanLaws.{EndsAs, AreWithin, Next, Grow, GoesOn, CutsFrom}}
+use Rattle.csplit_core.specs.{
+  Operand.{Operand, Line},
+  Plan.{State, Step, Ending, Plan, Runs, is_used_up, misses, is_above, is_below, cuts},
+  Planned.plan,
+  Section.{Section, section, section_of, lines_between, bytes_of, is_last_kept, whole_end, settled_end, sections_to},
+  Section.settled_sections,
+  Output.{Style, manner_of, opening_of, file_in, state_in, shares_in, part_of},
+  Csplit.{settled_of, whole_of},
+  laws.PlanLaws.{line_some, past_near, goes_on, runs_on, plan_runs, plan_once},
+  inner.PlanLaws.{EndsAs, AreWithin, Next, Grow, GoesOn, CutsFrom},
+}
 
 -- Stretches of lines
 
