@@ -1,4 +1,5 @@
-ghost use Rattle.std.specs.Prelude.{◌≡◌, ◌+◌, ◌*◌, ◌^◌};
+ghost use Rattle.std.specs.Prelude.{◌≡◌, ◌+◌, ◌*◌, ◌^◌, IfSome, IsTrue};
+ghost use Rattle.ports_core.specs.inner.Refusal.{spares};
 
 use crate::Reason;
 use crate::ahead::Ahead;
@@ -83,7 +84,9 @@ impl InputFiles {
     }
 
     /// Why this regular file can't be an output: it is an input, or may be an input by what the system says.
-    pub(crate) fn refuse(&self, files: &impl Files, about: &Metadata) -> Option<Reason> {
+    pub(crate) fn refuse(&self, files: &impl Files, about: &Metadata) -> Option<Reason>
+        ensures { IfSome result (λ why. IsTrue (spares why)) }
+    {
         let id = id_of(about);
         if self.has(id) {
             return Some(Reason::Input);

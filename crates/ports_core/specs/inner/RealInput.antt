@@ -1,6 +1,11 @@
 -- What private calls say of one real input.
 use Rattle.std.specs.Prelude.{ℕ, ◌+◌, ◌-◌, ◌^◌, Bool, false, List, map, min, if◌then◌else◌}
-use Rattle.ports_core.specs.{Source.{Source, fails, gives, skips}, declared.reason.Reason.{Reason, TheVariants.NotOpen}}
+use Rattle.ports_core.specs.{
+  Reason.reason_of,
+  Source.{Source, fails, gives, skips},
+  declared.{dir_in.Unread.{Unread, TheVariants.{Endless, System}}, reason.Reason.{Reason, TheVariants.NotOpen}},
+}
+use Rattle.ports_core.specs.declared.reason.Reason.TheVariants as reason
 
 pub record RealInput : Type 0 where
   pub source : Source
@@ -8,13 +13,15 @@ pub record RealInput : Type 0 where
   pub place : ℕ
   -- whether the input is standard input that was closed: what stands in its place doesn't say why it can't be read
   pub is_closed : Bool
+  -- whether the input is a device that gives at most one piece
+  pub is_limited : Bool
 
 abbrev pub sources_of : List RealInput → List Source
 sources_of inputs = map (λ input. input.source) inputs
 
 -- an input of which nothing was read
 abbrev pub input_of : Source → RealInput
-input_of source = record { source = source; place = 0; is_closed = false }
+input_of source = record { source = source; place = 0; is_closed = false; is_limited = false }
 
 -- a read into a buffer of this size gave the next n bytes
 abbrev pub input_gives : ℕ → ℕ → RealInput → RealInput
@@ -22,6 +29,11 @@ input_gives size n input = record input {
   source = gives size n input.source;
   place = min (input.place + n) (2 ^ 64 - 1);
 }
+
+-- why an input can't be read further
+abbrev pub why_unread : Unread → Reason
+why_unread Endless = reason.Endless
+why_unread (System error) = reason_of error
 
 -- why an input can't be read, if the system gives this reason: standard input that was closed isn't open
 abbrev pub why_of : RealInput → Reason → Reason
