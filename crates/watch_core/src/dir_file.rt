@@ -1,10 +1,9 @@
 ghost use Rattle.std.{specs.Prelude.{◌≡◌, ◌≤◌, ◌<◌, ◌+◌, ◌^◌, false, length, IfOk, IfSome, IsTrue}, proofs.Props.props};
 
-use ports_core::{MOST_BYTES, PIECE, Reason};
+use ports_core::{MOST_BYTES, PIECE};
 use std::alloc::Global;
 use std::fs::{File, Metadata};
-use std::io;
-use std::io::{ErrorKind, Read, Seek, SeekFrom};
+use std::io::{self, Error, ErrorKind, Read, Seek, SeekFrom};
 use std::os::unix::fs::FileExt;
 
 /// How many bytes are read at once, at the most, to count those of a file that doesn't tell its length.
@@ -38,8 +37,8 @@ impl DirFile {
     ///
     /// # Errors
     ///
-    /// Why that couldn't be told; `Other` where it is more than a watch tells.
-    pub(crate) fn len(&mut self) -> Result<u64, Reason>
+    /// The error by which that couldn't be told; one without a number where it is more than a watch tells.
+    pub(crate) fn len(&mut self) -> io::Result<u64>
         ensures { IfOk result (λ len. len < 2 ^ 63) }
     {
         match self {
@@ -48,14 +47,11 @@ impl DirFile {
         }
     }
 
-    /// Why it can't be read; none where it can. Of a regular file that is tried with its first byte; of a stream nothing is read for
-    /// it, since what comes first was taken as it was opened.
-    pub(crate) fn failure(&self) -> Option<Reason> {
+    /// The error by which it can't be read; none where it can. Of a regular file that is tried with its first byte; of a stream nothing
+    /// is read for it, since what comes first was taken as it was opened.
+    pub(crate) fn failure(&self) -> Option<Error> {
         match self {
-            DirFile::Placed(placed) => match placed.read_at(0, &mut [0u8; 1]) {
-                Ok(_) => None,
-                Err(why) => Some(why),
-            },
+            DirFile::Placed(placed) => placed.read_at(0, &mut [0u8; 1]).err(),
             DirFile::Stream(stream) => stream.broken,
         }
     }
@@ -74,8 +70,8 @@ impl DirFile {
     ///
     /// # Errors
     ///
-    /// Why it failed.
-    pub(crate) fn read_at(&self, from: u64, buffer: &mut [u8]) -> Result<usize, Reason>
+    /// The error by which it failed.
+    pub(crate) fn read_at(&self, from: u64, buffer: &mut [u8]) -> io::Result<usize>
         ensures { IfOk result (λ n. n ≤ length buffer.old) }
     {
         match self {
@@ -110,13 +106,13 @@ impl Placed {
         }
     }
 
-    fn len(&mut self) -> Result<u64, Reason>
+    fn len(&mut self) -> io::Result<u64>
         ensures { IfOk result (λ len. len < 2 ^ 63) }
     {
         match self.told {
             Some(0) => {}
             Some(len) if len <= MOST_BYTES => return Ok(len),
-            _ => return Err(Reason::Other),
+            _ => return Err(Error::from(ErrorKind::Other)),
         }
         if let Some(len) = self.counted {
             return Ok(len);
@@ -127,7 +123,7 @@ impl Placed {
     }
 
     /// Reads from a place on.
-    fn read_at(&self, from: u64, buffer: &mut [u8]) -> Result<usize, Reason>
+    fn read_at(&self, from: u64, buffer: &mut [u8]) -> io::Result<usize>
         ensures { IfOk result (λ n. n ≤ length buffer.old) }
     {
         read_some_at(&self.file, self.begin.saturating_add(from), buffer)
@@ -177,8 +173,8 @@ pub(crate) struct Stream {
     before: u64,
     /// How many wait, at the front of the buffer.
     waiting: usize,
-    /// Why a read failed, if one did.
-    broken: Option<Reason>,
+    /// The error by which a read failed, if one did.
+    broken: Option<Error>,
     ghost room: { waiting ≤ length buffer.items },
     ghost bound: { before + waiting < 2 ^ 63 },
 }
@@ -210,31 +206,31 @@ impl Stream {
                 n > 0
             }
             Ok(_) => {
-                self.broken = Some(Reason::Other);
+                self.broken = Some(Error::from(ErrorKind::FileTooLarge));
                 false
             }
-            Err(why) => {
-                self.broken = Some(why);
+            Err(error) => {
+                self.broken = Some(error);
                 false
             }
         }
     }
 
-    fn len(&self) -> Result<u64, Reason>
+    fn len(&self) -> io::Result<u64>
         ensures { IfOk result (λ len. len ≡ self.now.before + self.now.waiting) }
     {
         match self.broken {
             None => Ok(self.before + self.waiting as u64),
-            Some(why) => Err(why),
+            Some(error) => Err(error),
         }
     }
 
     /// Gives bytes that wait, from a place on; none of a place at which none waits.
-    fn read_at(&self, from: u64, buffer: &mut [u8]) -> Result<usize, Reason>
+    fn read_at(&self, from: u64, buffer: &mut [u8]) -> io::Result<usize>
         ensures { IfOk result (λ n. n ≤ length buffer.old) }
     {
-        if let Some(why) = self.broken {
-            return Err(why);
+        if let Some(error) = self.broken {
+            return Err(error);
         }
         let Some(skipped) = place_in(from, self.before, self.waiting) else {
             return Ok(0);
@@ -261,8 +257,8 @@ fn place_in(from: u64, before: u64, waiting: usize) -> Option<usize>
 ///
 /// # Errors
 ///
-/// Why one failed; `Other` where they are more than a watch tells.
-fn count(file: &Placed) -> Result<u64, Reason>
+/// The error by which one failed; one without a number where they are more than a watch tells.
+fn count(file: &Placed) -> io::Result<u64>
     ensures { IfOk result (λ len. len < 2 ^ 63) }
 {
     let mut piece = [0u8; COUNTED];
@@ -273,41 +269,41 @@ fn count(file: &Placed) -> Result<u64, Reason>
             return Ok(len);
         }
         if n > MOST_BYTES - len {
-            return Err(Reason::Other);
+            return Err(Error::from(ErrorKind::FileTooLarge));
         }
         len += n;
     }
-    Err(Reason::Other)
+    Err(Error::from(ErrorKind::FileTooLarge))
 }
 
 /// Reads once, and again where the read was interrupted, and returns how many bytes that gave.
 ///
 /// # Errors
 ///
-/// Why it failed.
-fn read_some(file: &mut File, buffer: &mut [u8]) -> Result<usize, Reason>
+/// The error by which it failed.
+fn read_some(file: &mut File, buffer: &mut [u8]) -> io::Result<usize>
     ensures { IfOk result (λ n. n ≤ length buffer.old) }
 {
     for _ in 0..u64::MAX {
         match file.read(buffer) {
             Ok(n) => return Ok(n),
             Err(error) if error.kind() == ErrorKind::Interrupted => {}
-            Err(error) => return Err(Reason::of(&error)),
+            Err(error) => return Err(error),
         }
     }
-    Err(Reason::Other)
+    Err(Error::from(ErrorKind::Interrupted))
 }
 
 /// The same from a place on.
-fn read_some_at(file: &File, from: u64, buffer: &mut [u8]) -> Result<usize, Reason>
+fn read_some_at(file: &File, from: u64, buffer: &mut [u8]) -> io::Result<usize>
     ensures { IfOk result (λ n. n ≤ length buffer.old) }
 {
     for _ in 0..u64::MAX {
         match file.read_at(buffer, from) {
             Ok(n) => return Ok(n),
             Err(error) if error.kind() == ErrorKind::Interrupted => {}
-            Err(error) => return Err(Reason::of(&error)),
+            Err(error) => return Err(error),
         }
     }
-    Err(Reason::Other)
+    Err(Error::from(ErrorKind::Interrupted))
 }

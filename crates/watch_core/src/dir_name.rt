@@ -1,7 +1,8 @@
 ghost use Rattle.std.specs.{
-  Prelude.{◌≡◌, ◌⊎◌, ◌≤◌, ◌<◌, ◌^◌, true, false, length, string_bytes, IfOk, OnOk, OnErr, IfSome, IfNone, OnSome, IsTrue, is_some},
+  Prelude.{◌≡◌, ◌⊎◌, ◌≤◌, ◌<◌, ◌^◌, true, false, length, string_bytes, IfOk, IfErr, OnOk, IfSome, IsTrue, is_some},
+  Fs.{IsDir, file_type},
 };
-ghost use Rattle.ports_core.specs.declared.reason.Reason.{Reason};
+ghost use Rattle.ports_core.specs.{Reason.{reason_of}, declared.reason.Reason.TheVariants.{Folder}};
 ghost use Rattle.watch_core.specs.{Snapshot.has_zero, Watched.{Watched, added, breaks, opens}};
 
 use crate::dir_file::DirFile;
@@ -10,11 +11,14 @@ use crate::pace::Pace;
 use crate::{Broken, Seen};
 use ports_core::{MOST_BYTES, Reason, id_of};
 use std::alloc::{AllocError, Global};
+use std::fs;
 use std::fs::{File, Metadata};
-use std::io::ErrorKind;
+use std::io::{self, Error, ErrorKind};
 use std::marker::Model;
 use std::rt::Files;
-use std::{fs, io};
+
+/// The system's number for the error that a file is a folder.
+const IS_FOLDER: i32 = 21;
 
 /// Which files a name is taken to lead to, beside the open one.
 #[derive(Clone, Copy)]
@@ -26,18 +30,20 @@ enum Kinds {
 }
 
 impl Kinds {
-    /// Why a file of which the system told this is none of these. None if it is one.
-    fn refusal(self, about: &Metadata) -> Option<Reason> {
+    /// The error for a file that is none of these, by what the system told of it. None if it is one.
+    fn refusal(self, about: &Metadata) -> Option<Error>
+        ensures { IsDir (file_type about.now) → IfSome result (λ error. reason_of error ≡ Folder) }
+    {
         match self {
             Kinds::Any => None,
             Kinds::Regular if about.is_file() => None,
-            Kinds::Regular if about.is_dir() => Some(Reason::Folder),
-            Kinds::Regular => Some(Reason::Other),
+            Kinds::Regular if about.is_dir() => Some(Error::from_raw_os_error(IS_FOLDER)),
+            Kinds::Regular => Some(Error::from(ErrorKind::Unsupported)),
         }
     }
 
-    /// Why what a name leads to may not be opened. None if it may, also if the system can't tell what that is: the opening says why.
-    fn refusal_at(self, files: &impl Files, name: &str) -> Option<Reason> {
+    /// The error for what a name leads to, if that is none of these. None also if the system can't tell what it is: the opening says why.
+    fn refusal_at(self, files: &impl Files, name: &str) -> Option<Error> {
         match self {
             Kinds::Any => None,
             Kinds::Regular => match fs::metadata(files, name) {
@@ -106,8 +112,8 @@ pub(crate) struct DirName {
     is_unreadable: bool,
     /// How long the open file was told to be last.
     last_len: u64,
-    /// Why the last call failed that was forgiven, or found none.
-    why: Reason,
+    /// The error by which the last call failed that was forgiven, or found none.
+    why: Error,
     /// The call by which it broke.
     failed: Option<Broken>,
     /// Why that failed.
@@ -157,7 +163,7 @@ impl DirName {
             manner,
             is_unreadable: false,
             last_len: 0,
-            why: Reason::Other,
+            why: Error::from(ErrorKind::Other),
             failed: None,
             reason: Reason::Other,
             is_gone: false,
@@ -189,7 +195,7 @@ impl DirName {
     {
         match self.failed {
             Some(_) => self.reason,
-            None => self.why,
+            None => Reason::of(&self.why),
         }
     }
 
@@ -200,7 +206,7 @@ impl DirName {
         ensures bound { IfOk result (λ found. IfSome found (λ file. file.len < 2 ^ 63)) }
         ensures there { IsTrue insists → IfOk result (λ found. is_some found ≡ true) }
         ensures same { OnOk result (self.new ≡ self.old) }
-        ensures broke { OnErr result ((why : Reason) × (self.new ≡ breaks why (λ file. Broken.Look) self.old)) }
+        ensures broke { IfErr result (λ error. self.new ≡ breaks (reason_of error) (λ file. Broken.Look) self.old) }
     {
         self.lens = 0;
         let found = match self.led_to {
@@ -208,17 +214,14 @@ impl DirName {
             None => self.find(files),
         };
         match found {
-            Ok(None) if insists => {
-                self.break_missing(Broken::Look);
-                Err(io::Error::from(ErrorKind::NotFound))
-            }
+            Ok(None) if insists => Err(self.break_missing(Broken::Look)),
             Ok(found) => {
                 self.is_gone = found.is_none();
                 self.led_to = Some(found);
                 Ok(found)
             }
             Err(error) => {
-                self.break_off(Broken::Look, Reason::of(&error));
+                self.break_off(Broken::Look, &error);
                 Err(error)
             }
         }
@@ -272,7 +275,7 @@ impl DirName {
             Ok(Some(_)) => {}
             Ok(None) => return None,
             Err(error) => {
-                self.why = Reason::of(&error);
+                self.why = error;
                 return None;
             }
         }
@@ -289,8 +292,8 @@ impl DirName {
         let path = path_of(self.name.as_str());
         match open_readable(alloc, files, path, self.from, self.kinds) {
             Ok(opened) => Some(opened),
-            Err(why) => {
-                self.why = why;
+            Err(error) => {
+                self.why = error;
                 None
             }
         }
@@ -323,7 +326,7 @@ impl DirName {
         ensures opened { OnOk result (self.new ≡ opens self.new.opened self.old) }
         ensures found { IfOk result (λ is_there. is_some self.new.opened ≡ is_there) }
         ensures there { IsTrue insists → OnOk result (is_some self.new.opened ≡ true) }
-        ensures broke { OnErr result ((why : Reason) × (self.new ≡ breaks why (λ file. Broken.Open) self.old)) }
+        ensures broke { IfErr result (λ error. self.new ≡ breaks (reason_of error) (λ file. Broken.Open) self.old) }
     {
         // It goes back to the system first, so that no two files of a name are open.
         self.file = None;
@@ -336,17 +339,14 @@ impl DirName {
                 self.file = Some(opened.file);
                 Ok(true)
             }
-            Ok(None) if insists => {
-                self.break_missing(Broken::Open);
-                Err(io::Error::from(ErrorKind::NotFound))
-            }
+            Ok(None) if insists => Err(self.break_missing(Broken::Open)),
             Ok(None) => {
                 self.opened = None;
                 self.led_to = Some(None);
                 Ok(false)
             }
             Err(error) => {
-                self.break_off(Broken::Open, Reason::of(&error));
+                self.break_off(Broken::Open, &error);
                 Err(error)
             }
         }
@@ -366,8 +366,8 @@ impl DirName {
         let path = path_of(self.name.as_str());
         match open_file(alloc, files, path, self.from, self.kinds)? {
             Met::File(opened) => Ok(Some(opened)),
-            Met::Nothing(why) => {
-                self.why = why;
+            Met::Nothing(error) => {
+                self.why = error;
                 Ok(None)
             }
         }
@@ -414,16 +414,16 @@ impl DirName {
     }
 
     /// How many bytes the open file held when changes were last looked for. Where that can't be told, the name is broken.
-    pub(crate) fn len(&mut self) -> Option<u64>
-        ensures bound { IfSome result (λ len. len < 2 ^ 63) }
-        ensures same { OnSome result (self.new ≡ self.old) }
-        ensures broke { IfNone result ((why : Reason) × (self.new ≡ breaks why (λ file. Broken.Len file) self.old)) }
+    pub(crate) fn len(&mut self) -> io::Result<u64>
+        ensures bound { IfOk result (λ len. len < 2 ^ 63) }
+        ensures same { OnOk result (self.new ≡ self.old) }
+        ensures broke { IfErr result (λ error. self.new ≡ breaks (reason_of error) (λ file. Broken.Len file) self.old) }
     {
         match self.count() {
-            Ok(len) => Some(len),
-            Err(why) => {
-                self.break_off(Broken::Len(self.opened), why);
-                None
+            Ok(len) => Ok(len),
+            Err(error) => {
+                self.break_off(Broken::Len(self.opened), &error);
+                Err(error)
             }
         }
     }
@@ -436,8 +436,8 @@ impl DirName {
     {
         match self.count() {
             Ok(len) => self.last_len = len,
-            Err(why) => {
-                self.why = why;
+            Err(error) => {
+                self.why = error;
                 self.is_unreadable = true;
             }
         }
@@ -448,15 +448,15 @@ impl DirName {
     ///
     /// # Errors
     ///
-    /// Why that can't be told.
-    fn count(&mut self) -> Result<u64, Reason>
+    /// The error by which that can't be told; one without a number where no file is open.
+    fn count(&mut self) -> io::Result<u64>
         ensures bound { IfOk result (λ len. len < 2 ^ 63) }
         ensures same { self.new ≡ self.old }
     {
         self.lens = self.lens.saturating_add(1);
         match &mut self.file {
             Some(file) => file.len(),
-            None => Err(Reason::Other),
+            None => Err(Error::from(ErrorKind::NotFound)),
         }
     }
 
@@ -464,28 +464,28 @@ impl DirName {
     ///
     /// # Errors
     ///
-    /// Why it failed.
-    fn read(&self, from: u64, buffer: &mut [u8]) -> Result<usize, Reason>
+    /// The error by which it failed; one without a number where no file is open.
+    fn read(&self, from: u64, buffer: &mut [u8]) -> io::Result<usize>
         ensures { IfOk result (λ n. n ≤ length buffer.old) }
     {
         match &self.file {
             Some(file) => file.read_at(from, buffer),
-            None => Err(Reason::Other),
+            None => Err(Error::from(ErrorKind::NotFound)),
         }
     }
 
     /// Reads the open file once from a place on, and returns how many bytes that gave. Where it fails, the name is broken.
-    pub(crate) fn read_at(&mut self, from: u64, buffer: &mut [u8]) -> Option<usize>
-        ensures bound { IfSome result (λ n. n ≤ length buffer.old) }
-        ensures same { OnSome result (self.new ≡ self.old) }
-        ensures broke { IfNone result
-            ((why : Reason) × (self.new ≡ breaks why (λ file. Broken.Read file from) self.old)) }
+    pub(crate) fn read_at(&mut self, from: u64, buffer: &mut [u8]) -> io::Result<usize>
+        ensures bound { IfOk result (λ n. n ≤ length buffer.old) }
+        ensures same { OnOk result (self.new ≡ self.old) }
+        ensures broke { IfErr result
+            (λ error. self.new ≡ breaks (reason_of error) (λ file. Broken.Read file from) self.old) }
     {
         match self.read(from, buffer) {
-            Ok(n) => Some(n),
-            Err(why) => {
-                self.break_off(Broken::Read(self.opened, from), why);
-                None
+            Ok(n) => Ok(n),
+            Err(error) => {
+                self.break_off(Broken::Read(self.opened, from), &error);
+                Err(error)
             }
         }
     }
@@ -497,30 +497,32 @@ impl DirName {
     {
         match self.read(from, buffer) {
             Ok(n) => n,
-            Err(why) => {
-                self.why = why;
+            Err(error) => {
+                self.why = error;
                 self.is_unreadable = true;
                 0
             }
         }
     }
 
-    fn break_off(&mut self, how: Broken, why: Reason)
-        ensures { self.new ≡ breaks why (λ file. how) self.old }
+    /// Breaks it by this error.
+    fn break_off(&mut self, how: Broken, error: &Error)
+        ensures { self.new ≡ breaks (reason_of error.now) (λ file. how) self.old }
     {
         self.file = None;
         self.opened = None;
         self.failed = Some(how);
-        self.reason = why;
+        self.reason = Reason::of(error);
         self.pace.end();
     }
 
-    /// Breaks it since it leads nowhere, for the reason that was found then.
-    fn break_missing(&mut self, how: Broken)
-        ensures { (why : Reason) × (self.new ≡ breaks why (λ file. how) self.old) }
+    /// Breaks it since it leads nowhere, and returns the error that was found then.
+    fn break_missing(&mut self, how: Broken) -> Error
+        ensures { self.new ≡ breaks (reason_of result) (λ file. how) self.old }
     {
-        let why = self.why;
-        self.break_off(how, why);
+        let error = self.why;
+        self.break_off(how, &error);
+        error
     }
 
     /// When changes are to be looked for, in milliseconds.
@@ -612,14 +614,14 @@ impl DirName {
                 }
                 match self.kinds.refusal(&about) {
                     None => Ok(Some(seen)),
-                    Some(why) => {
-                        self.why = why;
+                    Some(error) => {
+                        self.why = error;
                         Ok(None)
                     }
                 }
             }
             Err(error) if error.kind() == ErrorKind::NotFound => {
-                self.why = Reason::Missing;
+                self.why = error;
                 Ok(None)
             }
             Err(error) => Err(error),
@@ -670,8 +672,8 @@ struct Opened {
 enum Met {
     /// The file, which is open.
     File(Opened),
-    /// None, or one of another kind. Holds why.
-    Nothing(Reason),
+    /// None, or one of another kind. Holds the error that says so.
+    Nothing(Error),
 }
 
 /// A file of which the system told this, from a place on. One that is longer than a watch tells is an error.
@@ -680,7 +682,7 @@ fn seen_of(about: &Metadata, from: u64) -> io::Result<Seen>
 {
     let len = about.len().saturating_sub(from);
     if len > MOST_BYTES {
-        return Err(io::Error::from(ErrorKind::FileTooLarge));
+        return Err(Error::from(ErrorKind::FileTooLarge));
     }
     Ok(Seen {
         id: id_of(about),
@@ -699,21 +701,21 @@ fn open_file(
 ) -> io::Result<Met> {
     // The library can't open a named pipe without waiting. So who puts one there between the question and the opening, microseconds
     // later, still has all names wait until somebody writes to it.
-    if let Some(why) = kinds.refusal_at(files, name) {
-        return Ok(Met::Nothing(why));
+    if let Some(error) = kinds.refusal_at(files, name) {
+        return Ok(Met::Nothing(error));
     }
     match fs::open(files, name) {
         Ok(file) => {
             let about = file.metadata()?;
-            if let Some(why) = kinds.refusal(&about) {
-                return Ok(Met::Nothing(why));
+            if let Some(error) = kinds.refusal(&about) {
+                return Ok(Met::Nothing(error));
             }
             Ok(Met::File(Opened {
                 seen: seen_of(&about, from)?,
                 file: DirFile::new(alloc, file, &about, from)?,
             }))
         }
-        Err(error) if error.kind() == ErrorKind::NotFound => Ok(Met::Nothing(Reason::Missing)),
+        Err(error) if error.kind() == ErrorKind::NotFound => Ok(Met::Nothing(error)),
         Err(error) => Err(error),
     }
 }
@@ -722,20 +724,19 @@ fn open_file(
 ///
 /// # Errors
 ///
-/// Why it can't be opened or read.
+/// The error by which it can't be opened or read.
 fn open_readable(
     alloc: Global,
     files: &impl Files<File = File>,
     name: &str,
     from: u64,
     kinds: Kinds,
-) -> Result<Opened, Reason> {
-    match open_file(alloc, files, name, from, kinds) {
-        Ok(Met::File(opened)) => match opened.file.failure() {
+) -> io::Result<Opened> {
+    match open_file(alloc, files, name, from, kinds)? {
+        Met::File(opened) => match opened.file.failure() {
             None => Ok(opened),
-            Some(why) => Err(why),
+            Some(error) => Err(error),
         },
-        Ok(Met::Nothing(why)) => Err(why),
-        Err(error) => Err(Reason::of(&error)),
+        Met::Nothing(error) => Err(error),
     }
 }

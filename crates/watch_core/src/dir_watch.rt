@@ -347,7 +347,7 @@ impl<R: Files<File = File> + Clock + Drop> Watch for DirWatch<R> {
         if self.manner.forgives_reads() {
             return Ok(self.names[place].len_forgiving());
         }
-        let Some(len) = self.names[place].len() else {
+        let Ok(len) = self.names[place].len() else {
             return Err(Fault::Read(place));
         };
         Ok(len)
@@ -357,7 +357,7 @@ impl<R: Files<File = File> + Clock + Drop> Watch for DirWatch<R> {
         if self.manner.forgives_reads() {
             return Ok(self.names[place].read_forgiving(from, buffer));
         }
-        let Some(n) = self.names[place].read_at(from, buffer) else {
+        let Ok(n) = self.names[place].read_at(from, buffer) else {
             return Err(Fault::Read(place));
         };
         Ok(n)

@@ -1,4 +1,5 @@
 use Rattle.std.proofs.Common.{refl}
+use Rattle.ports_core.specs.Reason.{reason_of}
 use Rattle.watch_core.{
   specs.{declared.watch.Broken.TheVariants.Look, Watched.breaks},
   proofs.DirWatchLemmas.{finds_any, finds_forgiven, forgives_now, insists_now, leads_there, one_changes, unforgiven},
@@ -7,9 +8,9 @@ use Rattle.watch_core.proofs.dir_watch.DirWatchWatch.look.Goals as goal
 
 pub returns-in_default-clause-err : goal.returns-in_default-clause-err
 returns-in_default-clause-err g c =
-    let (why, broke) = c.in_default.ensures.broke in
+    let why : _ = reason_of c.in_default.field-0 in
     let change = breaks why (λ file. Look) in
-    (refl, (why, one_changes _ c.args.place change c.self.view_is c.requires c.index_mut-2.ensures.value broke))
+    (refl, (why, one_changes _ c.args.place change c.self.view_is c.requires c.index_mut-2.ensures.value c.in_default.ensures.broke))
 
 pub returns-clause-found : goal.returns-clause-found
 returns-clause-found g c = finds_any c.args.self.now.manner c.args.self.now.within c.args.self.now.turns _ _ (λ is. leads_there c.in-Ok.found

@@ -1,4 +1,5 @@
 use Rattle.std.proofs.Common.{refl}
+use Rattle.ports_core.specs.Reason.{reason_of}
 use Rattle.watch_core.{
   specs.{declared.watch.Broken.TheVariants.Len, Watched.breaks},
   proofs.{DirWatchLemmas.{finds_any, one_changes, unforgiven}, NameLemmas.readable_watchable},
@@ -7,10 +8,10 @@ use Rattle.watch_core.proofs.dir_watch.DirWatchWatch.open_len.Goals as goal
 
 pub returns-in_default-clause-err : goal.returns-in_default-clause-err
 returns-in_default-clause-err g c =
-    let (why, broke) = c.in_default.ensures.broke in
+    let why : _ = reason_of c.in_default.field-0 in
     let change = breaks why Len in
     let can = readable_watchable _ c.args.place c.requires in
-    (refl, (why, one_changes _ c.args.place change c.self.view_is can c.index_mut-2.ensures.value broke))
+    (refl, (why, one_changes _ c.args.place change c.self.view_is can c.index_mut-2.ensures.value c.in_default.ensures.broke))
 
 pub returns-clause-found : goal.returns-clause-found
 returns-clause-found g c = finds_any c.args.self.now.manner c.args.self.now.within c.args.self.now.turns _ _ (λ is. refl)

@@ -1,4 +1,5 @@
 use Rattle.std.proofs.Common.{refl}
+use Rattle.ports_core.specs.Reason.{reason_of}
 use Rattle.watch_core.{
   specs.{declared.watch.Broken.TheVariants.Open, Watched.breaks},
   proofs.DirWatchLemmas.{finds_any, finds_forgiven, insists_now, one_changes, opened_some, opens_there},
@@ -7,9 +8,9 @@ use Rattle.watch_core.proofs.dir_watch.DirWatchWatch.reopen.Goals as goal
 
 pub returns-in_default-clause-err : goal.returns-in_default-clause-err
 returns-in_default-clause-err g c =
-    let (why, broke) = c.in_default.ensures.broke in
+    let why : _ = reason_of c.in_default.field-0 in
     let change = breaks why (λ file. Open) in
-    (refl, (why, one_changes _ c.args.place change c.self.view_is c.requires c.index_mut-2.ensures.value broke))
+    (refl, (why, one_changes _ c.args.place change c.self.view_is c.requires c.index_mut-2.ensures.value c.in_default.ensures.broke))
 
 pub returns-clause-ok : goal.returns-clause-ok
 returns-clause-ok g c = opened_some _ c.self.view_is c.requires c.index_mut-2.ensures.value c.in-Ok.ensures.opened c.in-Ok.ensures.found
