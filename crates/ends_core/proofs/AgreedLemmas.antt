@@ -3,11 +3,11 @@ use Rattle.std.proofs.{
   lemmas.{
     Grind.common_steps,
     Bool.{cases_lt, cond_both, lt-ltb, le-ltb, eq-eqb, ne_eqb},
-    List.{append-nil, drop-append-le, length-replicate},
+    List.{append-nil, drop-append-le, get_or_append_left, get_or-append_right, get_or-replicate, length-replicate},
   },
   Common.{◌≡◌, ◌≢◌, ℕ, ◌+◌, ◌-◌, ◌<◌, ◌≤◌, zero, suc, List, [], ◌∷◌, ◌++◌, length, drop, replicate, Bool},
-  Common.{true, false, cond, nat_lt, inl, inr, refl, sym, ◌∙◌, ap, subst, arith, append_assoc, length-append, rules},
-  Math.Seq.drop-append_seam,
+  Common.{get_or, true, false, cond, nat_lt, inl, inr, refl, sym, ◌∙◌, ap, subst, arith, append_assoc, length-append, rules},
+  Math.Seq.{drop-append_seam, get_or-append_seam},
 }
 use Rattle.seg_core.{
   specs.{Line.{delimiters, ends_with}, declared.unit.Unit.{Unit as Counted, TheVariants.{Lines, Bytes}}},
@@ -16,11 +16,12 @@ use Rattle.seg_core.{
 use Rattle.ports_core.{
   specs.{
     Part.{IsBeginning, nothing, only_out},
-    Agreed.{CanCome, IsAgreed, IsUndecided, Spot, spot, spots_from, output_at, ArePlaced},
+    Agreed.{CanCome, IsAgreed, IsUndecided, Spot, spot, spots_from, output_at, ArePlaced, GoesTo, NoFewerWait},
   },
   proofs.AgreedLemmas.{none_comes, one_comes, copies_come, other, other_differs, other_comes, agreed_now},
   proofs.AgreedLemmas.{beginning_short, common, spot_in, spot_past, some_spot, same_spots, spots_differ, spots_few},
   proofs.AgreedLemmas.{AtMostOne, IsStretch, stretch_placed},
+  proofs.LeastLemmas.{early_enough, first_stay, least_by, none_is_least},
 }
 use Rattle.ends_core.specs.{
   Ends.{size, measure, first_of, last_of, but_last_of, head_of, tail_of, after_of},
@@ -294,3 +295,64 @@ tail_stretch delim unit from_nth n = record {
 pub tail_placed : (delim : ℕ) (unit : Counted) (from_nth : Bool) (n : ℕ)
     → ArePlaced (tail_work delim unit from_nth n) (tail_spots delim unit from_nth n)
 tail_placed delim unit from_nth n = stretch_placed (tail_work delim unit from_nth n) 0 (tail_stretch delim unit from_nth n)
+
+-- By no right spots do fewer bytes wait.
+
+-- a text begins with its first byte
+starts_with : (byte : ℕ) (x : List ℕ) → 0 < length x → get_or x 0 0 ≡ byte → IsBeginning (byte ∷ []) x
+starts_with byte [] some is = absurd (omega arith)
+starts_with byte (one ∷ x) some is = (x, ap (λ first. first ∷ x) is)
+
+-- after a text and a byte more a run has its one byte at each place
+run_there : (x : List ℕ) (next byte count j : ℕ) → length x < j → j ≤ length x + count
+    → get_or (x ++ next ∷ replicate count byte) j 0 ≡ byte
+run_there x next byte count j past within =
+    get_or-append_right x (next ∷ replicate count byte) (length x) j 0 refl (omega arith)
+    ∙ grind (arith, common_steps, get_or-replicate)
+
+-- in this continuation the output has all that came in, and a byte more
+head_stays : (delim : ℕ) (unit : Counted) (n : ℕ) (x : List ℕ) {spots_of : List ℕ → ℕ → List Spot}
+    → ArePlaced (head_work delim unit true n) spots_of → (i : ℕ) → i ≤ length x
+    → GoesTo (spot 0 i) (spots_of (x ++ other delim ∷ replicate (n + 1) delim) i)
+head_stays delim unit n x placed i few =
+    let next = other delim in
+    let run = replicate (n + 1) delim in
+    let there : x ++ next ∷ run ≡ (x ++ next ∷ []) ++ run = sym (append_assoc x (next ∷ []) run) in
+    let all = head_together delim unit true n (x ++ next ∷ run) in
+    first_stay (head_work delim unit true n) placed (x ++ next ∷ run) 0 (suc (length x)) delim all
+    (let e = far delim unit n (x ++ next ∷ []) in rw there (omega (arith, length-append x (next ∷ []))))
+    (λ j past within. run_there x next delim (n + 1) j past
+    (omega (arith, length-append x (next ∷ run), length-replicate (n + 1) delim)))
+    (length x) i (omega arith) (λ is. other_differs delim (sym (sym (get_or-append_seam x next run 0) ∙ is))) few
+
+pub head_least : (delim : ℕ) → delim < 256 → (unit : Counted) (but_last : Bool) (n : ℕ) (x : List ℕ)
+    → NoFewerWait CanCome (head_work delim unit but_last n) x (head_waiting delim unit but_last n x)
+head_least delim byte unit false n x = none_is_least (head_work delim unit false n) x
+head_least delim byte unit true n x = least_by (head_work delim unit true n) (but_last_of delim unit n x)
+    (last_of delim unit n x) none_comes (sym (ends_together delim unit n x)) (λ spots_of placed decided less.
+    let i = length (but_last_of delim unit n x) in
+    let goes = (decided i (omega arith) (other delim ∷ replicate (n + 1) delim) (spot 0 i)
+    (one_comes (other delim) _ (other_comes delim) (copies_come (n + 1) delim byte))).1
+    (head_stays delim unit n x placed i (omega arith)) in
+    omega (arith, (placed.stands x i _ less goes).0))
+
+-- the first byte of the output came in no later than the first byte that waits
+tail_first_early : (delim : ℕ) (unit : Counted) (n : ℕ) (x : List ℕ) {spots_of : List ℕ → ℕ → List Spot}
+    → ArePlaced (tail_work delim unit false n) spots_of → length (but_last_of delim unit n x) < length x
+    → (i : ℕ) × (i ≤ length (but_last_of delim unit n x)) × GoesTo (spot 0 0) (spots_of x i)
+tail_first_early delim unit n x placed less =
+    let long = tail_long delim unit false n x in
+    let (i, here, to) = placed.filled x (spot 0 0) (omega arith) in
+    (i, omega (arith, early_enough (tail_work delim unit false n) placed x 0 0 i (omega arith) to), to)
+
+pub tail_least : (delim : ℕ) → delim < 256 → (unit : Counted) (from_nth : Bool) (n : ℕ) (x : List ℕ)
+    → NoFewerWait CanCome (tail_work delim unit from_nth n) x (tail_waiting delim unit from_nth n x)
+tail_least delim byte unit true n x = none_is_least (tail_work delim unit true n) x
+tail_least delim byte unit false n x = least_by (tail_work delim unit false n) (but_last_of delim unit n x)
+    (last_of delim unit n x) none_comes (sym (ends_together delim unit n x)) (λ spots_of placed decided less.
+    let (i, early, to) = tail_first_early delim unit n x placed less in
+    let begins = λ (y : List ℕ) (can : CanCome y). (
+    let (some, is) = placed.stands (x ++ y) i (spot 0 0) (omega (arith, length-append x y)) ((decided i early y _ can).0 to) in
+    starts_with (get_or x i 0) (last_of delim unit n (x ++ y)) some (is ∙ get_or_append_left x y 0 i (omega arith))) in
+    let two = apart byte n in
+    omega (arith, two.nothing_common (get_or x i 0 ∷ []) (begins two.y two.y_comes) (begins two.z two.z_comes)))

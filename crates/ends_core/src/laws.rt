@@ -14,7 +14,7 @@ ghost use Rattle.ends_core.specs.{
   declared.ends.Ends.Ends,
 };
 ghost use Rattle.ports_core.specs.{
-  Agreed.{ArePlaced, IsAgreed, IsUndecided},
+  Agreed.{ArePlaced, CanCome, IsAgreed, IsUndecided, NoFewerWait},
   Work.IsNeeded,
   Guard.{GuardState, HoldsIn, IsRefusedWith},
   Slot.Slot,
@@ -81,7 +81,8 @@ pub fn tail_goes_on(unit: Unit, delim: u8)
 
 /// What is settled is what all continuations agree on, and the bytes that wait are those that two continuations put to different places, or
 /// that only one of the two writes. So nothing is written that could still change, and nothing is kept back that can't. This is true of
-/// every count, 0 too, after any bytes. Spots say where a byte goes, and each output has at each spot just the one byte that goes there.
+/// every count, 0 too, after any bytes. Spots say where a byte goes, and each output has at each spot just the one byte that goes there. By
+/// no right spots do fewer bytes wait.
 pub fn agreed_is_settled(unit: Unit, delim: u8)
     ensures head { (but_last : Bool) (n : ℕ) (x : List ℕ)
         → IsAgreed (head_work delim unit but_last n) x ((head_work delim unit but_last n).settled x) }
@@ -89,12 +90,16 @@ pub fn agreed_is_settled(unit: Unit, delim: u8)
         → IsUndecided (head_spots delim unit but_last n) x (head_waiting delim unit but_last n x) }
     ensures head_placed { (but_last : Bool) (n : ℕ)
         → ArePlaced (head_work delim unit but_last n) (head_spots delim unit but_last n) }
+    ensures head_least { (but_last : Bool) (n : ℕ) (x : List ℕ)
+        → NoFewerWait CanCome (head_work delim unit but_last n) x (head_waiting delim unit but_last n x) }
     ensures tail { (from_nth : Bool) (n : ℕ) (x : List ℕ)
         → IsAgreed (tail_work delim unit from_nth n) x ((tail_work delim unit from_nth n).settled x) }
     ensures tail_waits { (from_nth : Bool) (n : ℕ) (x : List ℕ)
         → IsUndecided (tail_spots delim unit from_nth n) x (tail_waiting delim unit from_nth n x) }
     ensures tail_placed { (from_nth : Bool) (n : ℕ)
         → ArePlaced (tail_work delim unit from_nth n) (tail_spots delim unit from_nth n) }
+    ensures tail_least { (from_nth : Bool) (n : ℕ) (x : List ℕ)
+        → NoFewerWait CanCome (tail_work delim unit from_nth n) x (tail_waiting delim unit from_nth n x) }
 {
     let _ = (unit, delim);
 }

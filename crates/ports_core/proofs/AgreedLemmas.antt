@@ -9,7 +9,7 @@ use Rattle.ports_core.specs.{
   Part.{IsBeginning, Begins, Part, FilesBegin},
   Slot.{Slot, has_file},
   Work.{Work, IsLawful},
-  Agreed.{AgreeOn, CanCome, DifferOn, GoesApart, GoesBy, GoesTo, files_there, outputs_of, output_at, IsAgreed, Spot, spot},
+  Agreed.{AgreeOn, AreWaiting, CanCome, DifferOn, GoesApart, GoesBy, GoesTo, files_there, outputs_of, output_at, IsAgreed, Spot, spot},
   Agreed.{spots_from, ArePlaced},
 }
 use Rattle.ports_core.proofs.PartLemmas.{kept_there, part_trans, no_fewer}
@@ -279,7 +279,7 @@ module _ (work : Work) {spots_of : List ℕ → ℕ → List Spot} (place : ℕ)
           ∙ ap (λ n. get_or (stretch.rest x) n 0) one.1.is),
     ));
     filled = filled;
-    apart = grind (arith, stretched);
+    order = grind (arith, stretched);
   }
 
 -- Beginnings of one text that are as long as each other are the same. By this there is one list of outputs that all
@@ -366,6 +366,13 @@ alike_differ Goes Other {x} alike waits = record {
       (alike (x ++ z) i at).0 (waits.decided i less y z at can also ((alike (x ++ y) i at).1 goes));
 }
 
+-- ends of one text are the same if what stands before them is as long
+ends_same : {A : Type 0} {x one other : List A} (front before : List A) → x ≡ front ++ one → x ≡ before ++ other
+    → length front ≡ length before → one ≡ other
+ends_same {x} {one} {other} front before here there same =
+    sym (ap (drop (length front)) here ∙ drop-append_seam front one) ∙ ap (λ n. drop n x) same
+    ∙ ap (drop (length before)) there ∙ drop-append_seam before other
+
 module _ {A P : Type 0} {comes : List A → Type 0} (Goes : List A → ℕ → P → Type 0) (x : List A) where
   begins_no_later : (one other : List A) (here : DifferOn comes Goes x one) (there : DifferOn comes Goes x other)
       → length here.before ≤ length there.before
@@ -379,6 +386,12 @@ module _ {A P : Type 0} {comes : List A → Type 0} (Goes : List A → ℕ → P
   pub one_is_undecided : (one other : List A) → DifferOn comes Goes x one → DifferOn comes Goes x other → one ≡ other
   one_is_undecided one other here there =
       let low = begins_no_later _ _ here there in let high = begins_no_later _ _ there here in
-      sym (ap (drop (length here.before)) here.are_last ∙ drop-append_seam here.before one)
-      ∙ ap (λ n. drop n x) (let same : length here.before ≡ length there.before = omega arith in same)
-      ∙ ap (drop (length there.before)) there.are_last ∙ drop-append_seam there.before other
+      ends_same here.before there.before here.are_last there.are_last (omega arith)
+
+pub one_waits : (work : Work) (x one other : List ℕ) → AreWaiting work x one → AreWaiting work x other → one ≡ other
+one_waits work x one other here there =
+    let low = here.least there.spots_of other there.placed there.undecided in
+    let high = there.least here.spots_of one here.placed here.undecided in
+    let before = ap length here.undecided.are_last ∙ length-append here.undecided.before one in
+    let also = ap length there.undecided.are_last ∙ length-append there.undecided.before other in
+    ends_same here.undecided.before there.undecided.before here.undecided.are_last there.undecided.are_last (omega arith)

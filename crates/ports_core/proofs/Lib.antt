@@ -17,6 +17,7 @@ pub mod PlaceLemmas
 pub mod MessageLemmas
 pub mod SlotSteps
 pub mod AgreedLemmas
+pub mod LeastLemmas
 pub mod Runs
 pub mod PartSteps
 pub mod ShareLemmas

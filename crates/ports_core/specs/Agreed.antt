@@ -1,7 +1,7 @@
 -- What all continuations of an input agree on, and on which parts of it they don't. An input is bytes, or lines, and a
 -- continuation is what may still come, perhaps nothing.
 use Rattle.std.specs.{
-  Prelude.{◌≡◌, ◌⊎◌, ℕ, ◌+◌, ◌-◌, ◌<◌, ◌≤◌, nat_lt, Bool, List, [], ◌∷◌, ◌++◌, All, get_or, length},
+  Prelude.{◌≡◌, ◌⊎◌, ◌↔◌, ℕ, ◌+◌, ◌-◌, ◌<◌, ◌≤◌, nat_lt, Bool, List, [], ◌∷◌, ◌++◌, All, get_or, length},
   Prelude.{map, if◌then◌else◌},
 }
 use Rattle.ports_core.specs.{Part.{Part, IsBeginning, Begins}, Slot.{Slot, has_file}, Work.Work}
@@ -98,5 +98,18 @@ pub record ArePlaced (work : Work) (spots_of : List ℕ → ℕ → List Spot) :
   -- some byte goes to each spot of the outputs
   pub filled : (x : List ℕ) (at : Spot) → at.offset < length (output_at (work.whole x) at.place) → (i : ℕ)
       × (i < length x) × GoesTo at (spots_of x i)
-  -- no two bytes go to the same spot
-  pub apart : (x : List ℕ) (i j : ℕ) (at : Spot) → GoesTo at (spots_of x i) → GoesTo at (spots_of x j) → i ≡ j
+  -- in each output bytes stand in the order in which they came in; so no two go to the same spot
+  pub order : (x : List ℕ) (i j : ℕ) (one other : Spot) → one.place ≡ other.place → GoesTo one (spots_of x i)
+      → GoesTo other (spots_of x j) → i < j ↔ one.offset < other.offset
+
+-- By no right spots do fewer bytes wait.
+abbrev pub NoFewerWait : (List ℕ → Type 0) → Work → (x waiting : List ℕ) → Type 0
+NoFewerWait comes work x waiting = (spots_of : List ℕ → ℕ → List Spot) (other : List ℕ) → ArePlaced work spots_of
+    → DifferOn comes (GoesBy spots_of) x other → length waiting ≤ length other
+
+-- The bytes that wait: on them continuations differ by some right spots, and by no right spots do fewer wait.
+pub record AreWaiting (work : Work) (x waiting : List ℕ) : Type 0 where
+  pub spots_of : List ℕ → ℕ → List Spot
+  pub placed : ArePlaced work spots_of
+  pub undecided : IsUndecided spots_of x waiting
+  pub least : NoFewerWait CanCome work x waiting

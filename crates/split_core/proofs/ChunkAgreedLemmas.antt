@@ -80,6 +80,7 @@ pub record GoesOnWith (chunks : Chunks) (said : Option ℕ) (x r : List ℕ) (by
   pub cut : in_the_end chunks said (x ++ y)
       ≡ record { full = (decided chunks 1 said x).full ++ (r ++ byte ∷ more) ∷ later; rest = [] }
   pub alone : All (λ one. one ≡ byte) (joined ((byte ∷ more) ∷ later))
+  pub run : All (λ one. one ≡ byte) y
 
 -- such a continuation there is with each byte
 abbrev pub Grows : Chunks → Option ℕ → List ℕ → List ℕ → Type 0
@@ -120,6 +121,7 @@ said_grows chunks {size} x some short byte small =
       later = later;
       cut = whole;
       alone = subst (All (λ one. one ≡ byte)) (sym rest) (All-replicate (λ one. one ≡ byte) (suc k) byte refl);
+      run = All-replicate (λ one. one ≡ byte) (suc k) byte refl;
     }
 
 -- if it showed none, the first chunk gets the next byte, if enough bytes come
@@ -138,6 +140,7 @@ none_grows chunks x some byte small =
       cut = rw (eqb-true _ _ on.comes.1) (on.cut
           ∙ ap (λ (cut : CutUp). record { full = cut.full ++ (cut.rest ++ byte ∷ on.more) ∷ on.later; rest = [] }) cut);
       alone = on.alone;
+      run = on.run;
     }
 
 -- all bytes of these pieces are this byte

@@ -1,14 +1,16 @@
 -- What waits of an input that is cut into chunks is what continuations put to different places.
 use Rattle.std.proofs.{
-  Common.{◌≡◌, ◌≢◌, ℕ, ◌<◌, ◌≤◌, Bool, true, false, List, [], ◌∷◌, ◌++◌, length, drop},
+  Common.{◌≡◌, ◌≢◌, ℕ, ◌-◌, ◌<◌, ◌≤◌, Bool, true, false, List, [], ◌∷◌, ◌++◌, length, drop, get_or},
   Common.{Option, Some, None, refl, sym, ◌∙◌, ap, arith},
-  lemmas.{Grind.common_steps, Bool.ltb-false, List.{append-nil, length-append, take_all, take-append-drop}},
+  lemmas.{Grind.common_steps, Bool.ltb-false, List.{append-nil, get_or_append_left, get_or-append_right, length-append, take_all, take-append-drop}},
 }
 use Rattle.seg_core.specs.{Line.joined, declared.cut.Chunks.Chunks}
 use Rattle.ports_core.{
   specs.declared.slot.State.TheVariants.Closed,
-  specs.Agreed.{ArePlaced, DifferOn, GoesBy, file_bytes},
-  proofs.AgreedLemmas.{none_comes, spots_differ, spots_few},
+  specs.Agreed.{ArePlaced, DifferOn, GoesBy, GoesTo, NoFewerWait, Spot, spot, file_bytes, output_at},
+  specs.{Part.IsBeginning, Work.Work},
+  proofs.AgreedLemmas.{none_comes, other, other_comes, other_differs, spots_differ, spots_few},
+  proofs.LeastLemmas.{first_stay, least_by, none_is_least},
 }
 use Rattle.split_core.specs.{
   Chunks.{before_chunk, chunks_of, decided, in_the_end, is_longer, size_by, undecided},
@@ -20,7 +22,7 @@ use Rattle.split_core.specs.{
   laws.{BegunLaws.begun_begins, ChunkLaws.{all_joined, begin_then_rest}, ChunkWorkLaws.chunks_lawful},
 }
 use Rattle.split_core.proofs.{
-  ChunkAgreedLemmas.{files_on, first_file, joined_files, none_grows, none_kept, settled_files, whole_files},
+  ChunkAgreedLemmas.{GoesOnWith, files_on, first_file, joined_files, none_grows, none_kept, settled_files, whole_files},
   AgreedLemmas.{shared_bytes},
   UndecidedLemmas.{files_placed, last_open, settled_stay, spots_apart},
 }
@@ -74,6 +76,63 @@ chunks_wait plan said x some named fits = spots_differ (chunk_spots plan said)
     settled_stay (chunks_work plan said) (chunks_lawful plan said some) x
     (last_open plan.filing 0 (kept plan.elide cut.full) cut.rest) i
     (rw (settled_files plan said x some named) less) y z)
+
+-- By no right spots are the first byte that waits and all before it decided: if enough bytes come, all that came in stands
+-- in the first file.
+
+module _ (plan : ChunksPlan) (x : List ℕ) (some : 0 < plan.chunks.count)
+    (named : are_named plan.filing.names plan.chunks.count ≡ true) where
+  abbrev work : Work
+  work = beside_output (chunks_work plan None)
+
+  -- what stands before the first byte that waits
+  abbrev settled : List ℕ
+  settled = joined (files_by plan.elide (decided plan.chunks 1 None x))
+
+  first_ends : 0 < length x → length (output_at (work.whole x) 1) ≡ length settled
+  first_ends has = let r = before_chunk plan.chunks (length x) 1 x in
+      rw (whole_files plan None x some named, (first_file plan.elide plan.chunks x some has).1)
+      (sym (ap length (joined_files plan.elide (uncut r) ∙ append-nil r)))
+
+  module _ {byte : ℕ} (on : GoesOnWith plan.chunks None x x byte) where
+    first_goes_on : output_at (work.whole (x ++ on.y)) 1 ≡ x ++ byte ∷ on.more
+    first_goes_on = rw (
+      whole_files plan None (x ++ on.y) some named,
+      files_on plan.elide on
+          ∙ ap (λ front. front ++ (x ++ byte ∷ on.more) ∷ kept plan.elide on.later) (none_kept plan.elide),
+    ) refl
+
+    first_begins : IsBeginning (output_at (work.whole (x ++ on.y)) 1) (x ++ on.y)
+    first_begins = let w = x ++ on.y in (
+      joined (kept plan.elide on.later),
+      sym (rw first_goes_on (ap joined (sym (files_on plan.elide on
+          ∙ ap (λ front. front ++ (x ++ byte ∷ on.more) ∷ kept plan.elide on.later) (none_kept plan.elide)))
+          ∙ joined_files plan.elide (in_the_end plan.chunks None w) ∙ all_joined plan.chunks (length w) w some
+          ∙ take_all (length w) w (omega arith))),
+    )
+
+    first_stays : {spots_of : List ℕ → ℕ → List Spot} → ArePlaced work spots_of → (i : ℕ) → i < length x
+        → get_or x i 0 ≢ byte → GoesTo (spot 1 i) (spots_of (x ++ on.y) i)
+    first_stays placed i less differs = first_stay work placed (x ++ on.y) 1 (length x) byte first_begins
+        (omega (arith, ap length first_goes_on, length-append x (byte ∷ on.more)))
+        (λ j past within. get_or-append_right x on.y (length x) j 0 refl past
+        ∙ on.run (j - length x) 0 (omega (arith, length-append x on.y)))
+        i i less (λ is. differs (sym (get_or_append_left x on.y 0 i less) ∙ is)) (omega arith)
+
+  none_least : NoFewerWait (CanFollow None x) work x (undecided plan.chunks 1 None x)
+  none_least = least_by work settled _ (none_comes, refl) (sym (decided_all plan.elide plan.chunks None x some refl))
+      (λ spots_of placed stays less.
+      let i = length settled in
+      let on = none_grows plan.chunks x some (other (get_or x i 0)) (other_comes (get_or x i 0)) in
+      let goes = (stays i (omega arith) on.y (spot 1 i) on.comes).1
+      (first_stays on placed i less (other_differs (get_or x i 0))) in
+      omega (arith, (placed.stands x i _ less goes).0, first_ends (omega arith)))
+
+pub chunks_least : (plan : ChunksPlan) (said : Option ℕ) (x : List ℕ) → 0 < plan.chunks.count
+    → are_named plan.filing.names plan.chunks.count ≡ true
+    → NoFewerWait (CanFollow said x) (beside_output (chunks_work plan said)) x ((chunks_work plan said).waiting x)
+chunks_least plan None x some named = none_least plan x some named
+chunks_least plan (Some size) x some named = none_is_least (beside_output (chunks_work plan (Some size))) x
 
 -- Spots are right
 

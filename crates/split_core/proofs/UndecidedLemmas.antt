@@ -24,13 +24,14 @@ use Rattle.seg_core.{
 use Rattle.ports_core.specs.{
   Name.{Naming, has_name},
   Work.{IsLawful, Work},
-  Agreed.{spot, spots_from, GoesTo, file_bytes, ArePlaced, CanCome, IsUndecided},
+  Agreed.{spot, spots_from, output_at, GoesTo, file_bytes, ArePlaced, CanCome, IsUndecided, NoFewerWait},
   Part.FilesBegin,
   Slot.Slot,
   declared.slot.State.TheVariants.{Open, Closed},
 }
 use Rattle.ports_core.proofs.{
   AgreedLemmas.{none_comes, common, none_before, same_spots, spots_differ, spots_few, AreFront, stretch_placed},
+  LeastLemmas.{early_enough, least_by, none_is_least},
 }
 use Rattle.split_core.specs.{
   Parts.{parts, cut_up, unless_empty, settled_rest, dealt},
@@ -117,6 +118,56 @@ settled_stay work lawful x last i less y z =
     let stay = λ (y : List ℕ). spots_stay 1 i (work.settled x).files (work.whole (x ++ y)).files
     (common work lawful x y).files last less in stay y ∙ sym (stay z)
 
+-- A continuation that ends the open part before what waits. If the input ends, this part has what waits, too.
+record EndsPart (limit : Limit) (filing : Filing) (x : List ℕ) : Type 0 where
+  y : List ℕ
+  comes : CanCome y
+  more : List (List ℕ)
+  full : List (List ℕ)
+  begun : List ℕ
+  rest : List ℕ
+  here : file_bytes ((parts_work limit filing).whole x) ≡ full ++ rest ∷ []
+  there : file_bytes ((parts_work limit filing).whole (x ++ y)) ≡ full ++ begun ∷ more
+  settled : length (settled_in limit filing x) ≡ length (joined full) + length begun
+  all : length x ≡ length (joined full) + length rest
+
+ends_part : (limit : Limit) (filing : Filing) (x : List ℕ) → 0 < most limit
+    → are_named filing.names (length (parts limit x)) ≡ true → length (settled_in limit filing x) < length x
+    → EndsPart limit filing x
+ends_part limit filing x some are less =
+    let full = (cut_up limit x).full in
+    let rest = (cut_up limit x).rest in
+    let begun = settled_rest limit rest in
+    let waiting = waiting_rest limit rest in
+    let waits : 0 < length waiting = omega (
+      arith,
+      ap length (came_in limit filing are),
+      length-append (settled_in limit filing x) waiting,
+    ) in
+    let has : 0 < length rest = omega (arith, length-append begun waiting, ap length (settled_then_waiting limit rest)) in
+    let begins = settled_some limit rest has in
+    let filled = decides_later {limit = limit} {x = x} (part_ends limit rest some (rest_short limit x) waits) begins in
+    let further = named_more filing.names 0 (settled_list limit x) filled.more in
+    let one : settled_list limit x ≡ full ++ begun ∷ [] = ap (λ those. full ++ those) (one_of begun begins) in record {
+      y = filled.y;
+      comes = filled.comes;
+      more = further.0;
+      full = full;
+      begun = begun;
+      rest = rest;
+      here = cc (shared_bytes filing Closed (parts limit x), each_named filing.names (parts limit x) are, one_of rest has);
+      there = cc (
+        shared_bytes filing Closed (parts limit (x ++ filled.y)),
+        filled.are,
+        further.1,
+        each_named filing.names (settled_list limit x) (ap (are_named filing.names) (list_count limit x) ∙ are),
+        one,
+        append_assoc full (begun ∷ []) further.0,
+      );
+      settled = grind (arith, common_steps, settled_bytes_in limit filing x are, one, joined-append full (begun ∷ []));
+      all = omega (arith, ap length (cut_all limit {x = x}), length-append (joined full) rest);
+    }
+
 -- Two continuations put a byte that waits to different spots: the end puts it into the part of what is settled, and bytes that end
 -- this part put it into a later one, or nowhere.
 parts_differ : (limit : Limit) (filing : Filing) (x : List ℕ) (i : ℕ) → 0 < most limit
@@ -125,40 +176,36 @@ parts_differ : (limit : Limit) (filing : Filing) (x : List ℕ) (i : ℕ) → 0 
     × (spots_from 1 (file_bytes ((parts_work limit filing).whole (x ++ y))) i
     ≢ spots_from 1 (file_bytes ((parts_work limit filing).whole (x ++ z))) i)
 parts_differ limit filing x i some are past within =
-    let full = (cut_up limit x).full in
-    let rest = (cut_up limit x).rest in
-    let begun = settled_rest limit rest in
-    let waiting = waiting_rest limit rest in elim (cases_lt 0 (length waiting)) [
-      | inr none ↦ absurd (grind (arith, common_steps, came_in limit filing are, nil_from_length waiting (omega arith)))
-      | inl waits ↦ (
-          let has : 0 < length rest = omega (arith, length-append begun waiting, ap length (settled_then_waiting limit rest)) in
-          let begins = settled_some limit rest has in
-          let filled = decides_later {limit = limit} {x = x} (part_ends limit rest some (rest_short limit x) waits) begins in
-          let further = named_more filing.names 0 (settled_list limit x) filled.more in
-          let one : settled_list limit x ≡ full ++ begun ∷ [] = ap (λ those. full ++ those) (one_of begun begins) in
-          let here : file_bytes ((parts_work limit filing).whole (x ++ [])) ≡ full ++ rest ∷ [] = cc (
-            append-nil x,
-            shared_bytes filing Closed (parts limit x),
-            each_named filing.names (parts limit x) are,
-            one_of rest has,
-          ) in
-          let there : file_bytes ((parts_work limit filing).whole (x ++ filled.y)) ≡ full ++ begun ∷ further.0 = cc (
-            shared_bytes filing Closed (parts limit (x ++ filled.y)),
-            filled.are,
-            further.1,
-            each_named filing.names (settled_list limit x) (ap (are_named filing.names) (list_count limit x) ∙ are),
-            one,
-            append_assoc full (begun ∷ []) further.0,
-          ) in (
-            filled.y,
-            [],
-            filled.comes,
-            none_comes,
-            rw (there, here) (spots_apart 1 i full begun rest further.0 []
-                (grind (arith, common_steps, settled_bytes_in limit filing x are, one, joined-append full (begun ∷ [])))
-                (omega (arith, ap length (cut_all limit {x = x}), length-append (joined full) rest))),
-          ))
-    ]
+    let ends = ends_part limit filing x some are (omega arith) in (
+      ends.y,
+      [],
+      ends.comes,
+      none_comes,
+      rw (append-nil x, ends.there, ends.here) (spots_apart 1 i ends.full ends.begun ends.rest ends.more []
+          (omega (arith, ends.settled)) (omega (arith, ends.all))),
+    )
+
+-- By no right spots are the first byte that waits and all before it decided: at the end one of them stands in the open
+-- part after what is settled, and this part can end there.
+parts_least : (limit : Limit) (filing : Filing) (x : List ℕ) → 0 < most limit
+    → are_named filing.names (length (parts limit x)) ≡ true
+    → NoFewerWait CanCome (beside_output (parts_work limit filing)) x (waiting_rest limit (cut_up limit x).rest)
+parts_least limit filing x some are = least_by work (settled_in limit filing x) _ none_comes
+    (sym (came_in limit filing are)) (λ spots_of placed decided less.
+    let ends = ends_part limit filing x some are less in
+    let place = suc (length ends.full) in
+    let at = spot place (length ends.begun) in
+    let long : output_at (work.whole x) place ≡ ends.rest =
+    ap (λ files. get_or files (length ends.full) []) ends.here ∙ get_or-append_seam ends.full ends.rest [] [] in
+    let short : output_at (work.whole (x ++ ends.y)) place ≡ ends.begun =
+    ap (λ files. get_or files (length ends.full) []) ends.there ∙ get_or-append_seam ends.full ends.begun ends.more [] in
+    let has : at.offset < length (output_at (work.whole x) place) = omega (arith, ends.settled, ends.all, ap length long) in
+    let (i, here, to) = placed.filled x at has in
+    let early = early_enough work placed x place at.offset i has to in
+    let stays = (decided i (omega (arith, ends.settled, ends.all, ap length long)) ends.y at ends.comes).0 to in
+    omega (arith, (placed.stands (x ++ ends.y) i at (omega (arith, length-append x ends.y)) stays).0, ap length short)) where
+      work : Work
+      work = beside_output (parts_work limit filing)
 
 -- Lines that are dealt: none waits
 
@@ -180,6 +227,16 @@ undecided_at (cut.Parts limit) elide filing some {x} enough =
     (λ i less y z can also. settled_stay (parts_work limit filing) (parts_lawful limit filing) x
     (last_open filing 0 (cut_up limit x).full (settled_rest limit (cut_up limit x).rest)) i less y z)
 undecided_at (cut.Round n delim) elide filing some {x} enough = grind (arith, common_steps, common_steps, dealt_all, drop_all, same_spots, dealt_decided)
+
+pub least_at : (cut : Cut) (elide : Bool) (filing : Filing) → IsPositive cut → (x : List ℕ)
+    → is_short (plan_by cut elide filing) x ≡ false
+    → NoFewerWait CanCome (beside_output (split_work (plan_by cut elide filing))) x
+    ((split_work (plan_by cut elide filing)).waiting x)
+least_at (cut.Parts limit) elide filing some x enough =
+    let are : are_named filing.names (length (parts limit x)) ≡ true = grind (arith, common_steps) in
+    rw (waiting_is limit filing x are) (parts_least limit filing x some are)
+least_at (cut.Round n delim) elide filing some x enough =
+    grind (arith, common_steps, common_steps, dealt_all, drop_all, none_is_least)
 
 -- Lines that are dealt: what a file has, byte by byte
 
@@ -274,7 +331,7 @@ placed_at (cut.Round n delim) elide filing some = record {
   stands = λ x i at less goes. let (rest, is) = follows delim n x i less in
       grind (arith, length-append, file_at, file_is delim n elide filing x, get_or-append_seam);
   filled = λ x at less. filled delim n elide filing x at.place at.offset less;
-  apart = λ x i j at goes also. grind (arith, had_grows);
+  order = λ x i j one other same goes also. grind (arith, had_grows);
 }
 
 -- if standard output gets no lines, all bytes are placed

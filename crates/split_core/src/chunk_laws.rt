@@ -4,7 +4,7 @@ ghost use Rattle.std.specs.{
   List.{filter, flat_map, range_with_len},
 };
 ghost use Rattle.ports_core.specs.{
-  Agreed.{ArePlaced, DifferOn, GoesBy, IsAgreed, file_bytes},
+  Agreed.{ArePlaced, DifferOn, GoesBy, IsAgreed, NoFewerWait, file_bytes},
   Draft.opening_line,
   Part.{only_out, openings_for},
   declared.verdict.Verdict.TheVariants.Changed,
@@ -58,8 +58,8 @@ pub fn one_chunk_is_its_file()
 /// What is settled is what all continuations agree on, and the bytes that wait are those that two continuations put to different places, or
 /// that only one of the two writes. So nothing is written that could still go into another file, and nothing is kept back that can't. If
 /// the input showed its size, continuations are those with which the input has it, and no byte waits. Spots say where a byte goes, and are
-/// right. Files are closed as soon as all continuations end with these files, empty ones too, and with all files before them. One more is
-/// open once it has a byte.
+/// right. By no right spots do fewer bytes wait for files; this isn't said of one chunk alone. Files are closed as soon as all continuations
+/// end with these files, empty ones too, and with all files before them. One more is open once it has a byte.
 pub fn chunks_agree()
     ensures outputs { (plan : ChunksPlan) (said : Option ℕ) (x : List ℕ)
         → IfNamed plan (plan.filing.verbose ≡ false → is_longer said x ≡ false
@@ -75,6 +75,9 @@ pub fn chunks_agree()
         → DifferOn (CanFollow said x) (GoesBy (chunk_spots plan said)) x ((chunks_work plan said).waiting x)) }
     ensures placed { (plan : ChunksPlan) (said : Option ℕ)
         → IfNamed plan (ArePlaced (beside_output (chunks_work plan said)) (chunk_spots plan said)) }
+    ensures least { (plan : ChunksPlan) (said : Option ℕ) (x : List ℕ)
+        → IfNamed plan (NoFewerWait (CanFollow said x) (beside_output (chunks_work plan said)) x
+        ((chunks_work plan said).waiting x)) }
     ensures chunk { (place : ℕ) (chunks : Chunks) (said : Option ℕ) (x : List ℕ)
         → place < chunks.count → is_longer said x ≡ false
         → AgreeAt (CanFollow said x) (chunk_work place chunks said) x ((chunk_work place chunks said).settled x) }

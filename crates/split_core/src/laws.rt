@@ -3,7 +3,7 @@ ghost use Rattle.std.specs.{
   Prelude.{◌≡◌, ◌<◌, ◌≤◌, ◌+◌, ◌*◌, ◌++◌, ℕ, List, [], true, get_or, length, map, take, drop, All, false},
 };
 ghost use Rattle.ports_core.specs.{
-  Agreed.{ArePlaced, IsAgreed, IsUndecided},
+  Agreed.{ArePlaced, CanCome, IsAgreed, IsUndecided, NoFewerWait},
   Draft.opening_line,
   Part.{gets_bytes, openings_for},
   Guard.{GuardState, HoldsIn},
@@ -94,7 +94,7 @@ pub fn lines_are_dealt()
 /// that only one of the two writes. So nothing is written that could still go into another file, and nothing is kept back that can't. This
 /// is true of all four ways to cut, of any byte that lines end with, and of both values of `elide`; of waiting, if the input so far needs
 /// no more files than there are names. Spots say where a byte goes, and each file has at each spot just the one byte that goes there; no
-/// spot is on standard output.
+/// spot is on standard output. By no right spots do fewer bytes wait.
 pub fn agreed_is_settled()
     ensures outputs { (plan : Plan) → IsPositive plan.cut → (x : List ℕ)
         → IsAgreed (split_work plan) x ((split_work plan).settled x) }
@@ -104,6 +104,8 @@ pub fn agreed_is_settled()
         → ArePlaced (split_work plan) (split_spots plan) }
     ensures files { (plan : Plan) → IsPositive plan.cut
         → ArePlaced (beside_output (split_work plan)) (split_spots plan) }
+    ensures least { (plan : Plan) → IsPositive plan.cut → (x : List ℕ) → is_short plan x ≡ false
+        → NoFewerWait CanCome (beside_output (split_work plan)) x ((split_work plan).waiting x) }
 {}
 
 /// If standard output gets lines about files, it has a line for each file that was opened, in order, and nothing else: once some bytes came

@@ -91,7 +91,7 @@ tee_placed mode names = record {
   stands = λ x i at less goes. (let one = tee_goes names x at goes in let has = output_has mode names at.place one.1 in
       (rw has (omega arith), ap (λ those. get_or those at.offset 0) has ∙ ap (λ k. get_or x k 0) one.0));
   filled = λ x at less. tee_filled mode names x at.place at.offset less;
-  apart = λ x i j at goes also. sym (tee_goes names x at goes).0 ∙ (tee_goes names x at also).0;
+  order = λ x i j one other same goes also. grind (arith, tee_goes);
 }
 
 -- the outputs of a run in which nothing breaks

@@ -1,5 +1,6 @@
 use Rattle.ends_core.proofs.{
-  AgreedLemmas.{head_agreed, head_placed, head_undecided, tail_agreed, tail_placed, tail_undecided},
+  AgreedLemmas.{head_agreed, head_least, head_placed, head_undecided, tail_agreed, tail_least, tail_placed},
+  AgreedLemmas.tail_undecided,
 }
 use Rattle.ends_core.proofs.laws.agreed_is_settled.Goals as goal
 
@@ -11,4 +12,6 @@ returns c = record {
   tail_waits = λ from_nth n x. tail_undecided c.args.delim c.ranges.delim.fits c.args.unit from_nth n;
   head_placed = head_placed c.args.delim c.args.unit;
   tail_placed = tail_placed c.args.delim c.args.unit;
+  head_least = head_least c.args.delim c.ranges.delim.fits c.args.unit;
+  tail_least = tail_least c.args.delim c.ranges.delim.fits c.args.unit;
 }

@@ -5,7 +5,7 @@ use Rattle.split_core.{
   proofs.{
     ChunkAgreedLemmas.{chunk_agreed, chunks_agreed, files_agreed},
     ChunkMadeLemmas.chunks_made,
-    ChunkWaitLemmas.{chunks_placed, chunks_wait},
+    ChunkWaitLemmas.{chunks_least, chunks_placed, chunks_wait},
     OneChunkLemmas.{chunk_placed, chunk_waits},
   },
 }
@@ -18,6 +18,7 @@ returns c = record {
   made = chunks_made;
   waits = chunks_wait;
   placed = chunks_placed;
+  least = chunks_least;
   chunk = chunk_agreed;
   chunk_waits = λ place chunks said x within. chunk_waits place chunks within said x;
   chunk_placed = chunk_placed;
