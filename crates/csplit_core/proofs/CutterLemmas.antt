@@ -54,7 +54,7 @@ use Rattle.csplit_core.proofs.{
 }
 use Rattle.ports_core.specs.{
   Draft.{Draft, share, made_of, shares_of, draft_part, with_bytes, with_next, told_of_files, size_of_file},
-  Slot.Slot,
+  Slot.{effect, Slot},
   declared.{fault.Fault.Fault, file_writer.Opening.{Opening, TheVariants.Never}, slot.State.TheVariants.{Closed}},
   FileWriter.{Goes, Reaches, Leaves, WriterState, Writes, IsReady, size_of},
   Part.{Begins, Part, lines_for},
@@ -145,9 +145,9 @@ keeps_on first second = search (rules, leaves_again)
 -- what is written by two calls, if the style stays
 pub reaches_then : {told : Bool} {style other : Style} {low middle high : Part} {old mid new : List Slot}
     {fault : Option Fault} {one two three : WriterState} → other ≡ style → Begins low middle
-    → Reaches (sizes_wanted style) told one two low middle old mid None
-    → Reaches (sizes_wanted other) told two three middle high mid new fault
-    → Reaches (sizes_wanted style) told one three low high old new fault
+    → Reaches (sizes_wanted style) one two low middle (effect told old mid) None
+    → Reaches (sizes_wanted other) two three middle high (effect told mid new) fault
+    → Reaches (sizes_wanted style) one three low high (effect told old new) fault
 reaches_then same begins first second = reaches_again begins first (rw same at second)
 
 -- what style and operands decide stays as it is
@@ -246,7 +246,7 @@ pub record Emptying (told : Bool) (writer now : WriterState) (window left_in : W
     (old new : List Slot) : Type 0 where
   pub few : left ≤ n
   pub rest : left_in ≡ without_first window (n - left)
-  pub went : Goes told writer (with_bytes (take (n - left) window.held)) old new now None
+  pub went : Goes writer now (with_bytes (take (n - left) window.held)) (effect told old new) None
   pub size : size_of now.current + length left_in.held ≤ size_of writer.current + length window.held
 
 pub all_held : {told : Bool} {writer : WriterState} {window : Window} {n : ℕ} {slots : List Slot} → IsReady writer slots
@@ -261,7 +261,7 @@ module _ {told : Bool} {writer now : WriterState} {window left_in : Window} {n l
   taken_more = grind (arith, common_steps, take-add)
 
   pub empties : bytes ≤ left → {next : WriterState} {after : Window} {new : List Slot}
-      → after ≡ without_first left_in bytes → Goes told now (with_bytes (take bytes front)) mid new next None
+      → after ≡ without_first left_in bytes → Goes now next (with_bytes (take bytes front)) (effect told mid new) None
       → size_of next.current ≤ size_of now.current + length (take bytes front)
       → Emptying told writer next window after n (left - bytes) old new
   empties few dropped went more =
@@ -275,8 +275,8 @@ module _ {told : Bool} {writer now : WriterState} {window left_in : Window} {n l
 
   -- a write of such bytes stopped
   pub empties_short : bytes ≤ left → {next : WriterState} {new : List Slot} {fault : Fault}
-      → Goes told now (with_bytes (take bytes front)) mid new next (Some fault)
-      → Goes told writer (with_bytes (take n window.held)) old new next (Some fault)
+      → Goes now next (with_bytes (take bytes front)) (effect told mid new) (Some fault)
+      → Goes writer next (with_bytes (take n window.held)) (effect told old new) (Some fault)
   empties_short few stopped =
       let count : n - left + bytes + (left - bytes) ≡ n = (let all = so_far.few in omega arith) in
       goes_as (search (rules, taken_more, take-add))
@@ -316,9 +316,9 @@ module _ {delim most over front : ℕ} {held text : List ℕ} (parts : Parted de
 
   pub hold_on : {told : Bool} {writer between next : WriterState} {piece : List ℕ} {old mid new : List Slot}
       {fault : Option Fault} → piece ≡ take (over - front) text
-      → Goes told writer (with_bytes (take front held)) old mid between None
-      → Goes told between (with_bytes piece) mid new next fault
-      → Goes told writer (with_bytes (but_last_lines delim most (held ++ text))) old new next fault
+      → Goes writer between (with_bytes (take front held)) (effect told old mid) None
+      → Goes between next (with_bytes piece) (effect told mid new) fault
+      → Goes writer next (with_bytes (but_last_lines delim most (held ++ text))) (effect told old new) fault
   hold_on piece_is first second = search (rules, goes_as, goes_more)
 
 pub kept_window : {window mid : Window} (new : Window) {over front : ℕ} {text : List ℕ}
@@ -381,8 +381,8 @@ module _ {cutter : CutterState} {x left bytes : List ℕ} {at : IsAt (bare cutte
 
 pub hold_goes : {told : Bool} {cutter : CutterState} {writer : WriterState} {window : Window} {left : List ℕ}
     {old new : List Slot} {fault : Option Fault} → IsFit cutter → (cutter.aim ≡ Below → ⊥)
-    → Goes told cutter.writer
-    (with_bytes (but_last_lines cutter.window.delim cutter.window.most left)) old new writer fault
+    → Goes cutter.writer writer (with_bytes (but_last_lines cutter.window.delim cutter.window.most left))
+    (effect told old new) fault
     → IfNone fault
     (window ≡ record cutter.window { held = last_lines cutter.window.delim cutter.window.most left })
     → IfNone fault (size_of writer.current + length window.held ≤ size_of cutter.writer.current + length left)
@@ -500,7 +500,7 @@ pub cut_stopped : {told : Bool} {due : Due} {next : CutterState} {old new : List
     → next.operands ≡ due.cutter.operands → next.style ≡ due.cutter.style
     → Leaves due.cutter.writer next.writer old new (Some fault)
     → ((x : List ℕ) (at : IsAt (bare due.cutter) x due.left) → CutsNow due x at
-    → Puts told due.cutter next (part_at at) (settled_part due.cutter x) old new (Some fault))
+    → Puts due.cutter next (part_at at) (settled_part due.cutter x) (effect told old new) (Some fault))
     → CutsAll told due [] old new next (Some fault)
 cut_stopped operands style leaves reaches = search rules
 
@@ -515,11 +515,11 @@ passed_state cutter passed are = rw passed.same at (passed.state _ _ are)
 next_goes : {told : Bool} {cutter mid : CutterState} {writer next : WriterState} {cut : CutPoint} {before : List ℕ}
     {opening : Opening} {old between new : List Slot} {fault : Option Fault}
     → WentOn (record cutter { writer = writer }) cut mid
-    → Goes told cutter.writer (with_bytes before) old between writer None
+    → Goes cutter.writer writer (with_bytes before) (effect told old between) None
     → opening ≡ opening_of mid.style (kept_by (state_in mid).operands)
-    → Goes told mid.writer (with_next opening) between new next fault
-    → Goes told cutter.writer (λ draft. with_next (opening_of cutter.style
-    (kept_by (drop mid.progress.done cutter.operands))) (with_bytes before draft)) old new next fault
+    → Goes mid.writer next (with_next opening) (effect told between new) fault
+    → Goes cutter.writer next (λ draft. with_next (opening_of cutter.style
+    (kept_by (drop mid.progress.done cutter.operands))) (with_bytes before draft)) (effect told old new) fault
 next_goes {before = before} passed went opening_is began = goes_again _ (λ draft. refl)
     (λ manner. bytes_begin manner before) went (rw passed.same at (rw opening_is at began))
 
@@ -562,7 +562,7 @@ module _ {due : Due} {n : ℕ} {before : List ℕ} (fit : IsFit due.cutter) (wil
 
   pub cut_put_stopped : {told : Bool} {next : CutterState} {old new : List Slot} {fault : Fault}
       → next.operands ≡ due.cutter.operands → next.style ≡ due.cutter.style
-      → Goes told due.cutter.writer (with_bytes before) old new next.writer (Some fault)
+      → Goes due.cutter.writer next.writer (with_bytes before) (effect told old new) (Some fault)
       → CutsAll told due [] old new next (Some fault)
   cut_put_stopped operands style goes = cut_stopped operands style goes.leaves
       (λ x at now. stops_wider (goes.reaches (manner_of due.cutter.style) (draft_at at) at.writes)
@@ -570,10 +570,10 @@ module _ {due : Due} {n : ℕ} {before : List ℕ} (fit : IsFit due.cutter) (wil
 
   pub cut_next_stopped : {told : Bool} {mid : CutterState} {writer next : WriterState} {opening : Opening}
       {old between new : List Slot} {fault : Fault}
-      → Goes told due.cutter.writer (with_bytes before) old between writer None
+      → Goes due.cutter.writer writer (with_bytes before) (effect told old between) None
       → WentOn (record due.cutter { writer = writer }) due.cut mid
       → opening ≡ opening_of mid.style (kept_by (state_in mid).operands)
-      → Goes told mid.writer (with_next opening) between new next (Some fault)
+      → Goes mid.writer next (with_next opening) (effect told between new) (Some fault)
       → CutsAll told due [] old new (record mid { writer = next }) (Some fault)
   cut_next_stopped went passed opening_is stops =
       let stopped = next_goes passed went opening_is stops in
@@ -608,10 +608,10 @@ module _ {told : Bool} {due : Due} {mid : CutterState} {writer next : WriterStat
     (first : before ≡ first_lines newline n due.left) (all_is : all ≡ after_lines newline n due.left)
     (skipped : suppress_in due.cutter ≡ true → rest ≡ after_lines newline 1 all)
     (whole : suppress_in due.cutter ≡ false → rest ≡ all)
-    (went : Goes told due.cutter.writer (with_bytes before) old between writer None)
+    (went : Goes due.cutter.writer writer (with_bytes before) (effect told old between) None)
     (passed : WentOn (record due.cutter { writer = writer }) due.cut mid)
     (opening_is : opening ≡ opening_of mid.style (kept_by (state_in mid).operands))
-    (began : Goes told mid.writer (with_next opening) between new next None) where
+    (began : Goes mid.writer next (with_next opening) (effect told between new) None) where
   after_at : {x : List ℕ} {at : IsAt (bare due.cutter) x due.left} (now : CutsNow due x at)
       → IsAfter told due x (part_at at) old new (record mid { writer = next }) rest
   after_at {x} {at} now =

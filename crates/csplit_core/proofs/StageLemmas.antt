@@ -10,7 +10,7 @@ use Rattle.seg_core.{
   proofs.FirstLines.{first_lines-all, after_lines-is_drop, lines_of-after_lines},
 }
 use Rattle.ports_core.specs.{
-  Slot.{Slot},
+  Slot.{effect, Slot},
   declared.{
     fault.Fault.{Fault, TheVariants.Memory},
     verdict.Verdict.Verdict,
@@ -151,7 +151,7 @@ first_stands operands style writes ends true past = search (rules, plan_once, fi
 
 pub first_opened : (told : Bool) {style : Style} {operands : List Operand} {old new : List Slot} {writer : WriterState}
     (aim : Attempt) → 2 ≤ length old
-    → Goes told (writer_for style) (with_next (opening_of style (kept_by operands))) old new writer None
+    → Goes (writer_for style) writer (with_next (opening_of style (kept_by operands))) (effect told old new) None
     → size_of writer.current ≡ 0 → SaysFirst style operands aim → MovesOn style operands 0 first_progress aim
     → Opened told style operands old new (first_cutter operands style writer aim)
 first_opened told {style} {operands} {old} {new} {writer} aim two begun none says moves =
@@ -175,12 +175,12 @@ first_opened told {style} {operands} {old} {new} {writer} aim two begun none say
 
 -- the writer that was made goes on
 pub made_goes : {told : Bool} (style : Style) {first next : WriterState} {change : Draft → Draft} {old new : List Slot}
-    {fault : Option Fault} → first ≡ new_for style → Goes told (paused first) change old new next fault
-    → Goes told (writer_for style) change old new next fault
+    {fault : Option Fault} → first ≡ new_for style → Goes (paused first) next change (effect told old new) fault
+    → Goes (writer_for style) next change (effect told old new) fault
 made_goes style is goes = rw is at goes
 
 pub begun_not : {told : Bool} {style : Style} {opening : Opening} {old new : List Slot} {next : WriterState} {f : Fault}
-    → 2 ≤ length old → Goes told (writer_for style) (with_next opening) old new next (Some f) → next.files ≡ []
+    → 2 ≤ length old → Goes (writer_for style) next (with_next opening) (effect told old new) (Some f) → next.files ≡ []
     → BegunNot told style (draft_part (manner_of style) (with_next opening nothing_yet)) old new f
 begun_not {style = style} {old = old} {new} {f = f} two goes none = record {
   reaches = reaches_as (sym (nothing_part (sizes_wanted style))) refl
@@ -235,8 +235,8 @@ all_held cutter all = grind (arith, common_steps)
 
 pub end_goes : {told : Bool} {cutter : CutterState} {between next : WriterState} (window : Window) {n : ℕ}
     {old mid new : List Slot} {fault : Option Fault} → IsFit cutter → n ≡ length cutter.window.held
-    → Goes told cutter.writer (with_bytes (take n cutter.window.held)) old mid between None
-    → Goes told between (with_next Never) mid new next fault
+    → Goes cutter.writer between (with_bytes (take n cutter.window.held)) (effect told old mid) None
+    → Goes between next (with_next Never) (effect told mid new) fault
     → EndsAll told cutter old new (record cutter { writer = next; window = window }) fault
 end_goes {cutter = cutter} window {fault = fault} fit all goes ends =
     let both = goes_again (λ draft. with_next Never (with_bytes cutter.window.held draft)) (λ draft. refl)
@@ -249,7 +249,7 @@ end_goes {cutter = cutter} window {fault = fault} fit all goes ends =
 
 pub end_short : {told : Bool} {cutter : CutterState} {next : WriterState} {window : Window} {n : ℕ}
     {old new : List Slot} {fault : Fault} → IsFit cutter → n ≡ length cutter.window.held
-    → Goes told cutter.writer (with_bytes (take n cutter.window.held)) old new next (Some fault)
+    → Goes cutter.writer next (with_bytes (take n cutter.window.held)) (effect told old new) (Some fault)
     → EndsAll told cutter old new (record cutter { writer = next; window = window }) (Some fault)
 end_short {cutter = cutter} fit all goes =
     let stopped = goes_as (all_held cutter all) goes in record {
@@ -558,7 +558,7 @@ has_settled stage x = search rules
 pub passes_by : (told : Bool) (stage next : CsplitState) (piece : List ℕ) (old new : List Slot)
     (result : Result (Unit {0}) Fault) → Passes told stage piece old new next result → IsReady stage old
     → next.taken ≡ stage.taken + length piece → stage.taken + length piece < 2 ^ 63
-    → engine.Passes terms told piece stage next old new (IsMetWith terms piece stage) result
+    → engine.Passes terms piece stage next (effect told old new) (IsMetWith terms piece stage) result
 passes_by told stage next piece old new (Ok done) passes is_ready taken fits = record {
   same = same_by csplit_work passes.took.keeps;
   size = omega arith;
@@ -623,7 +623,7 @@ module _ (told : Bool) (stage next : CsplitState) (old new : List Slot) where
   ends_there closed judges x holds = sym (judged_then closed judges holds)
 
   pub ends_short : {fault : Fault} → Closed told stage old new next (Some fault) → IsReady stage old
-      → CutsOff terms stage (work stage).whole told old new fault
+      → CutsOff terms stage (work stage).whole (effect told old new) fault
   ends_short {fault} stopped ready before x at = engine.cut (search (rules, not_verdict))
       (rw (whole_then stage x at.holds, settled_is stage x) at
       (stopped_in_turn (work stage).means.output told before _ _ fault new (has_settled stage (whole_lines x))
@@ -632,7 +632,7 @@ module _ (told : Bool) (stage next : CsplitState) (old new : List Slot) where
   -- the work ended with a verdict, and the files were removed after that
   pub ends_judged : Closed told stage old new next None → {verdict : Verdict} → (cleared : List Slot)
       → ((first : ℕ) → Owns next first new → Swept (work next).clears first new cleared)
-      → CutsOff terms stage (work stage).whole told old cleared (fault_is.Verdict verdict)
+      → CutsOff terms stage (work stage).whole (effect told old cleared) (fault_is.Verdict verdict)
   ends_judged closed cleared swept before x at =
       engine.judged refl new (whole_out closed at)
       (search (rules, owns_on))
@@ -640,7 +640,7 @@ module _ (told : Bool) (stage next : CsplitState) (old new : List Slot) where
 -- the contract of the end, however the end went
 pub finishes_by : (told : Bool) (stage next : CsplitState) (old new : List Slot) {result : Result (Unit {0}) Fault}
     → Closes told stage old new next result → IsReady stage old → next.taken ≤ stage.taken
-    → Finishes terms told stage next old new (IsMetThere terms stage) result
+    → Finishes terms stage next (effect told old new) (IsMetThere terms stage) result
 finishes_by told stage next old new (ended_well closed none) is_ready few = record {
   same = same_by csplit_work closed.keeps;
   size = few;

@@ -1,7 +1,12 @@
 //! Lines that wait, and what leaves them.
 ghost use Rattle.std.specs.Prelude.{◌≡◌, ◌+◌, ◌<◌, ◌≤◌, ◌^◌, ◌++◌, [], length, take, IfOk, IfErr, OnOk};
 ghost use Rattle.seg_core.specs.{Line.but_last_lines, inner.Lines.last_lines, Window.without_first};
-ghost use Rattle.ports_core.specs.{Draft.with_bytes, FileWriter.{IsReady, seen_writer, size_of, Goes}, InTurn.fault_in};
+ghost use Rattle.ports_core.specs.{
+  Draft.with_bytes,
+  FileWriter.{IsReady, seen_writer, size_of, Goes},
+  Slot.effect_of,
+  InTurn.fault_in,
+};
 
 use ports_core::{Fault, FileWriter, Outs};
 use seg_core::line_window::LineWindow;
@@ -21,9 +26,9 @@ pub(crate) fn hold_last<O: Outs>(
 ) -> Result<(), Fault>
     requires fits { size_of writer.old.current + length window.old.held + length text.now < 2 ^ 64 }
     requires ready { IsReady (seen_writer writer.old) (O.slots outs.old) }
-    ensures goes { Goes O.told (seen_writer writer.old)
-        (with_bytes (but_last_lines window.old.delim window.old.most (window.old.held ++ text.now))) (O.slots outs.old)
-        (O.slots outs.new) (seen_writer writer.new) (fault_in result) }
+    ensures goes { Goes (seen_writer writer.old) (seen_writer writer.new)
+        (with_bytes (but_last_lines window.old.delim window.old.most (window.old.held ++ text.now)))
+        (effect_of O.told O.slots outs.old outs.new) (fault_in result) }
     ensures window { OnOk result (window.new ≡ record window.old
         { held = last_lines window.old.delim window.old.most (window.old.held ++ text.now) }) }
     ensures size { OnOk result (size_of writer.new.current + length window.new.held
@@ -47,8 +52,8 @@ pub(crate) fn write_front<O: Outs>(
     requires held { n ≤ length window.old.held }
     requires fits { size_of writer.old.current + length window.old.held < 2 ^ 64 }
     requires ready { IsReady (seen_writer writer.old) (O.slots outs.old) }
-    ensures goes { Goes O.told (seen_writer writer.old) (with_bytes (take n window.old.held)) (O.slots outs.old)
-        (O.slots outs.new) (seen_writer writer.new) (fault_in result) }
+    ensures goes { Goes (seen_writer writer.old) (seen_writer writer.new) (with_bytes (take n window.old.held))
+        (effect_of O.told O.slots outs.old outs.new) (fault_in result) }
     ensures window { OnOk result (window.new ≡ without_first window.old n) }
     ensures size { OnOk result (size_of writer.new.current + length window.new.held
         ≤ size_of writer.old.current + length window.old.held) }

@@ -12,11 +12,11 @@ use Rattle.std.proofs.{
   Common.{◌↔◌, replicate, lit<, zero, suc, take, drop, rules},
 }
 use Rattle.ports_core.specs.{
-  Slot.{Slot, is_writable, with_written, told_of},
+  Slot.{effect, Slot, is_writable, with_written, told_of},
   Source.Source,
   Part.{Part, StoppedBetween, only_out},
   Work.{Work, Means, Needs, on_output, IsNeeded, IsSettled, IsSpare},
-  Engine.{EndsThere, IsMetThere, Loads, TakesIn, TookIn, PutsOut, CutsOff, IsMet, cut, judged, MayGet},
+  Engine.{EndsThere, IsMetThere, TakesIn, TookIn, PutsOut, CutsOff, IsMet, cut, judged, MayGet},
   declared.{fault.Fault.Fault, verdict.Verdict.{Verdict, TheVariants.Changed}},
   Inputs.PassesOver,
   Guard.{GuardState, HoldsIn},
@@ -104,11 +104,12 @@ rest_out ends x holds = grind (arith, common_steps)
 
 module _ (told : Bool) (ends : Ends) (bytes : List ℕ) {whole : List ℕ → Part} (makes : Makes ends bytes whole)
     {old new : List Slot} where
-  pub puts_out : new ≡ with_written 0 (told_of told bytes) old → PutsOut terms ends whole told old new
+  pub puts_out : new ≡ with_written 0 (told_of told bytes) old → PutsOut terms ends whole (effect told old new)
   puts_out wrote before x at = rw (makes x at.holds) at (out_more told before _ old new bytes at.outputs wrote)
 
   -- what stopped a write stopped an output of bytes
-  pub cuts_off : {lacks : Bool} {f : Fault} → Stops told lacks bytes old new f → CutsOff terms ends whole told old new f
+  pub cuts_off : {lacks : Bool} {f : Fault} → Stops told lacks bytes old new f
+      → CutsOff terms ends whole (effect told old new) f
   cuts_off {f = f} stops before x at = cut (stop.unjudged told stops)
       (subst (λ output. StoppedBetween output told before ((work ends).settled x) (whole x) f new)
       (sym (ap (λ means. means.output) (on_means (stretch_of ends) (delim_of ends) (unit_of ends) (count_of ends))))
@@ -254,7 +255,7 @@ ends_stopped told {kept = kept} {n} {f = f} is all stops =
     rw is (stopped f (rw (take_all n (held_of kept) (omega arith)) at stops))
 
 pub ends_cut : (told : Bool) (ends : Ends) {old new : List Slot} {f : Fault} → EndsBadly told ends old new f
-    → CutsOff terms ends (work ends).whole told old new f
+    → CutsOff terms ends (work ends).whole (effect told old new) f
 ends_cut told (Between _) (changed _ same) before x at = judged refl _ at.outputs same
 ends_cut told ends (changed some same) before x at = absurd (omega arith)
 ends_cut told ends (stopped f stops) before x at = cuts_off told ends (due_at_end ends) (rest_out ends) stops before x at
@@ -346,7 +347,7 @@ took_in ends fresh none silent = rw silent (record {
 pub loads : (told : Bool) {slot count : ℕ} {ends next : Ends} {old new : List Source} → Holds ends []
     → terms.size ends ≡ 0
     → PassesOver told slot count (λ x. WritesNothing ends x × (next ≡ passed ends x)) old new
-    → Loads terms told slot count ends next old new
+    → PassesOver told slot count (TookIn terms ends next) old new
 loads told {ends = ends} fresh none passes =
     passes_so _ passes (λ x long keeps. rw keeps.1 (took_in ends fresh none keeps.0))
 

@@ -12,7 +12,7 @@ use Rattle.ports_core.specs.{
   FileWriter.{KeepsFiles, KeepsOrBreaks, Leaves, Goes, paused},
   Names.{next_name, has_next, line_next, told_next, OpensNone, no_name},
   Part.{Begins, IsBeginning, Output, gets_lines, gets_openings, lines_for, writes},
-  Slot.{SlotBreaks, Slot, with_written, told_of, changed_at, opened, closes, is_writable},
+  Slot.{SlotBreaks, Slot, effect, with_written, told_of, changed_at, opened, closes, is_writable},
   inner.{FileWriter.{MakesNone, Made, Appends, TellsSize, CountsOn, files_with}, Write.Wrote},
   InTurn.{AllClosed, fault_in},
   declared.{
@@ -166,13 +166,13 @@ module _ {told : Bool} {writer next : WriterState} {change : Draft → Draft} {o
 
   -- names ran out: the part after the change has no more files
   unmade_short : f ≡ Verdict Suffixes → (manner : Manner) (draft : Draft) → Writes manner writer draft
-      → RunsShort told writer change manner draft old new
+      → RunsShort writer change manner draft (effect told old new)
   unmade_short is manner draft writes = ran (subst (OpensNone told writer.tells writer.names next.names old new) is makes.none) where
     so : Unwritten draft (change draft)
     so = of draft writes.current
 
     ran : OpensNone told writer.tells writer.names next.names old new (Verdict Suffixes)
-        → RunsShort told writer change manner draft old new
+        → RunsShort writer change manner draft (effect told old new)
     ran (no_name few none same) =
         let lacks : manner.has_name (length (change draft).ended) ≡ false =
         grind (arith, common_steps, unmade_count, none) in record {
@@ -181,7 +181,7 @@ module _ {told : Bool} {writer next : WriterState} {change : Draft → Draft} {o
           all = grind (arith, same, stopped_part, append-nil);
         }
 
-  pub goes_unmade : Goes told writer change old new next (Some f)
+  pub goes_unmade : Goes writer next change (effect told old new) (Some f)
   goes_unmade = record {
     leaves = unmade_leaves ready.output makes;
     reaches = λ manner draft writes. let so = of draft writes.current in
@@ -200,7 +200,7 @@ pub goes_made : {told : Bool} {writer made next : WriterState} {change : Draft �
     → ((draft : Draft) → IsCurrent writer.tells draft.opening draft.bytes writer.current
     → Unwritten draft (change draft) × ((change draft).bytes ≡ bytes)) → IsReady writer old
     → Made writer (told_next told writer.tells writer.names old) mid made slot
-    → Appends told made slot 0 bytes mid new next fault → Goes told writer change old new next fault
+    → Appends made next slot 0 bytes (effect told mid new) fault → Goes writer next change (effect told old new) fault
 goes_made {told} {writer} {made} {next} {change} {slot} bytes {old} {mid} {new} {fault} of ready makes appends = record {
   leaves = leaves;
   reaches = λ manner draft writes. let (so, are) = of draft writes.current in
@@ -258,7 +258,7 @@ at_once is draft never = grind (arith, common_steps)
 -- a file that was to be opened at once could not be made
 pub begin_unmade : {told : Bool} {writer next : WriterState} {opening : Opening} {old new : List Slot} {f : Fault}
     → opening ≡ AtOnce → IsReady writer old → MakesNone told writer old new next f
-    → Goes told (paused writer) (with_next opening) old new next (Some f)
+    → Goes (paused writer) next (with_next opening) (effect told old new) (Some f)
 begin_unmade is ready makes = goes_unmade (paused_ready ready) (at_once is) (record { same = makes.same; naming = makes.naming; none = makes.none })
 
 counts_none : (tells : Tells) → CountsOn tells 0 [] 0
@@ -267,7 +267,7 @@ counts_none tells = omega arith
 
 pub begin_made : {told : Bool} {writer next : WriterState} {opening : Opening} {slot : ℕ} {old new : List Slot}
     → opening ≡ AtOnce → IsReady writer old → Made writer (told_next told writer.tells writer.names old) new next slot
-    → Goes told (paused writer) (with_next opening) old new next None
+    → Goes (paused writer) next (with_next opening) (effect told old new) None
 begin_made {told} {next = next} {slot = slot} is ready made =
     goes_made [] (λ draft never. (at_once is draft never, refl)) (paused_ready ready)
     (record { few = made.few; named = made.named; place = made.place; added = made.added; same = made.same })
@@ -318,33 +318,32 @@ closed_begins output front name bytes = let (rest, is) = closed_told output name
 pub close_not : {told : Bool} {writer : WriterState} (slot size : ℕ) {old new : List Slot} {f : Fault}
     → writer.current ≡ File slot size → IsReady writer old → f ≡ fault.Write slot
     → SlotBreaks slot (changed_at slot closes old) new
-    → Goes told writer (with_next Never) old new (paused writer) (Some f)
-close_not {told} {writer} slot size {old} {new} is ready which broken = subst (λ f. Goes told writer
-    (with_next Never) old new (paused writer) (Some f)) (sym which) (record {
-      leaves = record {
-        naming = refl;
-        tells = refl;
-        keeps = refl;
-        open_alone = λ alone. refl;
-        owns = owns;
-        slots = (let at = at_file is ready in (
-          λ none. absurd (omega arith),
-          close_rose slot old new at.1
-              (writable_within slot old at.1) broken,
-        ));
-        output = tt;
-        ready = tt;
-      };
-      reaches = λ manner draft writes. let now = now_is is writes in let named = file_named now.0 writes in
-          reaches_as (open_part manner draft named now.0) (grind (arith, common_steps, next_shares, part_last))
-          (reaches_by owns (λ first last. falls_wider (closes_not manner.output told (ended_files manner draft) (name_after manner draft) draft.bytes old
-          (closed_files manner 0 draft.ended) (last_file writer old is last).1 broken) (closed_begins manner.output
-          (ended_files manner draft) (name_after manner draft) draft.bytes)));
-      short = λ short_is. absurd (cc);
-      writes = tt;
-    }) where
-      owns : KeepsFiles writer (paused writer) old new
-      owns = file_closed (made_again old (changed_at slot closes old) new (made_close slot old _ (at_file is ready).1 refl) (made_break slot _ new broken))
+    → Goes writer (paused writer) (with_next Never) (effect told old new) (Some f)
+close_not {told} {writer} slot size {old} {new} is ready which broken = subst (λ f. Goes writer (paused writer) (with_next Never) (effect told old new) (Some f)) (sym which) (record {
+  leaves = record {
+    naming = refl;
+    tells = refl;
+    keeps = refl;
+    open_alone = λ alone. refl;
+    owns = owns;
+    slots = (let at = at_file is ready in (
+      λ none. absurd (omega arith),
+      close_rose slot old new at.1
+          (writable_within slot old at.1) broken,
+    ));
+    output = tt;
+    ready = tt;
+  };
+  reaches = λ manner draft writes. let now = now_is is writes in let named = file_named now.0 writes in
+      reaches_as (open_part manner draft named now.0) (grind (arith, common_steps, next_shares, part_last))
+      (reaches_by owns (λ first last. falls_wider (closes_not manner.output told (ended_files manner draft) (name_after manner draft) draft.bytes old
+      (closed_files manner 0 draft.ended) (last_file writer old is last).1 broken) (closed_begins manner.output
+      (ended_files manner draft) (name_after manner draft) draft.bytes)));
+  short = λ short_is. absurd (cc);
+  writes = tt;
+}) where
+  owns : KeepsFiles writer (paused writer) old new
+  owns = file_closed (made_again old (changed_at slot closes old) new (made_close slot old _ (at_file is ready).1 refl) (made_break slot _ new broken))
 
 -- standard output gets the line for a closed file, or breaks
 tells_file : (tells : Tells) (output : Output) (told : Bool) (size : ℕ) (front : List Slot) (file : Slot)
@@ -390,7 +389,7 @@ told_short P told tells size old new fault (well, same) = rw well tt
 pub end_told : {told : Bool} {writer : WriterState} (slot size : ℕ) {old mid new : List Slot} {fault : Option Fault}
     → writer.current ≡ File slot size → IsReady writer old → mid ≡ changed_at slot closes old
     → TellsSize told writer.tells size mid new fault
-    → Goes told writer (with_next Never) old new (paused writer) fault
+    → Goes writer (paused writer) (with_next Never) (effect told old new) fault
 end_told {told} {writer} slot size {old} {mid} {new} {fault} is ready closed tells = record {
   leaves = leaves;
   reaches = λ manner draft writes. let now = now_is is writes in let named = file_named now.0 writes in

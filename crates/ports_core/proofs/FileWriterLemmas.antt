@@ -13,7 +13,7 @@ use Rattle.ports_core.specs.{
   Name.Naming,
   Names.{line_next, OpensNone, no_memory, no_line, no_file, no_number, no_name},
   Part.{Part, OutputsAt, Begins, IsBeginning, Output, gets_lines, lines_for, writes},
-  Slot.{Slot, with_written, told_of, Rose, has_file, slot_at, opened, is_writable, KeepsBroken},
+  Slot.{Effect, Slot, effect, with_written, told_of, Rose, has_file, slot_at, opened, is_writable, KeepsBroken},
   Swept.{AreThere, is_among},
   inner.{FileWriter.{Made, Appends, CountsOn, files_with}, Write.{Wrote, WritesShort}},
   InTurn.{AllClosed, InTurn, IsThere, LinesTo, fault_in},
@@ -90,14 +90,15 @@ stop_is P result fault handed holds = grind (arith, handed_on)
 
 pub reaches_again : {output : Output} {told : Bool} {low middle high : Part} {old mid new : List Slot}
     {fault : Option Fault} {one two three : WriterState} → Begins low middle
-    → Reaches output told one two low middle old mid None
-    → Reaches output told two three middle high mid new fault → Reaches output told one three low high old new fault
+    → Reaches output one two low middle (effect told old mid) None
+    → Reaches output two three middle high (effect told mid new) fault
+    → Reaches output one three low high (effect told old new) fault
 reaches_again begins first second = grind (arith, there_from)
 
 -- a step that was stopped is a step to more that was stopped there
-pub stops_wider : {output : Output} {told : Bool} {low middle high : Part} {old new : List Slot} {fault : Fault}
-    {writer next : WriterState} → Reaches output told writer next low middle old new (Some fault) → Begins middle high
-    → Reaches output told writer next low high old new (Some fault)
+pub stops_wider : {output : Output} {low middle high : Part} {outs : Effect} {fault : Fault} {writer next : WriterState}
+    → Reaches output writer next low middle outs (Some fault) → Begins middle high
+    → Reaches output writer next low high outs (Some fault)
 stops_wider stops begins =
     record { there = λ before at. turn_between _ _ _ _ _ _ _ _ _ (part_begins_itself _) (stops.there before at) begins }
 
@@ -105,7 +106,7 @@ stops_wider stops begins =
 pub reaches_by : {output : Output} {told : Bool} {low high : Part} {old new : List Slot} {fault : Option Fault}
     {writer next : WriterState} → KeepsFiles writer next old new
     → ((first : ℕ) → IsLast writer.current first old → Becomes output told low high old new fault)
-    → Reaches output told writer next low high old new fault
+    → Reaches output writer next low high (effect told old new) fault
 reaches_by {output} {told} {low} {high} {old} {new} {fault} {writer} {next} keeps becomes =
     record { there = λ before at. by fault before at ((becomes (length before) at.owns.last).gets before at.outputs) } where
       by : (fault : Option Fault) (before : List Slot) → At told writer before low old
@@ -115,20 +116,21 @@ reaches_by {output} {told} {low} {high} {old} {new} {fault} {writer} {next} keep
       by (Some why) before at stops = stops
 
 -- a step between two parts that are written in another way
-pub reaches_as : {output : Output} {told : Bool} {low low' high high' : Part} {old new : List Slot}
-    {fault : Option Fault} {writer next : WriterState} → low ≡ low' → high ≡ high'
-    → Reaches output told writer next low' high' old new fault → Reaches output told writer next low high old new fault
+pub reaches_as : {output : Output} {low low' high high' : Part} {outs : Effect} {fault : Option Fault}
+    {writer next : WriterState} → low ≡ low' → high ≡ high' → Reaches output writer next low' high' outs fault
+    → Reaches output writer next low high outs fault
 reaches_as is_low is_high reaches = grind arith
 
 pub reaches_still : {output : Output} {told : Bool} {low high : Part} {slots : List Slot} {writer next : WriterState}
-    → KeepsFiles writer next slots slots → low ≡ high → Reaches output told writer next low high slots slots None
+    → KeepsFiles writer next slots slots → low ≡ high
+    → Reaches output writer next low high (effect told slots slots) None
 reaches_still keeps is = grind arith
 
 -- want of memory leaves the outputs as they are
 
 pub in_turn : {output : Output} {told : Bool} {part : Part} (place : ℕ) {slots : List Slot} {writer next : WriterState}
     → InTurn part.files place → LinesTo output part part place Memory
-    → Reaches output told writer next part part slots slots (Some Memory)
+    → Reaches output writer next part part (effect told slots slots) (Some Memory)
 in_turn place turn lines = search (rules, part_begins_itself)
 
 pub made_count : (draft : Draft) → made_of draft.opening draft.bytes ≡ draft.bytes ∷ []
@@ -137,7 +139,7 @@ made_count draft makes = grind (arith, common_steps)
 
 pub lacks_memory : {told : Bool} (manner : Manner) (draft : Draft) {slots : List Slot} {writer next : WriterState}
     → AreNamed manner (length (shares_of draft))
-    → Reaches manner.output told writer next (draft_part manner draft) (draft_part manner draft) slots slots
+    → Reaches manner.output writer next (draft_part manner draft) (draft_part manner draft) (effect told slots slots)
     (Some Memory)
 lacks_memory manner draft named = elim (made_or draft.opening draft.bytes) [
   | inl none ↦
@@ -347,20 +349,20 @@ pub goes_still : {told : Bool} {writer : WriterState} {change : Draft → Draft}
     → ((draft : Draft) → IsCurrent writer.tells draft.opening draft.bytes writer.current
     → (shares_of draft ≡ shares_of (change draft))
     × IsCurrent writer.tells (change draft).opening (change draft).bytes current)
-    → Goes told writer change slots slots (record writer { current = current }) None
+    → Goes writer (record writer { current = current }) change (effect told slots slots) None
 goes_still {writer = writer} current {slots} ready at last stays = grind (arith, reaches_still) where
   keeps : KeepsFiles writer (record writer { current = current }) slots slots
   keeps = grind arith
 
 -- a call without bytes writes nothing
 pub put_nothing : {told : Bool} {writer : WriterState} {bytes : List ℕ} {slots : List Slot} → bytes ≡ []
-    → IsReady writer slots → Goes told writer (with_bytes bytes) slots slots writer None
+    → IsReady writer slots → Goes writer writer (with_bytes bytes) (effect told slots slots) None
 put_nothing none ready = grind (arith, common_steps)
 
 -- The open file gets more bytes, or breaks.
 
-file_now : {told : Bool} {writer next : WriterState} {slot size : ℕ} {bytes : List ℕ} {old new : List Slot}
-    (fault : Option Fault) → writer.current ≡ File slot size → Appends told writer slot size bytes old new next fault
+file_now : {writer next : WriterState} {slot size : ℕ} {bytes : List ℕ} {outs : Effect}
+    (fault : Option Fault) → writer.current ≡ File slot size → Appends writer next slot size bytes outs fault
     → (more : ℕ) × (next.current ≡ File slot more)
 file_now None is appends = (appends.current.0, appends.current.1)
 file_now {size = size} (Some why) is appends = (size, appends.still ∙ is)
@@ -433,7 +435,7 @@ none_counted tells = tt
 
 module _ {told : Bool} {writer next : WriterState} {slot size : ℕ} (bytes : List ℕ) {old new : List Slot}
     {fault : Option Fault} (is : writer.current ≡ File slot size) (ready : IsReady writer old)
-    (appends : Appends told writer slot size bytes old new next fault) where
+    (appends : Appends writer next slot size bytes (effect told old new) fault) where
   pub appends_leaves : Leaves writer next old new fault
   appends_leaves =
       let at = at_file is ready in
@@ -444,7 +446,7 @@ module _ {told : Bool} {writer next : WriterState} {slot size : ℕ} (bytes : Li
       (where_well _ (wrote_can told _ bytes _ _ _ _ appends.wrote) (λ can. subst (λ current. IsOpenAt current new) (sym now.1) (at.0, can at.1)))
       ready appends.wrote
 
-  pub put_file : Goes told writer (with_bytes bytes) old new next fault
+  pub put_file : Goes writer next (with_bytes bytes) (effect told old new) fault
   put_file = record {
     leaves = appends_leaves;
     reaches = λ manner draft writes. let now = now_is is writes in let named = file_named now.0 writes in

@@ -2,7 +2,7 @@
 use Rattle.std.proofs.{Common.{◌≡◌, ℕ, ◌⊎◌, rules, Bool, false, List, arith, Result, Ok, Err, IfErr, inl, inr, refl}}
 use Rattle.ports_core.{
   specs.{
-    Slot.Slot,
+    Slot.{Effect, Slot, effect},
     Part.{Part, Begins},
     Work.IsLawful,
     Engine.{CutsOff, Terms, Finishes, IsCaused, Passes, cut, met},
@@ -16,13 +16,13 @@ module _ {S : Type 0} (terms : Terms S) (told : Bool) (stage : S) (slots : List 
     (lawful : (x : List ℕ) → terms.Holds stage x → IsLawful (terms.work stage)) where
   refused : {fault : Fault} (due : List ℕ → Part) → (fault ≡ TooLong) ⊎ (fault ≡ Failed)
       → ((x : List ℕ) → terms.Holds stage x → Begins ((terms.work stage).settled x)
-      (due x)) → CutsOff terms stage due told slots slots fault
+      (due x)) → CutsOff terms stage due (effect told slots slots) fault
   refused due (inl is) grows before x at = rw is (cut refl (stopped_here _ _ _ _ _ _ _ _ at.outputs (grows x at.holds) refl tt tt))
   refused due (inr is) grows before x at = rw is (cut refl (stopped_here _ _ _ _ _ _ _ _ at.outputs (grows x at.holds) refl tt tt))
 
   pub pass_refused : {Met : List Slot → List Slot → Fault → Type 0} {fault : Fault} (piece : List ℕ)
       → (fault ≡ TooLong) ⊎ (fault ≡ Failed) → Met slots slots fault
-      → Passes terms told piece stage stage slots slots Met (Err fault)
+      → Passes terms piece stage stage (effect told slots slots) Met (Err fault)
   pass_refused piece is why = record {
     same = refl;
     size = omega arith;
@@ -36,7 +36,7 @@ module _ {S : Type 0} (terms : Terms S) (told : Bool) (stage : S) (slots : List 
   }
 
   pub finish_refused : {Met : List Slot → List Slot → Fault → Type 0} → Met slots slots Failed
-      → Finishes terms told stage stage slots slots Met (Err Failed)
+      → Finishes terms stage stage (effect told slots slots) Met (Err Failed)
   finish_refused why = record {
     same = refl;
     size = omega arith;
@@ -56,9 +56,8 @@ pub caused : (Met : Fault → Type 0) {is_over : Bool} (fed size : ℕ) (old new
 caused Met fed size old new (Ok u) going why = tt
 caused Met fed size old new (Err fault) going why = met fault going why
 
-pub passes_caused : {S : Type 0} {terms : Terms S} {told is_over : Bool} {fed size : ℕ} {piece : List ℕ}
-    {stage next : S} {old new : List Slot} {Met : List Slot → List Slot → Fault → Type 0}
-    {result : Result (Unit {0}) Fault} → is_over ≡ false
-    → Passes terms told piece stage next old new Met result
-    → Passes terms told piece stage next old new (λ old new. IsCaused (Met old new) is_over fed size old new) result
+pub passes_caused : {S : Type 0} {terms : Terms S} {is_over : Bool} {fed size : ℕ} {piece : List ℕ} {stage next : S}
+    {outs : Effect} {Met : List Slot → List Slot → Fault → Type 0} {result : Result (Unit {0}) Fault}
+    → is_over ≡ false → Passes terms piece stage next outs Met result
+    → Passes terms piece stage next outs (λ old new. IsCaused (Met old new) is_over fed size old new) result
 passes_caused going passes = search (rules, caused)

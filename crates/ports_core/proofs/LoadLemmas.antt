@@ -8,7 +8,7 @@ use Rattle.ports_core.specs.{
   Slot.changed_at,
   Source.{Source, source_at, is_readable, looks, skips},
   Inputs.{HasLooked, PassesOver},
-  Engine.{Terms, Loads},
+  Engine.{Terms, TookIn},
 }
 use Rattle.ports_core.proofs.{
   InputsLemmas.{changed_source, keeps_again, keeps_others},
@@ -108,11 +108,12 @@ passes_so Keeps passes so = grind arith
 module _ {S : Type 0} (terms : Terms S) where
   pub loads_none : (told : Bool) {slot : ℕ} {stage : S} {sources : List Source} → terms.Holds stage []
       → terms.size stage ≡ 0
-      → Loads terms told slot 0 stage stage sources sources
+      → PassesOver told slot 0 (TookIn terms stage stage) sources sources
   loads_none told fresh none = passes_none _ _ (grind arith)
 
   -- a stage stays as it was if no byte was passed over
   pub loads_still : {told : Bool} {slot : ℕ} {Before : List ℕ → Type 0} {stage : S} {old new : List Source}
       → terms.Holds stage []
-      → terms.size stage ≡ 0 → PassesOver told slot 0 Before old new → Loads terms told slot 0 stage stage old new
+      → terms.size stage ≡ 0 → PassesOver told slot 0 Before old new
+      → PassesOver told slot 0 (TookIn terms stage stage) old new
   loads_still fresh none passes = grind (arith, common_steps)

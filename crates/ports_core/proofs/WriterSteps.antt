@@ -8,7 +8,7 @@ use Rattle.ports_core.specs.{
   Draft.{Manner, Draft, made_of, draft_part, with_bytes, with_next},
   FileWriter.{WriterState, Writes, IsReady, IsWrite, RunsShort, KeepsFiles, Goes, paused},
   Part.{OutputsAt, Begins},
-  Slot.Slot,
+  Slot.{Effect, Slot, effect},
   Swept.Removes,
   InTurn.fault_in,
   declared.{
@@ -30,8 +30,8 @@ use Rattle.ports_core.specs.declared.fault.Fault.TheVariants as fault
 pub goes_again : {told : Bool} {one two three : WriterState} {first second : Draft → Draft} (both : Draft → Draft)
     {old mid new : List Slot} {fault : Option Fault} → ((draft : Draft) → second (first draft) ≡ both draft)
     → ((manner : Manner) (draft : Draft) → Begins (draft_part manner draft) (draft_part manner (first draft)))
-    → Goes told one first old mid two None → Goes told two second mid new three fault
-    → Goes told one both old new three fault
+    → Goes one two first (effect told old mid) None → Goes two three second (effect told mid new) fault
+    → Goes one three both (effect told old new) fault
 goes_again {told} {three = three} {first} both {new = new} {fault} is begins before after = record {
   leaves = leaves_again before.leaves after.leaves;
   reaches = λ manner draft writes. reaches_again (begins manner draft) (before.reaches manner draft writes)
@@ -51,20 +51,20 @@ abbrev pub GrowsOn : Draft → Draft → Type 0
 GrowsOn low high = (low.ended ≡ high.ended) × (made_of low.opening low.bytes ≡ low.bytes ∷ [] → made_of high.opening high.bytes ≡ high.bytes ∷ [])
 
 -- a change that was stopped is a change to more that was stopped: names didn't run out, or the same file is due
-pub goes_wider : {told : Bool} {writer next : WriterState} {low : Draft → Draft} (high : Draft → Draft)
-    {old new : List Slot} {fault : Fault}
+pub goes_wider : {writer next : WriterState} {low : Draft → Draft} (high : Draft → Draft) {outs : Effect}
+    {fault : Fault}
     → ((manner : Manner) (draft : Draft) → Begins (draft_part manner (low draft)) (draft_part manner (high draft)))
     → ((fault ≡ Verdict Suffixes → ⊥) ⊎ ((draft : Draft) → GrowsOn (low draft) (high draft)))
-    → Goes told writer low old new next (Some fault) → Goes told writer high old new next (Some fault)
-goes_wider {told} {writer} {low = low} high {old} {new} {fault} begins same stopped = record {
+    → Goes writer next low outs (Some fault) → Goes writer next high outs (Some fault)
+goes_wider {writer} {low = low} high {outs} {fault} begins same stopped = record {
   leaves = stopped.leaves;
   reaches = λ manner draft writes. stops_wider (stopped.reaches manner draft writes) (begins manner draft);
   short = λ is manner draft writes. by same is manner draft (stopped.short is manner draft writes);
   writes = tt;
 } where
   by : ((fault ≡ Verdict Suffixes → ⊥) ⊎ ((draft : Draft) → GrowsOn (low draft) (high draft)))
-      → fault ≡ Verdict Suffixes → (manner : Manner) (draft : Draft) → RunsShort told writer low manner draft old new
-      → RunsShort told writer high manner draft old new
+      → fault ≡ Verdict Suffixes → (manner : Manner) (draft : Draft)
+      → RunsShort writer low manner draft outs → RunsShort writer high manner draft outs
   by (inl other) is manner draft ran = absurd (other is)
   by (inr grows) is manner draft ran =
       let ended = (grows draft).0 in
@@ -74,31 +74,30 @@ goes_wider {told} {writer} {low = low} high {old} {new} {fault} begins same stop
         all = grind (arith, common_steps, stopped_part);
       }
 
-pub next_not_ended : {told : Bool} {writer next : WriterState} (opening : Opening) {old new : List Slot} {f : Fault}
-    → IsWrite f → Goes told writer (with_next Never) old new next (Some f)
-    → Goes told writer (with_next opening) old new next (Some f)
+pub next_not_ended : {writer next : WriterState} (opening : Opening) {outs : Effect} {f : Fault} → IsWrite f
+    → Goes writer next (with_next Never) outs (Some f) → Goes writer next (with_next opening) outs (Some f)
 next_not_ended opening broke ended = goes_wider (with_next opening) (λ manner draft. search (rules, part_grows))
     (inl (λ short. absurd (let e : fault.Write broke.0 ≡ Verdict Suffixes = sym broke.1 ∙ short in cc))) ended
 
 pub next_begun : {told : Bool} {writer mid next : WriterState} {opening : Opening} {old between new : List Slot}
-    {fault : Option Fault} → Goes told writer (with_next Never) old between mid None → mid.current ≡ Skipped
-    → Goes told (paused mid) (with_next opening) between new next fault
-    → Goes told writer (with_next opening) old new next fault
+    {fault : Option Fault} → Goes writer mid (with_next Never) (effect told old between) None → mid.current ≡ Skipped
+    → Goes (paused mid) next (with_next opening) (effect told between new) fault
+    → Goes writer next (with_next opening) (effect told old new) fault
 next_begun {told} {mid = mid} {next} {opening} {between = between} {new} {fault} ended none start = goes_again
     (with_next opening) (search rules) (λ manner draft. next_begins manner Never draft) ended
-    (subst (λ current. Goes told (record mid { current = current }) (with_next opening) between new next fault) (sym none) start)
+    (subst (λ current. Goes (record mid { current = current }) next (with_next opening) (effect told between new) fault) (sym none) start)
 
 -- More bytes after others
 
 pub goes_more : {told : Bool} {one two three : WriterState} (a b : List ℕ) {old mid new : List Slot}
-    {fault : Option Fault} → Goes told one (with_bytes a) old mid two None
-    → Goes told two (with_bytes b) mid new three fault → Goes told one (with_bytes (a ++ b)) old new three fault
+    {fault : Option Fault} → Goes one two (with_bytes a) (effect told old mid) None
+    → Goes two three (with_bytes b) (effect told mid new) fault
+    → Goes one three (with_bytes (a ++ b)) (effect told old new) fault
 goes_more a b first second = search (rules, goes_again, common_steps, bytes_begin)
 
 -- a write was stopped among these bytes, before further bytes
-pub stops_among : {told : Bool} {writer next : WriterState} (a b : List ℕ) {old new : List Slot} {fault : Fault}
-    → Goes told writer (with_bytes a) old new next (Some fault)
-    → Goes told writer (with_bytes (a ++ b)) old new next (Some fault)
+pub stops_among : {writer next : WriterState} (a b : List ℕ) {outs : Effect} {fault : Fault}
+    → Goes writer next (with_bytes a) outs (Some fault) → Goes writer next (with_bytes (a ++ b)) outs (Some fault)
 stops_among a b stopped = goes_wider (with_bytes (a ++ b)) (λ manner draft. subst
     (λ those. Begins (draft_part manner (with_bytes a draft)) (draft_part manner those))
     (grind (arith, common_steps)) (bytes_begin manner b (with_bytes a draft)))
@@ -108,27 +107,26 @@ stops_among a b stopped = goes_wider (with_bytes (a ++ b)) (λ manner draft. sub
           (append_assoc draft.bytes a b) (still_made draft.opening (draft.bytes ++ a) b makes),
     ))) stopped
 
-pub goes_as : {told : Bool} {writer next : WriterState} {a b : List ℕ} {old new : List Slot} {fault : Option Fault}
-    → a ≡ b → Goes told writer (with_bytes a) old new next fault → Goes told writer (with_bytes b) old new next fault
+pub goes_as : {writer next : WriterState} {a b : List ℕ} {outs : Effect} {fault : Option Fault}
+    → a ≡ b → Goes writer next (with_bytes a) outs fault → Goes writer next (with_bytes b) outs fault
 goes_as is goes = search rules
 
 -- the last call only wants memory
-pub goes_or_lacks : {told : Bool} {writer next : WriterState} {bytes : List ℕ} {old new : List Slot}
-    (result : Result (Unit {0}) Fault) → Goes told writer (with_bytes bytes) old new next None
-    → IfErr result (λ fault. fault ≡ Memory)
-    → Goes told writer (with_bytes bytes) old new next (fault_in result)
+pub goes_or_lacks : {writer next : WriterState} {bytes : List ℕ} {outs : Effect}
+    (result : Result (Unit {0}) Fault) → Goes writer next (with_bytes bytes) outs None
+    → IfErr result (λ fault. fault ≡ Memory) → Goes writer next (with_bytes bytes) outs (fault_in result)
 goes_or_lacks (Ok done) went lacks = went
-goes_or_lacks {told} {writer} {next} {bytes} {old} {new} (Err fault) went lacks = subst (λ why. Goes told writer
-    (with_bytes bytes) old new next (Some why)) (sym lacks) (record {
-      leaves = leaves_again went.leaves leaves_lacking;
-      reaches = λ manner draft writes. reaches_again (bytes_begin manner bytes draft) (went.reaches manner draft writes)
-          (lacks_memory manner (with_bytes bytes draft) (went.writes manner draft writes).named);
-      short = λ is. absurd (cc);
-      writes = tt;
-    })
+goes_or_lacks {writer} {next} {bytes} {outs} (Err fault) went lacks = subst (λ why. Goes writer next (with_bytes bytes) outs (Some why)) (sym lacks) (record {
+  leaves = leaves_again went.leaves leaves_lacking;
+  reaches = λ manner draft writes. reaches_again (bytes_begin manner bytes draft) (went.reaches manner draft writes)
+      (lacks_memory manner (with_bytes bytes draft) (went.writes manner draft writes).named);
+  short = λ is. absurd (cc);
+  writes = tt;
+})
 
 pub goes_lacking : {told : Bool} {writer : WriterState} {bytes : List ℕ} {slots : List Slot} {fault : Fault}
-    → IsReady writer slots → fault ≡ Memory → Goes told writer (with_bytes bytes) slots slots writer (Some fault)
+    → IsReady writer slots → fault ≡ Memory
+    → Goes writer writer (with_bytes bytes) (effect told slots slots) (Some fault)
 goes_lacking {bytes = bytes} {fault = fault} ready lacks = stops_among [] bytes (goes_or_lacks (Err fault) (put_nothing refl ready) lacks)
 
 -- The files are removed.

@@ -3,9 +3,7 @@ use Rattle.std.specs.{
   Prelude.{◌≡◌, ℕ, ◌+◌, ◌≤◌, ◌^◌, Bool, true, false, List, [], ◌++◌, ◌⊎◌, None, length, IsTrue, Result, OnOk, IfErr},
 }
 use Rattle.ports_core.specs.{
-  Slot.{Slot, Rose, is_writable},
-  Source.Source,
-  Inputs.PassesOver,
+  Slot.{Effect, Slot, Rose, is_writable},
   Part.{Part, Output, OutputsAt, StoppedBetween, writes},
   Swept.{Swept, AreThere, RemovesIf},
   Work.{Work, Means, Needs, IsSettled, IsSpare, Judges},
@@ -45,9 +43,9 @@ pub record StandsAt {S : Type 0} (terms : Terms S) (stage : S) (told : Bool) (be
   pub outputs : OutputsAt told before ((terms.work stage).settled x) now
 
 -- if the outputs had what was settled with any bytes that the stage was fed, they have what is due with these bytes
-abbrev pub PutsOut : {S : Type 0} → Terms S → S → (List ℕ → Part) → Bool → List Slot → List Slot → Type 0
-PutsOut terms stage due told old new = (before : List Slot) (x : List ℕ) → StandsAt terms stage told before x old
-    → OutputsAt told before (due x) new
+abbrev pub PutsOut : {S : Type 0} → Terms S → S → (List ℕ → Part) → Effect → Type 0
+PutsOut terms stage due outs = (before : List Slot) (x : List ℕ)
+    → StandsAt terms stage outs.told before x outs.old → OutputsAt outs.told before (due x) outs.new
 
 -- whether a fault is a verdict: the tool's work itself ends with it
 abbrev pub is_verdict : Fault → Bool
@@ -64,11 +62,11 @@ pub data Ended (output : Output) (told : Bool) (before : List Slot) (low high : 
       → Swept clears (length before) reached now → Ended output told before low high clears fault now
 
 -- how a fault leaves the outputs between what was settled and what was due
-abbrev pub CutsOff : {S : Type 0} → Terms S → S → (List ℕ → Part) → Bool → List Slot → List Slot → Fault → Type 0
-CutsOff terms stage due told old new fault = (before : List Slot) (x : List ℕ)
-    → StandsAt terms stage told before x old
-    → Ended (terms.work stage).means.output told before ((terms.work stage).settled x) (due x) (terms.work stage).clears
-    fault new
+abbrev pub CutsOff : {S : Type 0} → Terms S → S → (List ℕ → Part) → Effect → Fault → Type 0
+CutsOff terms stage due outs fault = (before : List Slot) (x : List ℕ)
+    → StandsAt terms stage outs.told before x outs.old
+    → Ended (terms.work stage).means.output outs.told before ((terms.work stage).settled x) (due x)
+    (terms.work stage).clears fault outs.new
 
 -- The causes of a fault of an engine that isn't over. `Lacks` says that memory may be lacking, and `Ends` that the work
 -- ends with this verdict.
@@ -114,7 +112,7 @@ abbrev pub Clears : {S : Type 0} → Terms S → S → List Slot → List Slot �
 Clears terms stage old new = (first : ℕ) → terms.Owns stage first old → Swept (terms.work stage).clears first old new
 
 -- What a stage leaves after it took in a piece. If a fault came, `Met` says its cause.
-pub record Passes {S : Type 0} (terms : Terms S) (told : Bool) (piece : List ℕ) (old new : S) (before after : List Slot)
+pub record Passes {S : Type 0} (terms : Terms S) (piece : List ℕ) (old new : S) (outs : Effect)
     (Met : List Slot → List Slot → Fault → Type 0) (result : Result (Unit {0}) Fault) : Type 0 where
   -- the stage's work is as before
   pub same : terms.work new ≡ terms.work old
@@ -123,20 +121,20 @@ pub record Passes {S : Type 0} (terms : Terms S) (told : Bool) (piece : List ℕ
   -- the stage was fed the piece after what it was fed before
   pub holds : OnOk result (TakesIn terms.Holds piece old new)
   -- outputs that had what was settled before the piece have what is settled with it
-  pub outputs : OnOk result (PutsOut terms old (λ x. (terms.work old).settled (x ++ piece)) told before after)
+  pub outputs : OnOk result (PutsOut terms old (λ x. (terms.work old).settled (x ++ piece)) outs)
   -- the outputs of later calls can be written
-  pub ready : OnOk result (terms.Ready new after)
+  pub ready : OnOk result (terms.Ready new outs.new)
   -- the slots that were the stage's own still are
-  pub owns : KeepsOwn terms old new before after
+  pub owns : KeepsOwn terms old new outs.old outs.new
   -- the files that the stage made are there, if they were before
-  pub there : AreThere (terms.files old) before → AreThere (terms.files new) after
+  pub there : AreThere (terms.files old) outs.old → AreThere (terms.files new) outs.new
   -- a fault leaves a beginning of what is settled with the piece; a verdict comes once all of it is written
-  pub cut : IfErr result (CutsOff terms old (λ x. (terms.work old).settled (x ++ piece)) told before after)
+  pub cut : IfErr result (CutsOff terms old (λ x. (terms.work old).settled (x ++ piece)) outs)
   -- a fault has a cause
-  pub met : IfErr result (Met before after)
+  pub met : IfErr result (Met outs.old outs.new)
 
 -- What a stage leaves at the end of its input. If a fault came, `Met` says its cause.
-pub record Finishes {S : Type 0} (terms : Terms S) (told : Bool) (old new : S) (before after : List Slot)
+pub record Finishes {S : Type 0} (terms : Terms S) (old new : S) (outs : Effect)
     (Met : List Slot → List Slot → Fault → Type 0) (result : Result (Unit {0}) Fault) : Type 0 where
   -- the stage's work is as before
   pub same : terms.work new ≡ terms.work old
@@ -145,17 +143,17 @@ pub record Finishes {S : Type 0} (terms : Terms S) (told : Bool) (old new : S) (
   -- if the call ends well, the work has no verdict
   pub well : OnOk result ((x : List ℕ) → terms.Holds old x → (terms.work old).verdict x ≡ None)
   -- outputs that had what was settled have the whole
-  pub outputs : OnOk result (PutsOut terms old (terms.work old).whole told before after)
+  pub outputs : OnOk result (PutsOut terms old (terms.work old).whole outs)
   -- standard output can be written, if the stage writes there
-  pub writable : OnOk result (writes (terms.work old).means.output ≡ true → IsTrue (is_writable after 0))
+  pub writable : OnOk result (writes (terms.work old).means.output ≡ true → IsTrue (is_writable outs.new 0))
   -- the slots that were the stage's own still are
-  pub owns : KeepsOwn terms old new before after
+  pub owns : KeepsOwn terms old new outs.old outs.new
   -- the files that the stage made are there, if they were before
-  pub there : AreThere (terms.files old) before → AreThere (terms.files new) after
+  pub there : AreThere (terms.files old) outs.old → AreThere (terms.files new) outs.new
   -- a fault leaves a beginning of the whole; a verdict comes once all of it is written
-  pub cut : IfErr result (CutsOff terms old (terms.work old).whole told before after)
+  pub cut : IfErr result (CutsOff terms old (terms.work old).whole outs)
   -- a fault has a cause
-  pub met : IfErr result (Met before after)
+  pub met : IfErr result (Met outs.old outs.new)
 
 -- What a stage leaves after it gave its files up: they are removed if its work says so.
 pub record Sweeps {S : Type 0} (terms : Terms S) (old new : S) (before after : List Slot) : Type 0 where
@@ -185,11 +183,6 @@ pub record TookIn {S : Type 0} (terms : Terms S) (before after : S) (front : Lis
   -- nothing more is settled with the text, and the output isn't complete with it unless the text is empty
   pub idle : (terms.work before).settled front ≡ (terms.work before).settled []
   pub going : (front ≡ []) ⊎ ((terms.work before).is_complete front ≡ false)
-
--- A stage took in the next `count` bytes that an input has left, which were passed over and not read. If bytes aren't
--- visible, the stage is as if it was fed some text of that length.
-abbrev pub Loads : {S : Type 0} → Terms S → Bool → ℕ → ℕ → S → S → List Source → List Source → Type 0
-Loads terms told slot count before after old new = PassesOver told slot count (TookIn terms before after) old new
 
 -- The next piece may have `most` bytes. If the output isn't complete with the bytes x that the stage was fed, at most
 -- `ahead` bytes of a piece of at most `most` bytes are not used; n is how many.

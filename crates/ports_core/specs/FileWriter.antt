@@ -7,7 +7,7 @@ use Rattle.ports_core.specs.{
   Draft.{Manner, Draft, AreNamed, output_of, made_of, shares_of, draft_part, manner_by},
   Name.Naming,
   Part.{Part, Output, OutputsAt, writes},
-  Slot.{Slot, Rose, KeepsBroken, has_file, is_writable, slot_at},
+  Slot.{Effect, Slot, Rose, KeepsBroken, has_file, is_writable, slot_at},
   Swept.{AreThere, is_among},
   InTurn.IsThere,
   declared.fault.Fault.Fault,
@@ -147,10 +147,10 @@ pub record At (told : Bool) (writer : WriterState) (before : List Slot) (part : 
   pub outputs : OutputsAt told before part now
 
 -- if the outputs had the part `low`, they have the part `high` after the call, or a fault stopped them in between
-pub record Reaches (output : Output) (told : Bool) (writer next : WriterState) (low high : Part) (old new : List Slot)
+pub record Reaches (output : Output) (writer next : WriterState) (low high : Part) (outs : Effect)
     (fault : Option Fault) : Type 0 where
-  pub there : (before : List Slot) → At told writer before low old
-      → IsThere output told (At told next before high new) before low high new fault
+  pub there : (before : List Slot) → At outs.told writer before low outs.old
+      → IsThere output outs.told (At outs.told next before high outs.new) before low high outs.new fault
 
 -- the writer's files are its own after the call, and are there, if they were before
 pub record KeepsFiles (writer next : WriterState) (old new : List Slot) : Type 0 where
@@ -188,21 +188,20 @@ abbrev pub paused : WriterState → WriterState
 paused writer = record writer { current = Skipped }
 
 -- names ran out for the file that was to be begun: the outputs have all files that have a name
-pub record RunsShort (told : Bool) (writer : WriterState) (change : Draft → Draft) (manner : Manner) (draft : Draft)
-    (old new : List Slot) : Type 0 where
+pub record RunsShort (writer : WriterState) (change : Draft → Draft) (manner : Manner) (draft : Draft) (outs : Effect)
+    : Type 0 where
   pub none : manner.has_name (length (change draft).ended) ≡ false
   pub begun : made_of (change draft).opening (change draft).bytes ≡ (change draft).bytes ∷ []
-  pub all : (before : List Slot) → At told writer before (draft_part manner draft) old
-      → OutputsAt told before (draft_part manner (change draft)) new
+  pub all : (before : List Slot) → At outs.told writer before (draft_part manner draft) outs.old
+      → OutputsAt outs.told before (draft_part manner (change draft)) outs.new
 
 -- The files changed as `change` says, and the outputs with them; or a fault stopped that.
-pub record Goes (told : Bool) (writer : WriterState) (change : Draft → Draft) (old new : List Slot) (next : WriterState)
-    (fault : Option Fault) : Type 0 where
-  pub leaves : Leaves writer next old new fault
+pub record Goes (writer next : WriterState) (change : Draft → Draft) (outs : Effect) (fault : Option Fault)
+    : Type 0 where
+  pub leaves : Leaves writer next outs.old outs.new fault
   pub reaches : (manner : Manner) (draft : Draft) → Writes manner writer draft
-      → Reaches manner.output told writer next (draft_part manner draft) (draft_part manner (change draft)) old new
-      fault
+      → Reaches manner.output writer next (draft_part manner draft) (draft_part manner (change draft)) outs fault
   pub short : IfSome fault (λ fault. fault ≡ why.Verdict Suffixes → (manner : Manner) (draft : Draft)
-      → Writes manner writer draft → RunsShort told writer change manner draft old new)
+      → Writes manner writer draft → RunsShort writer change manner draft outs)
   pub writes : IfNone fault ((manner : Manner) (draft : Draft) → Writes manner writer draft
       → Writes manner next (change draft))

@@ -5,7 +5,7 @@ ghost use Rattle.std.specs.{
 ghost use Rattle.ports_core.specs.{
   Draft.{with_bytes, with_next},
   FileWriter.{CanCount, CanTell, Goes, IsReady, IsWrite, is_file, new_writer, paused, seen_writer, size_of},
-  Slot.is_writable,
+  Slot.{effect_of, is_writable},
   Swept.{AreThere, Removes},
   inner.{FileWriter.{Appends, Makes, TellsSize, files_with}, Write.Wrote},
   InTurn.fault_in,
@@ -108,8 +108,8 @@ impl FileWriter {
     pub fn put<O: Outs>(&mut self, bytes: &[u8], outs: &mut O) -> Result<(), Fault>
         requires ready { IsReady (seen_writer self.old) (O.slots outs.old) }
         requires fits { CanCount (seen_writer self.old).tells (size_of (seen_writer self.old).current) bytes.now }
-        ensures goes { Goes O.told (seen_writer self.old) (with_bytes bytes.now) (O.slots outs.old) (O.slots outs.new)
-            (seen_writer self.new) (fault_in result) }
+        ensures goes { Goes (seen_writer self.old) (seen_writer self.new) (with_bytes bytes.now)
+            (effect_of O.told O.slots outs.old outs.new) (fault_in result) }
         ensures size { OnOk result (size_of (seen_writer self.new).current
             ≤ size_of (seen_writer self.old).current + length bytes.now) }
         ensures stays { OnOk result (is_file (seen_writer self.old).current ≡ true
@@ -138,8 +138,8 @@ impl FileWriter {
     /// `Suffixes` if no name is left, `Write` if standard output broke in the line about the file.
     pub fn begin<O: Outs>(&mut self, opening: Opening, outs: &mut O) -> Result<(), Fault>
         requires { IsReady (seen_writer self.old) (O.slots outs.old) }
-        ensures goes { Goes O.told (paused (seen_writer self.old)) (with_next opening) (O.slots outs.old)
-            (O.slots outs.new) (seen_writer self.new) (fault_in result) }
+        ensures goes { Goes (paused (seen_writer self.old)) (seen_writer self.new) (with_next opening)
+            (effect_of O.told O.slots outs.old outs.new) (fault_in result) }
         ensures size { OnOk result (size_of (seen_writer self.new).current ≡ 0) }
         ensures made { IfErr result (λ fault. (seen_writer self.new).files ≡ (seen_writer self.old).files) }
     {
@@ -160,8 +160,8 @@ impl FileWriter {
     /// `Write` if the file or standard output broke, and the errors of `begin`.
     pub fn next<O: Outs>(&mut self, opening: Opening, outs: &mut O) -> Result<(), Fault>
         requires { IsReady (seen_writer self.old) (O.slots outs.old) }
-        ensures goes { Goes O.told (seen_writer self.old) (with_next opening) (O.slots outs.old) (O.slots outs.new)
-            (seen_writer self.new) (fault_in result) }
+        ensures goes { Goes (seen_writer self.old) (seen_writer self.new) (with_next opening)
+            (effect_of O.told O.slots outs.old outs.new) (fault_in result) }
         ensures size { OnOk result (size_of (seen_writer self.new).current ≡ 0) }
     {
         self.end(outs)?;
@@ -175,8 +175,8 @@ impl FileWriter {
     /// `Write` if the file or standard output broke.
     pub fn end<O: Outs>(&mut self, outs: &mut O) -> Result<(), Fault>
         requires { IsReady (seen_writer self.old) (O.slots outs.old) }
-        ensures goes { Goes O.told (seen_writer self.old) (with_next Never) (O.slots outs.old) (O.slots outs.new)
-            (seen_writer self.new) (fault_in result) }
+        ensures goes { Goes (seen_writer self.old) (seen_writer self.new) (with_next Never)
+            (effect_of O.told O.slots outs.old outs.new) (fault_in result) }
         ensures none { OnOk result ((seen_writer self.new).current ≡ Skipped) }
         ensures broke { IfErr result IsWrite }
     {
@@ -231,8 +231,8 @@ impl FileWriter {
     ) -> Result<(), Fault>
         requires writable { IsTrue (is_writable (O.slots outs.old) slot) }
         requires fits { CanCount self.old.tells size bytes.now }
-        ensures { Appends O.told (seen_writer self.old) slot size bytes.now (O.slots outs.old) (O.slots outs.new)
-            (seen_writer self.new) (fault_in result) }
+        ensures { Appends (seen_writer self.old) (seen_writer self.new) slot size bytes.now
+            (effect_of O.told O.slots outs.old outs.new) (fault_in result) }
     {
         write_whole(outs, slot, bytes)?;
         self.current = Current::File {

@@ -4,8 +4,10 @@ ghost use Rattle.std.specs.{
   Prelude.{◌≡◌, ◌+◌, ◌^◌, ◌<◌, ◌≤◌, ◌↔◌, ℕ, List, [], true, false, length, OnOk, OnErr, IsErrOf, IsTrue},
 };
 ghost use Rattle.ports_core.specs.{
+  Inputs.PassesOver,
+  Slot.effect_of,
   Source.is_readable,
-  Engine.{Finishes, Loads, MayGet, Passes, Sweeps, TakesIn},
+  Engine.{Finishes, MayGet, Passes, Sweeps, TakesIn, TookIn},
   Work.IsSpare,
   Swept.AreThere,
   Guard.{GuardState, HoldsIn, IsRefusedWith, IsRefusedThere},
@@ -57,8 +59,8 @@ impl<S: Stage> Guarded<S> {
     /// a fault and after `close`: nothing is changed.
     pub fn feed<O: Outs>(&mut self, piece: &[u8], outs: &mut O) -> Result<(), Fault>
         requires { self.old.is_over ≡ false → S.terms.Ready self.old.stage (O.slots outs.old) }
-        ensures passes { Passes S.terms O.told piece.now self.old.stage self.new.stage (O.slots outs.old)
-            (O.slots outs.new) (IsRefusedWith S.terms piece.now self.old) result }
+        ensures passes { Passes S.terms piece.now self.old.stage self.new.stage
+            (effect_of O.told O.slots outs.old outs.new) (IsRefusedWith S.terms piece.now self.old) result }
         ensures holds { OnOk result (TakesIn (HoldsIn S.terms.Holds) piece.now self.old self.new) }
         ensures fed { OnOk result (self.new.fed ≡ self.old.fed + length piece.now) }
         ensures bound { OnOk result (self.new.fed < 2 ^ 63) }
@@ -93,8 +95,8 @@ impl<S: Stage> Guarded<S> {
     pub fn load<I: Inputs>(&mut self, slot: usize, most: usize, inputs: &mut I) -> u64
         requires fresh { HoldsIn S.terms.Holds self.old [] }
         requires input { IsTrue (is_readable (I.sources inputs.old) slot) }
-        ensures loads { Loads S.terms I.told slot result self.old.stage self.new.stage (I.sources inputs.old)
-            (I.sources inputs.new) }
+        ensures loads { PassesOver I.told slot result (TookIn S.terms self.old.stage self.new.stage)
+            (I.sources inputs.old) (I.sources inputs.new) }
         ensures fed { self.new.fed ≡ result }
         ensures live { self.new.is_over ≡ false }
         ensures laid { I.laid inputs.new ≡ I.laid inputs.old }
@@ -114,7 +116,7 @@ impl<S: Stage> Guarded<S> {
     /// changed.
     pub fn close<O: Outs>(&mut self, outs: &mut O) -> Result<(), Fault>
         requires { self.old.is_over ≡ false → S.terms.Ready self.old.stage (O.slots outs.old) }
-        ensures finishes { Finishes S.terms O.told self.old.stage self.new.stage (O.slots outs.old) (O.slots outs.new)
+        ensures finishes { Finishes S.terms self.old.stage self.new.stage (effect_of O.told O.slots outs.old outs.new)
             (IsRefusedThere S.terms self.old) result }
         ensures failed { self.old.is_over ≡ true → IsErrOf result Fault.Failed × (self.new ≡ self.old)
             × (O.slots outs.new ≡ O.slots outs.old) }

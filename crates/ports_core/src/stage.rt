@@ -1,9 +1,10 @@
 ghost use Rattle.std.specs.Prelude.{◌≡◌, ◌+◌, ◌^◌, ◌<◌, ◌↔◌, ℕ, List, [], false, length, IsTrue};
 ghost use Rattle.ports_core.specs.{
-  Slot.Slot,
+  Inputs.PassesOver,
+  Slot.{Slot, effect_of},
   Source.is_readable,
   Work.{IsLawful, IsSpare},
-  Engine.{Terms, Finishes, IsMetThere, IsMetWith, Loads, MayGet, Passes, Sweeps},
+  Engine.{Terms, Finishes, IsMetThere, IsMetWith, MayGet, Passes, Sweeps, TookIn},
   Swept.AreThere,
 };
 
@@ -23,7 +24,7 @@ pub trait Stage {
     fn pass<O: Outs>(&mut self, piece: &[u8], outs: &mut O) -> Result<(), Fault>
         requires fits { terms.size self.old + length piece.now < 2 ^ 63 }
         requires ready { terms.Ready self.old (O.slots outs.old) }
-        ensures { Passes terms O.told piece.now self.old self.new (O.slots outs.old) (O.slots outs.new)
+        ensures { Passes terms piece.now self.old self.new (effect_of O.told O.slots outs.old outs.new)
             (IsMetWith terms piece.now self.old) result };
 
     /// Takes in bytes that an input has left, before any piece, as `Guarded::load` does. Unless a stage has its own, it
@@ -32,7 +33,7 @@ pub trait Stage {
         requires fresh { terms.Holds self.old [] }
         requires none { terms.size self.old ≡ 0 }
         requires input { IsTrue (is_readable (I.sources inputs.old) slot) }
-        ensures loads { Loads terms I.told slot result self.old self.new (I.sources inputs.old)
+        ensures loads { PassesOver I.told slot result (TookIn terms self.old self.new) (I.sources inputs.old)
             (I.sources inputs.new) }
         ensures laid { I.laid inputs.new ≡ I.laid inputs.old }
     {
@@ -48,7 +49,7 @@ pub trait Stage {
     /// Those of `Guarded::close`, except `Failed`.
     fn finish<O: Outs>(&mut self, outs: &mut O) -> Result<(), Fault>
         requires ready { terms.Ready self.old (O.slots outs.old) }
-        ensures { Finishes terms O.told self.old self.new (O.slots outs.old) (O.slots outs.new)
+        ensures { Finishes terms self.old self.new (effect_of O.told O.slots outs.old outs.new)
             (IsMetThere terms self.old) result };
 
     /// Removes the files that the stage made and that are still there, in order, if its work says so. A file that can't

@@ -6,7 +6,7 @@ use Rattle.std.proofs.{
   Common.{if◌then◌else◌, append_assoc, rules},
 }
 use Rattle.ports_core.specs.{
-  Slot.{Slot, changed_at},
+  Slot.{effect, Slot, changed_at},
   Source.{Content, Source, source_at, is_readable, gives, gets_back, unshown, with_next, Gave},
   Part.{Part, OutputsAt},
   Swept.Swept,
@@ -163,7 +163,8 @@ module _ {S : Type 0} {terms : Terms S} {told : Bool} {start now : GuardState S}
   stands {before} begun = record { holds = so_far.holds.within; owns = so_far.owns (length before) begun.0; outputs = so_far.outputs before begun }
 
   pub goes_on : {next : GuardState S} (piece : List ℕ) {new : List Slot} {Met : List Slot → List Slot → Fault → Type 0}
-      → Passes terms told piece now.stage next.stage mid new Met (Ok tt) → TakesIn (HoldsIn terms.Holds) piece now next
+      → Passes terms piece now.stage next.stage (effect told mid new) Met (Ok tt)
+      → TakesIn (HoldsIn terms.Holds) piece now next
       → next.fed < 2 ^ 63 → Feeds terms told start next (x ++ piece) old new
   goes_on piece passes takes bound = record {
     same = passes.same ∙ so_far.same;
@@ -181,7 +182,7 @@ module _ {S : Type 0} {terms : Terms S} {told : Bool} {start now : GuardState S}
       → IsStep
       (call_of (terms.work now.stage) (terms.work now.stage).means.feeding (x ++ piece)
       ((terms.work now.stage).settled x) ((terms.work now.stage).settled (x ++ piece)))
-      → Passes terms told piece now.stage next.stage mid reached (IsRefusedWith terms piece now) (Err fault)
+      → Passes terms piece now.stage next.stage (effect told mid reached) (IsRefusedWith terms piece now) (Err fault)
       → (is_verdict fault ≡ true → new ≡ reached) → (is_verdict fault ≡ false → Clears terms next.stage reached new)
       → FedAs told before (terms.work start.stage) content IsStep new (Err fault)
   stopped_feeding laws next IsStep piece rest {before = before} begun is step passes kept cleared =

@@ -13,7 +13,7 @@ use Rattle.ports_core.specs.{
   Engine.{CutsOff, EndsThere, Finishes, IsMet, IsMetThere, IsMetWith, Passes, PutsOut, StandsAt, TakesIn},
   Engine.{Terms, TookIn},
   Part.{Part},
-  Slot.Slot,
+  Slot.{Slot, effect},
   Work.{IsLawful, IsNeeded, IsSpare, Means, Needs, Work},
   declared.{fault.Fault.{Fault, TheVariants.{Memory, Open, Write}}, verdict.Verdict.Verdict},
 }
@@ -111,13 +111,15 @@ module _ {S : Type 0} (terms : Terms S) where
   stands_so at = grind (arith, common_steps, settled_as)
 
   puts_out : {old : S} {told : Bool} {before after : List Slot} {due : List ℕ → Part}
-      → ((x z : List ℕ) → AreAlike (terms.work old) x z → due x ≡ due z) → PutsOut terms old due told before after
-      → PutsOut (as_if terms) old due told before after
+      → ((x z : List ℕ) → AreAlike (terms.work old) x z → due x ≡ due z)
+      → PutsOut terms old due (effect told before after)
+      → PutsOut (as_if terms) old due (effect told before after)
   puts_out same puts start x at = rw (same x at.holds.other at.holds.alike) (puts start at.holds.other (stands_so at))
 
   cuts_off : {old : S} {told : Bool} {before after : List Slot} {why : Fault} {due : List ℕ → Part}
-      → ((x z : List ℕ) → AreAlike (terms.work old) x z → due x ≡ due z) → CutsOff terms old due told before after why
-      → CutsOff (as_if terms) old due told before after why
+      → ((x z : List ℕ) → AreAlike (terms.work old) x z → due x ≡ due z)
+      → CutsOff terms old due (effect told before after) why
+      → CutsOff (as_if terms) old due (effect told before after) why
   cuts_off same cuts start x at = rw (settled_as at.holds.alike, same x at.holds.other at.holds.alike)
       (cuts start at.holds.other (stands_so at))
 
@@ -136,15 +138,15 @@ module _ {S : Type 0} (terms : Terms S) where
 
   pub passes_as_if : {told : Bool} {piece : List ℕ} {old new : S} {before after : List Slot}
       (result : Result (Unit {0}) Fault)
-      → Passes terms told piece old new before after (IsMetWith terms piece old) result
-      → Passes (as_if terms) told piece old new before after (IsMetWith (as_if terms) piece old) result
+      → Passes terms piece old new (effect told before after) (IsMetWith terms piece old) result
+      → Passes (as_if terms) piece old new (effect told before after) (IsMetWith (as_if terms) piece old) result
   passes_as_if {piece = piece} {old} (Ok done) passes = let outputs = puts_out (λ x z alike. alike.settled piece) passes.outputs in
       grind (arith, takes_in)
   passes_as_if {piece = piece} {old} (Err why) passes = let cut = cuts_off (λ x z alike. alike.settled piece) passes.cut in grind arith
 
   pub finishes_as_if : {told : Bool} {old new : S} {before after : List Slot} (result : Result (Unit {0}) Fault)
-      → Finishes terms told old new before after (IsMetThere terms old) result
-      → Finishes (as_if terms) told old new before after (IsMetThere (as_if terms) old) result
+      → Finishes terms old new (effect told before after) (IsMetThere terms old) result
+      → Finishes (as_if terms) old new (effect told before after) (IsMetThere (as_if terms) old) result
   finishes_as_if {old = old} (Ok done) ends = let outputs = puts_out (λ x z alike. whole_as alike) ends.outputs in grind (arith, verdict_as)
   finishes_as_if {old = old} {before = before} {after} (Err why) ends = let cut = cuts_off (λ x z alike. whole_as alike) ends.cut in
       let met = met_so (terms.work old).means (terms.work old).means.closing (Unit {0}) before after why ends_there ends.met in search rules

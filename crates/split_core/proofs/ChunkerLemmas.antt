@@ -6,14 +6,14 @@ use Rattle.std.proofs.{
     Bool.{cases_lt, eq-eqb, false≢true, le-leb, le-ltb, lt-ltb, ltb-true},
     List.{append-nil, drop_all, take_at, take-append-drop, length-append, length-drop, length-take},
   },
-  Common.{◌≡◌, ℕ, ◌+◌, ◌-◌, ◌<◌, ◌≤◌, min, Bool, true, false, eqb, nat_lt, List, [], ◌++◌, ◌⊎◌, length, take},
+  Common.{◌≡◌, ℕ, ◌+◌, ◌-◌, ◌<◌, ◌≤◌, min, true, false, eqb, nat_lt, List, [], ◌++◌, ◌⊎◌, length, take},
   Common.{drop, Option, Some, None, Ok, Err, inl, inr, refl, sym, ◌∙◌, ap, arith, append_assoc},
 }
 use Rattle.ports_core.{
   specs.{
     FileWriter.IsWrite,
     Part.{Begins},
-    Slot.Slot,
+    Slot.Effect,
     Work.{IsLawful, IsNeeded, IsSpare, Work},
     declared.{fault.Fault.{Fault, TheVariants.Verdict}, verdict.Verdict.TheVariants.Changed},
   },
@@ -103,14 +103,14 @@ part_is {chunker} {size} has = let on = course chunker.cutter in let chunks = ch
 within_size : {chunker : ChunkerState} {size : ℕ} {x : List ℕ} → IsSaid chunker size x → chunker.cutter.at ≤ size
 within_size has = omega arith
 
-done_fits : {cutter next : CutterState} {size : ℕ} {piece : List ℕ} {told : Bool} {old new : List Slot} {past : ℕ}
-    → CutsAs told cutter size piece old new next past → cutter.at ≤ size
+done_fits : {cutter next : CutterState} {size : ℕ} {piece : List ℕ} {outs : Effect} {past : ℕ}
+    → CutsAs cutter next size piece past outs → cutter.at ≤ size
     → cutter.at + length (take (length piece - past) piece) ≤ size
 done_fits {piece = piece} {past = past} takes within = search rules
 
-module _ {chunker : ChunkerState} {next : CutterState} {size : ℕ} {piece : List ℕ} {x : List ℕ} {past : ℕ} {told : Bool}
-    {old new : List Slot}
-    (takes : CutsAs told chunker.cutter size piece old new next past)
+module _ {chunker : ChunkerState} {next : CutterState} {size : ℕ} {piece : List ℕ} {x : List ℕ} {past : ℕ}
+    {outs : Effect}
+    (takes : CutsAs chunker.cutter next size piece past outs)
     (ok : (past ≡ 0) ⊎ (is_each_on (course next) ≡ false)) (has : IsSaid chunker size x) where
   abbrev done : List ℕ
   done = take (length piece - past) piece
@@ -203,13 +203,12 @@ said_is : {chunker : ChunkerState} {size : ℕ} {x : List ℕ} → chunker.said 
 said_is {chunker} {size} {x} said is = grind (arith, common_steps)
 
 module _ {chunker : ChunkerState} {size : ℕ} where
-  cut_brings : {next : CutterState} {bytes : List ℕ} {told : Bool} {old new : List Slot} {fault : Option Fault}
-      → CutsMore told chunker.cutter size bytes old new next fault
+  cut_brings : {next : CutterState} {bytes : List ℕ} {outs : Effect} {fault : Option Fault}
+      → CutsMore chunker.cutter next size bytes outs fault
       → (chunker.cutter.at ≤ size → chunker.cutter.at + length bytes ≤ size) → {x : List ℕ}
       → (has : IsSaid chunker size x)
-      → Brings told (course chunker.cutter) chunker.cutter.sink.aim next.sink.aim
-      ((said_work chunker.cutter size).settled x)
-      (part_so chunker.cutter size (has.spare.used ++ bytes)) old new fault
+      → Brings (course chunker.cutter) chunker.cutter.sink.aim next.sink.aim ((said_work chunker.cutter size).settled x)
+      (part_so chunker.cutter size (has.spare.used ++ bytes)) outs fault
   cut_brings {bytes = bytes} cuts fits has = rw (part_is has) at (cuts.brings has.spare.used (cut_is has)
       (omega (arith, fits (within_size has), has.cut.at, length-append has.spare.used bytes)))
 
@@ -235,11 +234,12 @@ module _ {chunker : ChunkerState} {size : ℕ} where
             rw (has.spare.joined, append_assoc used rest piece, low, high) (part_begins_itself _)
       ])
 
-module _ {chunker : ChunkerState} {next : CutterState} {size : ℕ} (piece : List ℕ) {told : Bool} {old new : List Slot}
+module _ {chunker : ChunkerState} {next : CutterState} {size : ℕ} (piece : List ℕ) {outs : Effect}
     (said : chunker.said ≡ Some size) where
   pub passes_said : {past : ℕ} (after : ℕ) → after ≡ chunker.spare + past
-      → CutsAs told chunker.cutter size piece old new next past → (past ≡ 0) ⊎ (is_each_on (course next) ≡ false)
-      → PassesAs told chunker piece old new (record chunker { cutter = next; spare = after }) (Ok tt)
+      → CutsAs chunker.cutter next size piece past outs
+      → (past ≡ 0) ⊎ (is_each_on (course next) ≡ false)
+      → PassesAs chunker (record chunker { cutter = next; spare = after }) piece outs (Ok tt)
   passes_said after is takes ok = passes_at (Ok tt) (record { said = refl; chunks = takes.cuts.chunks })
       (omega arith)
       (record {
@@ -250,8 +250,8 @@ module _ {chunker : ChunkerState} {next : CutterState} {size : ℕ} (piece : Lis
       (λ x holds. said_is said (said_on takes ok (is_said said holds) after is))
 
   pub passes_not : {why : Fault}
-      → CutsMore told chunker.cutter size (take (min (length piece) (size - chunker.cutter.at)) piece) old new next
-      (Some why) → PassesAs told chunker piece old new (record chunker { cutter = next }) (Err why)
+      → CutsMore chunker.cutter next size (take (min (length piece) (size - chunker.cutter.at)) piece)
+      outs (Some why) → PassesAs chunker (record chunker { cutter = next }) piece outs (Err why)
   passes_not {why} cuts = let n = min (length piece) (size - chunker.cutter.at) in
       let fits : chunker.cutter.at ≤ size → chunker.cutter.at + length (take n piece) ≤ size =
       λ within. omega (arith, length-take n piece) in
@@ -279,9 +279,9 @@ never_past : (on : Course) (place : ℕ) → is_each_on on ≡ true → is_past_
 never_past (in_files filing elide) place each = refl
 never_past (in_output chunk) place each = cc
 
-module _ (chunker : ChunkerState) {next : CutterState} {size : ℕ} (piece : List ℕ) {past : ℕ} {told : Bool}
-    {old new : List Slot}
-    (said : chunker.said ≡ Some size) (takes : CutsAs told chunker.cutter size piece old new next past)
+module _ (chunker : ChunkerState) {next : CutterState} {size : ℕ} (piece : List ℕ) {past : ℕ}
+    {outs : Effect}
+    (said : chunker.said ≡ Some size) (takes : CutsAs chunker.cutter next size piece past outs)
     (some : 0 < past)
     (each : is_each_on (course next) ≡ true) where
   abbrev cut_off : List ℕ
@@ -318,7 +318,8 @@ module _ (chunker : ChunkerState) {next : CutterState} {size : ℕ} (piece : Lis
   longer_so : (x : List ℕ) (has : IsSaid chunker size x) → size < length (x ++ piece)
   longer_so x has = search (rules, all_so, length-append, size_is, length-drop)
 
-  pub changed_more : PassesAs told chunker piece old new (record chunker { cutter = next }) (Err (Verdict Changed))
+  pub changed_more : PassesAs chunker (record chunker { cutter = next }) piece
+      outs (Err (Verdict Changed))
   changed_more = passes_changed (record { said = refl; chunks = takes.cuts.chunks }) (omega (arith, takes.at, takes.few))
       (record {
         stays = takes.cuts.stays;
@@ -379,21 +380,21 @@ ends_badly : (on : Course) (chunks : Chunks) (size : ℕ) (x : List ℕ) → len
 ends_badly (in_files filing elide) chunks size x short open_still = rw (shorter_differs _ _ short) refl
 ends_badly (in_output chunk) chunks size x short open_still = rw (open_still, shorter_differs _ _ short) refl
 
-module _ {chunker next : ChunkerState} {size : ℕ} {told : Bool} {old new : List Slot} (said : chunker.said ≡ Some size)
+module _ {chunker next : ChunkerState} {size : ℕ} {outs : Effect} (said : chunker.said ≡ Some size)
     (same : IsLike chunker next) (bound : total next ≤ total chunker) where
-  end_comes : (fault : Option Fault) → EndsAll told chunker.cutter.sink old new next.cutter.sink fault
-      → Comes told chunker (work chunker).whole old new next fault
+  end_comes : (fault : Option Fault) → EndsAll chunker.cutter.sink next.cutter.sink outs fault
+      → Comes chunker next (work chunker).whole outs fault
   end_comes fault ends = grind (arith, common_steps, is_said, part_is, whole_said)
 
-  pub said_stops : {why : Fault} → IsAimed chunker.cutter.sink.aim old
-      → EndsAll told chunker.cutter.sink old new next.cutter.sink (Some why) → IsWrite why
-      → EndsAs told chunker old new next (Err why)
+  pub said_stops : {why : Fault} → IsAimed chunker.cutter.sink.aim outs.old
+      → EndsAll chunker.cutter.sink next.cutter.sink outs (Some why) → IsWrite why
+      → EndsAs chunker next outs (Err why)
   said_stops {why} aimed ends broke = search (rules, ends_at, end_comes)
 
-  pub said_ends : IsAimed chunker.cutter.sink.aim old
-      → EndsAll told chunker.cutter.sink old new next.cutter.sink None
+  pub said_ends : IsAimed chunker.cutter.sink.aim outs.old
+      → EndsAll chunker.cutter.sink next.cutter.sink outs None
       → (is_past_on chunker.cutter.sink ≡ true) ⊎ (size ≤ chunker.cutter.at)
-      → EndsAs told chunker old new next (Ok tt)
+      → EndsAs chunker next outs (Ok tt)
   said_ends aimed ends full = ends_at (Ok tt) aimed same bound (end_comes None ends)
       (λ x holds. let has = is_said said holds in rw said
       (ends_well (course chunker.cutter) chunker.cutter.chunks size x has.spare has.cut.can has.within (elim full [
@@ -401,9 +402,9 @@ module _ {chunker next : ChunkerState} {size : ℕ} {told : Bool} {old new : Lis
         | inr all ↦ inr (omega arith)
       ]))) (λ some. tt)
 
-  pub said_changed : EndsAll told chunker.cutter.sink old new next.cutter.sink None
+  pub said_changed : EndsAll chunker.cutter.sink next.cutter.sink outs None
       → is_past_on chunker.cutter.sink ≡ false → chunker.cutter.at < size
-      → EndsAs told chunker old new next (Err (Verdict Changed))
+      → EndsAs chunker next outs (Err (Verdict Changed))
   said_changed ends going short = ends_changed same bound (end_comes None ends) (λ x holds. let has = is_said said holds in
       let open_still = sym (past_is (cut_is has)) ∙ going in
       let all : x ≡ has.spare.used = elim has.spare.enough [

@@ -10,7 +10,7 @@ use Rattle.ports_core.specs.{
   Engine.{IsMet, StandsAt},
   FileWriter.{Breaks, IsWrite},
   Part.{Part, gets_bytes, writes},
-  Slot.{Slot, is_writable},
+  Slot.{Effect, effect, Slot, is_writable},
   InTurn.fault_in,
   Work.{IsSettled, IsSpare, Judges, Means, Needs, Work},
   declared.{
@@ -82,24 +82,24 @@ at_aim : {told : Bool} {state : ChunkerState} {start : List Slot} {x : List ℕ}
 at_aim at = grind (arith, common_steps)
 
 -- How a call leaves the outputs that were to come to what is due.
-module _ {told : Bool} {old : ChunkerState} (new : ChunkerState) {before after : List Slot} {due : List ℕ → Part} where
-  went_out : Comes told old due before after new None
-      → engine.PutsOut ways.terms (way.Chunks old) due told before after
+module _ {old : ChunkerState} (new : ChunkerState) {outs : Effect} {due : List ℕ → Part} where
+  went_out : Comes old new due outs None
+      → engine.PutsOut ways.terms (way.Chunks old) due outs
   went_out comes start x at = grind (arith, common_steps)
 
-  was_cut : {why : Fault} → Comes told old due before after new (Some why)
-      → engine.CutsOff ways.terms (way.Chunks old) due told before after why
+  was_cut : {why : Fault} → Comes old new due outs (Some why)
+      → engine.CutsOff ways.terms (way.Chunks old) due outs why
   was_cut {why} comes start x at = grind (arith, common_steps, unjudged, output_is, stopped_in_turn, settled_lines, at_aim)
 
-  was_judged : Comes told old due before after new None
-      → engine.CutsOff ways.terms (way.Chunks old) due told before after (Verdict Changed)
-  was_judged comes start x at = engine.judged refl after ((comes.brings x at.holds).reaches start (at_aim at)).outputs refl
+  was_judged : Comes old new due outs None
+      → engine.CutsOff ways.terms (way.Chunks old) due outs (Verdict Changed)
+  was_judged comes start x at = engine.judged refl outs.new ((comes.brings x at.holds).reaches start (at_aim at)).outputs refl
 
-module _ {told : Bool} {old new : ChunkerState} {piece : List ℕ} {before after : List Slot} where
+module _ {old new : ChunkerState} {piece : List ℕ} {outs : Effect} where
   pub passes_at : (result : Result (Unit {0}) Fault) → IsLike old new → total new ≤ total old + length piece
-      → Comes told old (λ x. (work old).settled (x ++ piece)) before after new (fault_in result)
+      → Comes old new (λ x. (work old).settled (x ++ piece)) outs (fault_in result)
       → ((x : List ℕ) → Holds old x → IfNone (fault_in result) (Holds new (x ++ piece)))
-      → PassesAs told old piece before after new result
+      → PassesAs old new piece outs result
   passes_at (Ok done) same bound comes stands = grind (arith, common_steps, same_work, went_out)
   passes_at (Err why) same bound comes stands = record {
     same = same_work old new same comes.stays.course;
@@ -110,20 +110,20 @@ module _ {told : Bool} {old new : ChunkerState} {piece : List ℕ} {before after
     owns = comes.stays.owns;
     there = λ are. tt;
     cut = was_cut new comes;
-    met = met_feeding old.cutter.chunks _ before after why
+    met = met_feeding old.cutter.chunks _ outs.old outs.new why
         (λ is x holds. absurd ((comes.brings x holds).named is)) (course old.cutter) old.said comes.stays.slots comes.stays.only;
   }
 
   -- the input has changed: all is written
   pub passes_changed : IsLike old new → total new ≤ total old + length piece
-      → Comes told old (λ x. (work old).settled (x ++ piece)) before after new None
+      → Comes old new (λ x. (work old).settled (x ++ piece)) outs None
       → ((x : List ℕ) → Holds old x → IsSettled (work old) (x ++ piece) Changed)
-      → PassesAs told old piece before after new (Err (Verdict Changed))
+      → PassesAs old new piece outs (Err (Verdict Changed))
   passes_changed same bound all judged = search (rules, same_work, was_judged)
 
 -- bytes wait, and there was no room for the piece: nothing was written
 pub lacks_room : {told : Bool} (old : ChunkerState) {piece : List ℕ} {slots : List Slot} → old.said ≡ None
-    → PassesAs told old piece slots slots old (Err Memory)
+    → PassesAs old old piece (effect told slots slots) (Err Memory)
 lacks_room old unsaid = passes_lacking (way.Chunks old) _ _ refl (omega arith) (λ first owns. owns)
     (feeds_memory (course old.cutter) old.cutter.chunks unsaid)
 
@@ -134,11 +134,11 @@ aimed_writable : (aim : AimState) (chunks : Chunks) (said : Option ℕ) (slots :
 aimed_writable (to_files writer elide) chunks said slots aimed told = search rules
 aimed_writable (to_output chunk) chunks said slots aimed told = aimed
 
-module _ {told : Bool} {old new : ChunkerState} {before after : List Slot} where
-  pub ends_at : (result : Result (Unit {0}) Fault) → IsAimed old.cutter.sink.aim before → IsLike old new
-      → total new ≤ total old → Comes told old (work old).whole before after new (fault_in result)
+module _ {old new : ChunkerState} {outs : Effect} where
+  pub ends_at : (result : Result (Unit {0}) Fault) → IsAimed old.cutter.sink.aim outs.old → IsLike old new
+      → total new ≤ total old → Comes old new (work old).whole outs (fault_in result)
       → ((x : List ℕ) → Holds old x → IfNone (fault_in result) ((work old).verdict x ≡ None))
-      → (is_none old.said ≡ false → IfSome (fault_in result) IsWrite) → EndsAs told old before after new result
+      → (is_none old.said ≡ false → IfSome (fault_in result) IsWrite) → EndsAs old new outs result
   ends_at (Ok done) aimed same bound comes well only_write = grind (arith, common_steps, same_work, went_out, aimed_writable)
   ends_at (Err why) aimed same bound comes well only_write = record {
     same = same_work old new same comes.stays.course;
@@ -149,13 +149,14 @@ module _ {told : Bool} {old new : ChunkerState} {before after : List Slot} where
     owns = comes.stays.owns;
     there = λ are. tt;
     cut = was_cut new comes;
-    met = met_closing old.cutter.chunks _ before after why
+    met = met_closing old.cutter.chunks _ outs.old outs.new why
         (λ is x holds. absurd ((comes.brings x holds).named is)) (course old.cutter) old.said comes.stays.slots comes.stays.only only_write;
   }
 
-  pub ends_changed : IsLike old new → total new ≤ total old → Comes told old (work old).whole before after new None
+  pub ends_changed : IsLike old new → total new ≤ total old
+      → Comes old new (work old).whole outs None
       → ((x : List ℕ) → Holds old x → Judges (work old) x Changed)
-      → EndsAs told old before after new (Err (Verdict Changed))
+      → EndsAs old new outs (Err (Verdict Changed))
   ends_changed same bound all judged = search (rules, same_work, was_judged)
 
 -- what waits, and what isn't used

@@ -15,7 +15,7 @@ use Rattle.ports_core.{
   specs.{
     Draft.draft_part,
     Part.Begins,
-    Slot.Slot,
+    Slot.{Effect, Slot, effect},
     Work.IsNeeded,
     declared.{fault.Fault.Fault, slot.State.TheVariants.Open},
   },
@@ -184,8 +184,8 @@ pub record Ending (told : Bool) (cutter : CutterState) (size : ℕ) (old slots :
   pub within : now.is_within ≡ cutter.is_within
   pub stays : Stays (course cutter) cutter.sink.aim now.sink.aim old slots None
   pub brings : (x : List ℕ) → IsCutOff cutter size x
-      → Brings told (course cutter) cutter.sink.aim now.sink.aim (part_at cutter size x cutter.sink.place)
-      (part_at cutter size x now.sink.place) old slots None
+      → Brings (course cutter) cutter.sink.aim now.sink.aim (part_at cutter size x cutter.sink.place)
+      (part_at cutter size x now.sink.place) (effect told old slots) None
   pub leads : (x : List ℕ) → IsCutOff cutter size x → IsCutOff now size x
 
 pub ends_none : {told : Bool} {cutter : CutterState} {size : ℕ} {slots : List Slot} → IsAimed cutter.sink.aim slots
@@ -206,21 +206,21 @@ module _ {told : Bool} {cutter now : CutterState} {size : ℕ} {old slots : List
   has_ended {x} so = grind (arith, common_steps, passed_all)
 
   next_gives : {next : SinkState} {new : List Slot} {fault : Option Fault}
-      → Changes told now.sink with_full slots new next fault → (x : List ℕ) → IsCutOff cutter size x
-      → Gives told (course cutter) now.sink next (cut_before cutter.chunks size x now.sink.place)
-      (cut_before cutter.chunks size x (now.sink.place + 1)) slots new fault
+      → Changes now.sink next with_full (effect told slots new) fault → (x : List ℕ) → IsCutOff cutter size x
+      → Gives (course cutter) now.sink next (cut_before cutter.chunks size x now.sink.place)
+      (cut_before cutter.chunks size x (now.sink.place + 1)) (effect told slots new) fault
   next_gives went x so = let mid = so_far.leads x so in
       rw (so_far.stays.course, so_far.chunks) at (rw (full_next now.chunks size x now.sink.place mid.begun) at
       (went.gives _ (mid.cut.carries, name_of _ _ _ mid.cut.all less)))
 
   next_stays : {next : SinkState} {new : List Slot} {fault : Option Fault}
-      → Changes told now.sink with_full slots new next fault
+      → Changes now.sink next with_full (effect told slots new) fault
       → Stays (course cutter) cutter.sink.aim next.aim old new fault
   next_stays went = grind (arith, common_steps)
 
   pub ends_next : {next : CutterState} {new : List Slot} → next.chunks ≡ now.chunks → next.at ≡ now.at
       → next.is_within ≡ now.is_within → next.sink.place ≡ now.sink.place + 1
-      → Changes told now.sink with_full slots new next.sink None → Ending told cutter size old new next
+      → Changes now.sink next.sink with_full (effect told slots new) None → Ending told cutter size old new next
   ends_next {next} chunks at within place went = record {
     chunks = chunks ∙ so_far.chunks;
     at = at ∙ so_far.at;
@@ -239,8 +239,8 @@ module _ {told : Bool} {cutter now : CutterState} {size : ℕ} {old slots : List
   }
 
   pub ends_stopped : {next : CutterState} {new : List Slot} {why : Fault} → next.chunks ≡ now.chunks
-      → next.at ≡ now.at → Changes told now.sink with_full slots new next.sink (Some why)
-      → EndsFull told cutter size old new next (Some why)
+      → next.at ≡ now.at → Changes now.sink next.sink with_full (effect told slots new) (Some why)
+      → EndsFull cutter next size (effect told old new) (Some why)
   ends_stopped chunks at stopped = record {
     chunks = chunks ∙ so_far.chunks;
     at = at ∙ so_far.at;
@@ -259,7 +259,7 @@ pub ends_all : {told : Bool} {cutter now : CutterState} {size : ℕ} {old slots 
     → Ending told cutter size old slots now
     → ((x : List ℕ) → IsCutOff now size x → now.sink.place < now.chunks.count
     → passed now.chunks size x < chunk_start now.chunks.count size (now.sink.place + 1))
-    → EndsFull told cutter size old slots now None
+    → EndsFull cutter now size (effect told old slots) None
 ends_all {now = now} {size} so_far last = record {
   chunks = so_far.chunks;
   at = so_far.at;
@@ -276,7 +276,7 @@ ends_all {now = now} {size} so_far last = record {
 
 -- none does if a line is open before the end of its chunk
 pub ends_open : {told : Bool} {cutter : CutterState} {size : ℕ} {slots : List Slot} → IsAimed cutter.sink.aim slots
-    → cutter.is_within ≡ true → cutter.at < size → EndsFull told cutter size slots slots cutter None
+    → cutter.is_within ≡ true → cutter.at < size → EndsFull cutter cutter size (effect told slots slots) None
 ends_open {cutter = cutter} {size} ready within short = ends_all (ends_none ready) (λ x so less. omega (
   arith,
   passed_open cutter.chunks size x (omega (arith, so.cut.at)),
@@ -287,13 +287,13 @@ ends_open {cutter = cutter} {size} ready within short = ends_all (ends_none read
 pub ends_so : {told : Bool} {cutter now : CutterState} {size : ℕ} {old slots : List Slot}
     → Ending told cutter size old slots now
     → (now.sink.place < now.chunks.count → now.at < chunk_start now.chunks.count size (now.sink.place + 1))
-    → EndsFull told cutter size old slots now None
+    → EndsFull cutter now size (effect told old slots) None
 ends_so {now = now} {size} so_far last = ends_all so_far
     (λ x so less. omega (arith, last less, so.cut.at, passed_few now.chunks size x so.fits))
 
 pub ends_short : {told : Bool} {cutter : CutterState} {size : ℕ} {slots : List Slot} → IsAimed cutter.sink.aim slots
     → cutter.at < chunk_start cutter.chunks.count size (min (cutter.sink.place + 1) cutter.chunks.count)
-    → EndsFull told cutter size slots slots cutter None
+    → EndsFull cutter cutter size (effect told slots slots) None
 ends_short {cutter = cutter} {size} ready short = ends_so (ends_none ready)
     (λ less. subst (λ place. cutter.at < chunk_start cutter.chunks.count size place) (omega arith) short)
 
@@ -379,18 +379,18 @@ module _ {cutter : CutterState} {size : ℕ} (text : List ℕ) {x y : List ℕ}
   all_begun = grind (arith, common_steps, place_of, all_within)
 
   rest_gives : {told : Bool} {next : SinkState} {old wet : List Slot} {fault : Option Fault}
-      → Changes told cutter.sink (with_rest y) old wet next fault
-      → Gives told (course cutter) cutter.sink next (chunks_within cutter.chunks size x)
-      (cut_before cutter.chunks size (x ++ y) cutter.sink.place) old wet fault
+      → Changes cutter.sink next (with_rest y) (effect told old wet) fault
+      → Gives (course cutter) cutter.sink next (chunks_within cutter.chunks size x)
+      (cut_before cutter.chunks size (x ++ y) cutter.sink.place) (effect told old wet) fault
   rest_gives {told} {next} {old} {wet} {fault} changes = let off = off_of has in let place = place_of y has some within in
       let ends = rw (placed_at has) at (ended_is cutter.chunks size x) in
-      subst (λ cut. Gives told (course cutter) cutter.sink next (chunks_within cutter.chunks size x) cut old wet fault)
+      subst (λ cut. Gives (course cutter) cutter.sink next (chunks_within cutter.chunks size x) cut (effect told old wet) fault)
       (ap (with_rest y) (within_are x (some_in has.cut) has.fits ends)
       ∙ sym (rest_more cutter.chunks size x y cutter.sink.place within off.before))
       (changes.gives _ (has.cut.carries, name_of _ _ _ has.cut.all place.less))
 
   off_after : {told : Bool} {mid : CutterState} {old wet : List Slot} → Cutting cutter mid y
-      → Changes told cutter.sink (with_rest y) old wet mid.sink None → IsCutOff mid size (x ++ y)
+      → Changes cutter.sink mid.sink (with_rest y) (effect told old wet) None → IsCutOff mid size (x ++ y)
   off_after {mid = mid} step changes = let off = off_of has in
       let same : cut_before cutter.chunks size (x ++ y) cutter.sink.place ≡ cut_before mid.chunks size (x ++ y) mid.sink.place =
       rw (step.chunks, step.place) refl in record {
@@ -404,8 +404,8 @@ module _ {cutter : CutterState} {size : ℕ} (text : List ℕ) {x y : List ℕ}
 
 pub cuts_on : {told : Bool} {cutter mid next : CutterState} {size : ℕ} (text : List ℕ) {y : List ℕ}
     {old wet new : List Slot} (fault : Option Fault) → y ≡ cut_to cutter (end_so cutter size) text
-    → Cutting cutter mid y → Changes told cutter.sink (with_rest y) old wet mid.sink None
-    → EndsFull told mid size wet new next fault → CutsMore told cutter size y old new next fault
+    → Cutting cutter mid y → Changes cutter.sink mid.sink (with_rest y) (effect told old wet) None
+    → EndsFull mid next size (effect told wet new) fault → CutsMore cutter next size y (effect told old new) fault
 cuts_on text {y} fault is step changes ends = record {
   chunks = ends.chunks ∙ step.chunks;
   bound = omega arith;
@@ -416,10 +416,10 @@ cuts_on text {y} fault is step changes ends = record {
 }
 
 -- a fault came as a stretch was written
-pub cuts_not : {told : Bool} {cutter next : CutterState} {size : ℕ} (text : List ℕ) {y : List ℕ} {old new : List Slot}
+pub cuts_not : {cutter next : CutterState} {size : ℕ} (text : List ℕ) {y : List ℕ} {outs : Effect}
     {why : Fault} → y ≡ cut_to cutter (end_so cutter size) text → 0 < length text → next.chunks ≡ cutter.chunks
-    → next.at ≡ cutter.at → Changes told cutter.sink (with_rest y) old new next.sink (Some why)
-    → CutsMore told cutter size y old new next (Some why)
+    → next.at ≡ cutter.at → Changes cutter.sink next.sink (with_rest y) outs (Some why)
+    → CutsMore cutter next size y outs (Some why)
 cuts_not {cutter = cutter} {size = size} text {y} is has_text chunks at stopped = record {
   chunks = chunks;
   bound = omega arith;
@@ -433,9 +433,10 @@ cuts_not {cutter = cutter} {size = size} text {y} is has_text chunks at stopped 
 }
 
 -- on the way to all of a text
-pub cuts_all : {told : Bool} {cutter next : CutterState} {size : ℕ} (text : List ℕ) {y : List ℕ}
-    {old new : List Slot} {why : Fault} → y ≡ cut_to cutter (end_so cutter size) text
-    → CutsMore told cutter size y old new next (Some why) → CutsMore told cutter size text old new next (Some why)
+pub cuts_all : {cutter next : CutterState} {size : ℕ} (text : List ℕ) {y : List ℕ}
+    {outs : Effect} {why : Fault} → y ≡ cut_to cutter (end_so cutter size) text
+    → CutsMore cutter next size y outs (Some why)
+    → CutsMore cutter next size text outs (Some why)
 cuts_all {cutter = cutter} {size = size} text {y} {why = why} is cuts =
     let (rest, both) : (rest : List ℕ) × (text ≡ y ++ rest) = rw is (begun_begins cutter.chunks.unit cutter.chunks.delim _ text) in
     let all : (x : List ℕ) → (x ++ y) ++ rest ≡ x ++ text = λ x. append_assoc x y rest ∙ ap (λ more. x ++ more) (sym both) in record {
@@ -480,14 +481,15 @@ needed_in {cutter} {size} {x} text n going some few is has within = let chunks =
     (rw place.is at (begins_early _ _ _ z _ all (omega arith))) going
 
 -- if a stretch was written
-pub cutting : {told : Bool} {cutter mid : CutterState} {end n : ℕ} (text : List ℕ) {old new : List Slot}
-    → WritesTo told cutter end text old new mid (Ok n) → Cutting cutter mid (take n text)
+pub cutting : {cutter mid : CutterState} {end n : ℕ} (text : List ℕ) {outs : Effect}
+    → WritesTo cutter mid end text outs (Ok n) → Cutting cutter mid (take n text)
 cutting {n = n} text writes = grind (arith, common_steps)
 
 -- what was written of a text goes with the chunk that was begun, and what is full has ended
 pub steps_so : {told : Bool} {cutter mid next : CutterState} {size n : ℕ} (text : List ℕ) {old wet new : List Slot}
-    → WritesTo told cutter (end_so cutter size) text old wet mid (Ok n) → EndsFull told mid size wet new next None
-    → CutsStretch told cutter size text old new next (Ok n)
+    → WritesTo cutter mid (end_so cutter size) text (effect told old wet) (Ok n)
+    → EndsFull mid next size (effect told wet new) None
+    → CutsStretch cutter next size text (effect told old new) (Ok n)
 steps_so {n = n} text writes ends = let is = writes.count.2 in (
   writes.count.0,
   writes.count.1,
@@ -497,22 +499,22 @@ steps_so {n = n} text writes ends = let is = writes.count.2 in (
 )
 
 -- nothing is full before that chunk's end
-pub steps_short : {told : Bool} {cutter next : CutterState} {size n : ℕ} (text : List ℕ) {old new : List Slot}
-    → WritesTo told cutter (end_so cutter size) text old new next (Ok n)
-    → next.at < end_so cutter size → CutsStretch told cutter size text old new next (Ok n)
+pub steps_short : {cutter next : CutterState} {size n : ℕ} (text : List ℕ) {outs : Effect}
+    → WritesTo cutter next (end_so cutter size) text outs (Ok n)
+    → next.at < end_so cutter size → CutsStretch cutter next size text outs (Ok n)
 steps_short {size = size} text writes short = steps_so _ writes
     (ends_short writes.changes.stays.ready (rw (writes.chunks, writes.place) short))
 
 -- Stretch after stretch
 
 pub cuts_nothing : {told : Bool} {cutter : CutterState} {size : ℕ} {slots : List Slot} → IsAimed cutter.sink.aim slots
-    → CutsMore told cutter size [] slots slots cutter None
+    → CutsMore cutter cutter size [] (effect told slots slots) None
 cuts_nothing {told} {cutter} {size} {slots} ready = search (rules, stays_none, append-nil, brings_none)
 
 pub cuts_again : {told : Bool} {cutter mid next : CutterState} {size : ℕ} (first more : List ℕ)
-    {old wet new : List Slot} (fault : Option Fault) → CutsMore told cutter size first old wet mid None
-    → CutsMore told mid size more wet new next fault
-    → CutsMore told cutter size (first ++ more) old new next fault
+    {old wet new : List Slot} (fault : Option Fault) → CutsMore cutter mid size first (effect told old wet) None
+    → CutsMore mid next size more (effect told wet new) fault
+    → CutsMore cutter next size (first ++ more) (effect told old new) fault
 cuts_again {told} {cutter} {mid} {next} {size} first more {wet = wet} {new} fault one other = record {
   chunks = other.chunks ∙ one.chunks;
   bound = omega (arith, length-append first more);
@@ -531,7 +533,7 @@ pub record CutsAway (told : Bool) (cutter : CutterState) (size : ℕ) (text left
     (now : CutterState) : Type 0 where
   pub done : List ℕ
   pub both : text ≡ done ++ left
-  pub cuts : CutsMore told cutter size done old slots now None
+  pub cuts : CutsMore cutter now size done (effect told old slots) None
   pub at : now.at ≡ cutter.at + length done
   pub start : ((now ≡ cutter) × (done ≡ [])) ⊎ (is_past_on cutter.sink ≡ false)
   pub needed : (done ≡ []) ⊎ ((x : List ℕ) → IsCut cutter size x → length (x ++ text) ≤ size
@@ -544,7 +546,8 @@ away_none {text = text} ready = record { done = []; both = refl; cuts = cuts_not
 module _ {told : Bool} {cutter now : CutterState} {size : ℕ} {text left : List ℕ} {old slots : List Slot}
     (so_far : CutsAway told cutter size text left old slots now) where
   pub away_more : {next : CutterState} {rest : List ℕ} {n : ℕ} {new : List Slot}
-      → (0 < n) × (n ≤ length left) × (next.at ≡ now.at + n) × CutsMore told now size (take n left) slots new next None
+      → (0 < n) × (n ≤ length left) × (next.at ≡ now.at + n) × CutsMore now next size (take n left)
+      (effect told slots new) None
       × (is_past_on now.sink ≡ false → (x : List ℕ) → IsCut now size x → length (x ++ left) ≤ size
       → IsOpen now size (x ++ take (n - 1) left)) → is_past_on now.sink ≡ false → rest ≡ drop n left
       → CutsAway told cutter size text rest old new next
@@ -581,12 +584,13 @@ module _ {told : Bool} {cutter now : CutterState} {size : ℕ} {text left : List
   }
 
   pub away_stops : {next : CutterState} {new : List Slot} {why : Fault}
-      → CutsMore told now size left slots new next (Some why) → CutsMore told cutter size text old new next (Some why)
+      → CutsMore now next size left (effect told slots new) (Some why)
+      → CutsMore cutter next size text (effect told old new) (Some why)
   away_stops {why = why} stops = rw so_far.both (cuts_again _ _ _ so_far.cuts stops)
 
   pub away_so : (piece : List ℕ) (own : ℕ) {count : ℕ} → own ≡ min (length piece) (size - cutter.at)
       → text ≡ take own piece → count ≡ length left + (length piece - own)
-      → (length left ≡ 0) ⊎ (is_past_on now.sink ≡ true) → CutsAs told cutter size piece old slots now count
+      → (length left ≡ 0) ⊎ (is_past_on now.sink ≡ true) → CutsAs cutter now size piece count (effect told old slots)
   away_so piece own {count} is text_is count_is ends = record {
     few = omega (arith, long, is, count_is);
     at = omega (arith, so_far.at, long, is, count_is);

@@ -16,7 +16,7 @@ use Rattle.ports_core.specs.{
   Names.{next_name, has_next, line_next, told_next, CanTell, OpensNone, no_memory, no_name, no_line, no_number},
   Names.no_file,
   declared.{names.Names.Names, slot.Mode.TheVariants.Fresh, fault.Fault.Fault},
-  Slot.{Slot, changed_at, opened, adds, closes, is_closable, with_written, SlotBreaks, told_of, KeepsBroken},
+  Slot.{Effect, Slot, changed_at, effect, opened, adds, closes, is_closable, with_written, SlotBreaks, told_of, KeepsBroken},
   Part.{Part, OutputsAt, FilesBegin, Begins, IsBeginning, IsDueLine, IsNext, IsAt, LinesInOrder, Marks},
   Draft.{manner_by, opening_line, output_of, part_with, told_before, told_of_files},
   FileWriter.Breaks,
@@ -42,7 +42,7 @@ use Rattle.split_core.specs.{
   Round.{AreReady, output_at},
   laws.{ChunkLaws.map_same, ShareLaws.told_begins},
   inner.Sharing.{file_at, files_by, part_by, all_open, only_at, StandAt, KeepsFiles, IsOfFiles, Adds, Leaves, Grow},
-  inner.Sharing.{Halts, closed_first, Opens, HaveClosed, ClosesAll, with_opened},
+  inner.Sharing.{Halts, Shares, closed_first, Opens, ClosesAll, with_opened},
   Sharing.CannotOpen,
 }
 use Rattle.ports_core.specs.inner.Write as short
@@ -91,20 +91,19 @@ told_same true low high same start zero = refl
 told_same true low high same start (suc n) =
     cc (same start, told_same true low high same (start + 1) n)
 
-grow_begins : (filing : Filing) {from to few many count : ℕ} {low high : ℕ → Share} → count ≤ few
-    → Grow from to low few high many → Begins (part_by filing low count) (part_by filing high many)
-grow_begins filing {many = many} {count} {low} {high} less grow =
-    let files = by 0 count many (let more = grow.more in omega arith) in record { out = told_begins _ _ _ files; files = files } where
-      by : (start m n : ℕ) → m ≤ n → FilesBegin (map (λ i. file_at filing i (low i)) (range_with_len start m))
-          (map (λ i. file_at filing i (high i)) (range_with_len start n))
+grow_begins : (filing : Filing) {from to count : ℕ} {low high : Shares} → count ≤ low.count → Grow from to low high
+    → Begins (part_by filing (record low { count = count })) (part_by filing high)
+grow_begins filing {count = count} {low} {high} less grow =
+    let files = by 0 count high.count (let more = grow.more in omega arith) in record { out = told_begins _ _ _ files; files = files } where
+      by : (start m n : ℕ) → m ≤ n → FilesBegin (map (λ i. file_at filing i (low.at i)) (range_with_len start m))
+          (map (λ i. file_at filing i (high.at i)) (range_with_len start n))
       by start zero n fewer = tt
       by start (suc m) zero fewer = absurd (omega arith)
       by start (suc m) (suc n) fewer =
           grind (arith, common_steps, grow.begin start, grow.bytes start, by (start + 1) m n (omega arith))
 
-grow_trans : (from to : ℕ) {a b c d few some many : ℕ} {low mid high : ℕ → Share} → Grow a b low few mid some
-    → Grow c d mid some high many
-    → from ≤ a → from ≤ c → b ≤ to → d ≤ to → Grow from to low few high many
+grow_trans : (from to : ℕ) {a b c d : ℕ} {low mid high : Shares} → Grow a b low mid → Grow c d mid high
+    → from ≤ a → from ≤ c → b ≤ to → d ≤ to → Grow from to low high
 grow_trans from to first second here there before after = record {
   more = omega arith;
   new = omega arith;
@@ -113,12 +112,12 @@ grow_trans from to first second here there before after = record {
   same = λ i out. first.same i (grind (arith, out)) ∙ second.same i (grind (arith, out));
 }
 
-pub grow_same : {from to : ℕ} {shares : ℕ → Share} {count : ℕ} → Grow from to shares count shares count
+pub grow_same : {from to : ℕ} {shares : Shares} → Grow from to shares shares
 grow_same = search rules
 
 grow_by : {from to few many : ℕ} {had has : ℕ → List ℕ} (more : ℕ → List ℕ) → few ≤ many → many ≤ max few to
     → ((i : ℕ) → (i < from) ⊎ (to ≤ i) → more i ≡ []) → ((i : ℕ) → has i ≡ had i ++ more i)
-    → Grow from to (all_open had) few (all_open has) many
+    → Grow from to (all_open had few) (all_open has many)
 grow_by {had = had} more less most outside are = record {
   more = less;
   new = most;
@@ -130,19 +129,20 @@ grow_by {had = had} more less most outside are = record {
 -- A fault that stopped the files
 
 -- the next of many files is the one after some files
-next_due : (filing : Filing) {out : List ℕ} (part high : ℕ → Share) {some many most : ℕ} {name : List ℕ} → many ≤ most
-    → (name ≡ name_at filing.names some) × (some < many)
-    → IsNext (record { out = out; files = files_by filing part some }) (part_by filing high most) name
-next_due filing part high {some} {many} {most} more (is, less) = let file : ℕ → Slot = λ i. file_at filing i (high i) in record {
-  front = map file (range_with_len 0 some);
-  file = file some;
-  rest = map file (range_with_len (some + 1) (most - suc some));
-  files = let left : most - some ≡ suc (most - suc some) = omega arith in
-      sym (take-append-drop some (map file (range_with_len 0 most)))
-      ∙ cc (take-map-range_with_len file 0 most some (omega arith), drop_by _ _ 0 _ (zero-add some), left);
-  place = grind (arith, length-map-range_with_len);
-  name_is = sym is;
-}
+next_due : (filing : Filing) {out : List ℕ} (part high : Shares) {many : ℕ} {name : List ℕ} → many ≤ high.count
+    → (name ≡ name_at filing.names part.count) × (part.count < many)
+    → IsNext (record { out = out; files = files_by filing part }) (part_by filing high) name
+next_due filing part high {many} more (is, less) = let file : ℕ → Slot = λ i. file_at filing i (high.at i) in
+    let some = part.count in record {
+      front = map file (range_with_len 0 some);
+      file = file some;
+      rest = map file (range_with_len (some + 1) (high.count - suc some));
+      files = let left : high.count - some ≡ suc (high.count - suc some) = omega arith in
+          sym (take-append-drop some (map file (range_with_len 0 high.count)))
+          ∙ cc (take-map-range_with_len file 0 high.count some (omega arith), drop_by _ _ 0 _ (zero-add some), left);
+      place = grind (arith, length-map-range_with_len);
+      name_is = sym is;
+    }
 
 -- the lines that standard output got after those for some files
 lines_in : (verbose : Bool) (low : List Slot) (part high : Part) (place : ℕ) (bytes : List ℕ) (why : Fault)
@@ -157,30 +157,31 @@ lines_in true low part high place bytes why begins is due = record {
 }
 
 -- A fault came at a place: some of many files had all, and standard output a beginning of the line for the file that is due.
-halts_at : {told : Bool} {before : List Slot} {filing : Filing} {part : ℕ → Share} {some many place : ℕ}
-    {why : Fault} {reached now : List Slot} (Due : List ℕ → Type 0) (bytes : List ℕ) → place ≤ some → some ≤ many
-    → ((name : List ℕ) → Due name → (name ≡ name_at filing.names some) × (some < many))
-    → (bytes ≡ [])
-    ⊎ ((some < many) × IsBeginning bytes (told_before (output_by filing.verbose) (name_at filing.names some)))
+halts_at : {outs : Effect} {filing : Filing} {part : Shares} {many place : ℕ} {why : Fault} {reached : List Slot}
+    (Due : List ℕ → Type 0) (bytes : List ℕ) → place ≤ part.count → part.count ≤ many
+    → ((name : List ℕ) → Due name → (name ≡ name_at filing.names part.count) × (part.count < many))
+    → (bytes ≡ []) ⊎ ((part.count < many)
+    × IsBeginning bytes (told_before (output_by filing.verbose) (name_at filing.names part.count)))
     → IsDueLine Due (told_before (output_by filing.verbose)) bytes why
-    → OutputsAt told before
-    (record { out = (part_by filing part some).out ++ bytes; files = files_by filing part some }) reached
-    → Marks Due why reached now → IsAt why (length before) place some
-    → Halts told before filing part some part many place (place + 1) why now
-halts_at {filing = filing} {part} {some} {place = place} {why} {reached} {now} Due bytes inside few due begun line outputs marks came = record {
-  stops = λ first last fewest most end front back.
-      let at : Part = record { out = (part_by filing part some).out ++ bytes; files = files_by filing part some } in
-      let below = grow_begins filing few back in
-      let above : Begins (part_by filing first fewest) at = part_trans _ _ _ (grow_begins filing (omega arith) front) (line_begins bytes) in
-      let left : some - suc place ≡ fewest - suc place = omega arith in record {
+    → OutputsAt outs.told outs.old
+    (record { out = (part_by filing part).out ++ bytes; files = files_by filing part }) reached
+    → Marks Due why reached outs.new → IsAt why (length outs.old) place part.count
+    → Halts filing part (record part { count = many }) place (place + 1) outs why
+halts_at {outs} {filing} {part} {place = place} {why} {reached} Due bytes inside few due begun line outputs marks came = record {
+  stops = λ first last end front back.
+      let at : Part = record { out = (part_by filing part).out ++ bytes; files = files_by filing part } in
+      let some = part.count in
+      let below = grow_begins filing {count = some} few back in
+      let above : Begins (part_by filing first) at = part_trans _ _ _ (grow_begins filing {count = first.count} (omega arith) front) (line_begins bytes) in
+      let left : some - suc place ≡ first.count - suc place = omega arith in record {
         part = at;
         above = above;
         below = record {
           out = elim begun [
             | inl none ↦ rw (none, append-nil) below.out
             | inr begins ↦ begins_trans _ _ _
-                (begins.1.0, ap (λ those. (part_by filing part some).out ++ those) begins.1.1 ∙ sym (append_assoc _ bytes begins.1.0))
-                (rw (told_more filing.verbose (λ i. file_at filing i (part i)) some) at
+                (begins.1.0, ap (λ those. (part_by filing part).out ++ those) begins.1.1 ∙ sym (append_assoc _ bytes begins.1.0))
+                (rw (told_more filing.verbose (λ i. file_at filing i (part.at i)) some) at
                 (grow_begins filing {count = some + 1} (omega (arith, begins.0)) back).out)
           ];
           files = below.files;
@@ -189,36 +190,34 @@ halts_at {filing = filing} {part} {some} {place = place} {why} {reached} {now} D
         order = record {
           done = take-map-range_with_len _ 0 some place inside
               ∙ map_same _ _ 0 place (λ i past low. ap (file_at filing i) (back.same i (inl (omega arith))))
-              ∙ sym (take-map-range_with_len _ 0 most place (omega arith));
-          untouched = rw (drop_by _ (suc place) 0 some (zero-add _), drop_by _ (suc place) 0 fewest (zero-add _), left)
+              ∙ sym (take-map-range_with_len _ 0 last.count place (omega arith));
+          untouched = rw (drop_by _ (suc place) 0 some (zero-add _), drop_by _ (suc place) 0 first.count (zero-add _), left)
               (map_same _ _ _ _ (λ i past more. ap (file_at filing i) (sym (front.same i (inr (omega arith))))));
         };
         lines = lines_in filing.verbose _ at _ place bytes why above.files refl
             (due_by Due _ _ bytes why (λ name is. next_due filing part last back.more (due name is)) line);
         reached = reached;
         outputs = outputs;
-        marks = marks_by Due _ why reached now (λ name is. next_due filing part last back.more (due name is)) marks;
+        marks = marks_by Due _ why reached outs.new (λ name is. next_due filing part last back.more (due name is)) marks;
         from = rw length-map-range_with_len came;
       };
   own = λ other is. grind (arith, rw is at came, outputs.standard);
 }
 
 -- standard output got nothing about a file that isn't open
-halts : {told : Bool} {before : List Slot} {filing : Filing} {part : ℕ → Share} {some place : ℕ} {why : Fault}
-    {reached now : List Slot} → IsNoOpen why → place ≤ some → OutputsAt told before (part_by filing part some) reached
-    → Marks (λ name. ⊥) why reached now → IsAt why (length before) place some
-    → Halts told before filing part some part some place (place + 1) why now
+halts : {outs : Effect} {filing : Filing} {part : Shares} {place : ℕ} {why : Fault} {reached : List Slot} → IsNoOpen why
+    → place ≤ part.count → OutputsAt outs.told outs.old (part_by filing part) reached
+    → Marks (λ name. ⊥) why reached outs.new → IsAt why (length outs.old) place part.count
+    → Halts filing part part place (place + 1) outs why
 halts other inside outputs marks came =
     halts_at (λ name. ⊥) [] inside (omega arith) (λ name none. absurd none) (inl refl) (none_due _ _ _ other) (rw append-nil outputs) marks came
 
 -- the files before its place had got more before, and those after it were to get more
-halts_wider : {told : Bool} {before : List Slot} {filing : Filing} {low mid more high : ℕ → Share}
-    {few some many most from to place end : ℕ} {why : Fault} {now : List Slot}
-    → Halts told before filing mid some more many place end why now → from ≤ place → end ≤ max 1 to
-    → Grow from (place + 1) low few mid some → Grow (end - 1) to more many high most
-    → Halts told before filing low few high most from to why now
+halts_wider : {filing : Filing} {low mid more high : Shares} {from to place end : ℕ} {outs : Effect} {why : Fault}
+    → Halts filing mid more place end outs why → from ≤ place → end ≤ max 1 to
+    → Grow from (place + 1) low mid → Grow (end - 1) to more high → Halts filing low high from to outs why
 halts_wider {to = to} {place} {end} stop less past above below = record {
-  stops = λ first last fewest most further front back. stop.stops first last fewest most (max to further)
+  stops = λ first last further front back. stop.stops first last (max to further)
       (search (arith, grow_trans 0 (place + 1) front above)) (search (arith, grow_trans (end - 1) (max to further) below back));
   own = λ other is. omega (arith, stop.own other is);
 }
@@ -227,9 +226,10 @@ halts_wider {to = to} {place} {end} stop less past above below = record {
 
 -- a later step
 pub adds_then : {told : Bool} {files between next : FilesState} {first second more : ℕ → List ℕ} {from to place : ℕ}
-    {old mid new : List Slot} (result : Result (Unit {0}) Fault) → Adds told files first from to old between mid (Ok tt)
-    → Adds told between second place (place + 1) mid next new result → from ≤ place → to ≤ place + 1
-    → ((i : ℕ) → more i ≡ first i ++ second i) → Adds told files more from (place + 1) old next new result
+    {old mid new : List Slot} (result : Result (Unit {0}) Fault)
+    → Adds files between first from to (effect told old mid) (Ok tt)
+    → Adds between next second place (place + 1) (effect told mid new) result → from ≤ place → to ≤ place + 1
+    → ((i : ℕ) → more i ≡ first i ++ second i) → Adds files next more from (place + 1) (effect told old new) result
 adds_then {told} {files} {between} {next} {first} {second} {more} {from} {to} {place} {old} {mid} {new} result one other less near are = record {
   filing = other.filing ∙ one.filing;
   owned = λ start owns. other.owned start (one.owned start owns);
@@ -241,7 +241,7 @@ adds_then {told} {files} {between} {next} {first} {second} {more} {from} {to} {p
   leaves = λ before had has at is. further result before had has (rw (← count, ← one.opened, ← one.filing)
       (other.leaves before (λ i. had i ++ first i) has (record {
         owns = one.owned (length before) at.owns;
-        outputs = subst (λ filing. OutputsAt told before (part_by filing (all_open (λ i. had i ++ first i)) (length between.outputs)) mid)
+        outputs = subst (λ filing. OutputsAt told before (part_by filing (all_open (λ i. had i ++ first i) (length between.outputs))) mid)
             (sym one.filing)
             (rw (← one.opened) at (one.leaves before had _ at (λ i. refl)));
         none = λ i past. cc (at.none i (omega arith), one.outside i (inr (omega arith)));
@@ -251,20 +251,20 @@ adds_then {told} {files} {between} {next} {first} {second} {more} {from} {to} {p
   count = omega arith
 
   further : (result : Result (Unit {0}) Fault) (before : List Slot) (had has : ℕ → List ℕ)
-      → Leaves told before (filing_in files) (all_open (λ i. had i ++ first i)) (max (length files.outputs) to)
-      (all_open has) (max (length files.outputs) (place + 1)) place (place + 1) new result
-      → Leaves told before (filing_in files) (all_open had) (length files.outputs) (all_open has)
-      (max (length files.outputs) (place + 1)) from (place + 1) new result
+      → Leaves (filing_in files) (all_open (λ i. had i ++ first i) (max (length files.outputs) to))
+      (all_open has (max (length files.outputs) (place + 1))) place (place + 1) (effect told before new) result
+      → Leaves (filing_in files) (all_open had (length files.outputs))
+      (all_open has (max (length files.outputs) (place + 1))) from (place + 1) (effect told before new) result
   further (Ok done) before had has at = at
   further (Err why) before had has stop = halts_wider stop less (omega arith)
       (grow_by first (omega arith) (omega arith) (λ i out. one.outside i (grind (arith, out))) (λ i. refl)) grow_same
 
 -- a fault on the way to more than was to be added
-pub adds_wider : {told : Bool} {files next : FilesState} {some more : ℕ → List ℕ} {from to : ℕ} (low most : ℕ)
-    (rest : ℕ → List ℕ) {old new : List Slot} {why : Fault}
-    → Adds told files some from to old next new (Err why) → ((i : ℕ) → more i ≡ some i ++ rest i)
+pub adds_wider : {files next : FilesState} {some more : ℕ → List ℕ} {from to : ℕ} (low most : ℕ)
+    (rest : ℕ → List ℕ) {outs : Effect} {why : Fault}
+    → Adds files next some from to outs (Err why) → ((i : ℕ) → more i ≡ some i ++ rest i)
     → ((i : ℕ) → (i < low) ⊎ (most ≤ i) → rest i ≡ [])
-    → from ≤ low → to ≤ suc low → to ≤ most → Adds told files more from most old next new (Err why)
+    → from ≤ low → to ≤ suc low → to ≤ most → Adds files next more from most outs (Err why)
 adds_wider {some = some} low most rest adds are none less near far = record {
   filing = adds.filing;
   owned = adds.owned;
@@ -281,16 +281,17 @@ adds_wider {some = some} low most rest adds are none less near far = record {
 -- files get what was gathered for them, one after another
 module _ {told : Bool} {files between next : FilesState} {old mid new : List Slot} {place : ℕ}
     (gathered : List (List ℕ)) {one bytes : List ℕ}
-    (before : Adds told files (λ i. get_or (take place gathered) i []) 0 place old between mid (Ok tt))
+    (before : Adds files between (λ i. get_or (take place gathered) i []) 0 place (effect told old mid) (Ok tt))
     (within : place < length gathered) (at : one ≡ get_or gathered place one) (same : bytes ≡ one) where
   pub sent_next : (result : Result (Unit {0}) Fault)
-      → Adds told between (only_at place bytes) place (place + 1) mid next new result
-      → Adds told files (λ i. get_or (take (place + 1) gathered) i []) 0 (place + 1) old next new result
+      → Adds between next (only_at place bytes) place (place + 1) (effect told mid new) result
+      → Adds files next (λ i. get_or (take (place + 1) gathered) i []) 0 (place + 1) (effect told old new) result
   sent_next result after = adds_then result before after (omega arith) (omega arith)
       (λ i. grind (arith, common_steps, nat_tests, get_or-take, get_or_past, length-take-le, append-nil))
 
-  pub sent_stops : {why : Fault} → Adds told between (only_at place bytes) place (place + 1) mid next new (Err why)
-      → Adds told files (λ i. get_or gathered i []) 0 (length gathered) old next new (Err why)
+  pub sent_stops : {why : Fault}
+      → Adds between next (only_at place bytes) place (place + 1) (effect told mid new) (Err why)
+      → Adds files next (λ i. get_or gathered i []) 0 (length gathered) (effect told old new) (Err why)
   sent_stops {why} after = adds_wider (place + 1) (length gathered) (λ i. cond (ltb i (place + 1)) [] (get_or gathered i []))
       (sent_next (Err why) after) (λ i. grind (arith, common_steps, nat_tests, get_or-take, get_or_past, length-take-le, append-nil))
       (λ i out. grind (arith, nat_tests, get_or_past gathered i [], out)) (omega arith) (omega arith) (omega arith)
@@ -336,7 +337,7 @@ line_is ready = cc (ready.tells, ready.drawn)
 pub reached : (told : Bool) (files : FilesState) {old new : List Slot} (place : ℕ) → AreReady files old
     → place ≡ length files.outputs
     → new ≡ told_next told files.tells files.names old ++ opened (next_name files.names) Fresh ∷ []
-    → Opens told files place (place + 1) old (with_opened (length old) files) new (Ok tt)
+    → Opens files (with_opened (length old) files) place (place + 1) (effect told old new) (Ok tt)
 reached told files {old} place ready here is =
     let size : length (told_next told files.tells files.names old) ≡ length old = written_size 0 _ _ _ refl in record {
       adds = record {
@@ -349,7 +350,7 @@ reached told files {old} place ready here is =
         outside = λ i out. refl;
         leaves = λ before had has at are. let same : ◌≡◌ {A = ℕ → List ℕ} has had = fun_ext (λ i. are i ∙ append-nil (had i)) in
             let count : max (length files.outputs) (place + 1) ≡ length files.outputs + 1 = omega arith in
-            let file : ℕ → Slot = λ i. file_at (filing_in files) i (all_open had i) in
+            let file : ℕ → Slot = λ i. file_at (filing_in files) i ((all_open had 0).at i) in
             rw (
               count,
               same,
@@ -366,7 +367,7 @@ reached told files {old} place ready here is =
 pub reached_not : (told : Bool) (files : FilesState) {names : Names} {old new : List Slot} (place : ℕ) {why : Fault}
     → AreReady files old → place ≡ length files.outputs → has_name files.names.naming place ≡ true
     → names.naming ≡ files.names.naming → OpensNone told files.tells files.names names old new why
-    → Opens told files place (place + 1) old (record files { names = names }) new (Err why)
+    → Opens files (record files { names = names }) place (place + 1) (effect told old new) (Err why)
 reached_not told files {old = old} place ready here named same fails =
     let caused = fails_caused ready (rw (here ∙ sym ready.drawn) at named) fails (make_breaks told files.tells ready.output fails) in
     let stops = stops_opening {old = old} (let two = ready.streams in omega arith) fails in record {
@@ -393,20 +394,20 @@ reached_not told files {old = old} place ready here named same fails =
 -- Writing
 
 -- only the file at a place changed
-changed_files : (filing : Filing) (makes : Slot → Slot) (low high : ℕ → Share) {n place : ℕ} → place < n
-    → ((i : ℕ) → (i ≡ place → ⊥) → low i ≡ high i)
-    → makes (file_at filing place (low place)) ≡ file_at filing place (high place)
-    → record { out = (part_by filing low n).out; files = changed_at place makes (files_by filing low n) }
-    ≡ part_by filing high n
-changed_files filing makes low high {n} {place} within other here = grind (arith, common_steps, told_same, changed_by)
+changed_files : (filing : Filing) (makes : Slot → Slot) (low high : Shares) {place : ℕ} → low.count ≡ high.count
+    → place < low.count → ((i : ℕ) → (i ≡ place → ⊥) → low.at i ≡ high.at i)
+    → makes (file_at filing place (low.at place)) ≡ file_at filing place (high.at place)
+    → record { out = (part_by filing low).out; files = changed_at place makes (files_by filing low) }
+    ≡ part_by filing high
+changed_files filing makes low high {place} same within other here = grind (arith, common_steps, told_same, changed_by)
 
 writes : {told : Bool} {files : FilesState} {before : List Slot} {had has : ℕ → List ℕ} {old new : List Slot}
     {place : ℕ} (bytes : List ℕ) → place < length files.outputs
     → new ≡ with_written (output_at files place) (told_of told bytes) old → StandAt told files before had old
     → ((i : ℕ) → has i ≡ had i ++ only_at place bytes i)
-    → OutputsAt told before (part_by (filing_in files) (all_open has) (length files.outputs)) new
+    → OutputsAt told before (part_by (filing_in files) (all_open has (length files.outputs))) new
 writes {told} {files} {had = had} {has} {place = place} bytes within is at are =
-    rw (changed_files (filing_in files) (adds bytes) (all_open had) (all_open has) within
+    rw (changed_files (filing_in files) (adds bytes) (all_open had (length files.outputs)) (all_open has _) refl within
     (λ i differs. grind (arith, nat_tests, are i, append-nil (had i), differs)) (grind (arith, nat_tests, are place))) at
     (file_changes told _ (adds bytes) (write_makes told bytes) _ _ _ _ place at.outputs (rw (at.owns.stand place within) at is))
 
@@ -414,7 +415,7 @@ writes {told} {files} {had = had} {has} {place = place} bytes within is at are =
 written : (told : Bool) {files : FilesState} {old new : List Slot} (place : ℕ) (bytes : List ℕ)
     (result : Result (Unit {0}) Fault) → AreReady files old → place < length files.outputs
     → Wrote told (output_at files place) bytes old new (fault_in result)
-    → Adds told files (only_at place bytes) place (place + 1) old files new result
+    → Adds files files (only_at place bytes) place (place + 1) (effect told old new) result
 written told {files} place bytes (Ok done) ready within is = record {
   filing = refl;
   owned = owned_same (written_size _ _ _ _ is);
@@ -447,7 +448,7 @@ written told {files} {old} place bytes (Err _) ready within (short.broke n cut) 
 
 -- there was no room for any of it
 pub no_room : (told : Bool) (files : FilesState) (more : ℕ → List ℕ) (to : ℕ) {slots : List Slot}
-    → ((i : ℕ) → to ≤ i → more i ≡ []) → Adds told files more 0 to slots files slots (Err fault.Memory)
+    → ((i : ℕ) → to ≤ i → more i ≡ []) → Adds files files more 0 to (effect told slots slots) (Err fault.Memory)
 no_room told files more to none = record {
   filing = refl;
   owned = λ first owns. owns;
@@ -462,20 +463,25 @@ no_room told files more to none = record {
 
 -- Closing
 
+-- the first `count` files were closed
+abbrev pub HaveClosed : FilesState → ℕ → Effect → Type 0
+HaveClosed files count outs = (before : List Slot) (had : ℕ → List ℕ) → StandAt outs.told files before had outs.old
+    → OutputsAt outs.told before (part_by (filing_in files) (closed_first count had (length files.outputs))) outs.new
+
 -- the files before this place are closed, and the others can be
 pub record Closing (told : Bool) (files : FilesState) (place : ℕ) (old now : List Slot) : Type 0 where
   pub size : length now ≡ length old
   pub left : (other : ℕ) → place ≤ other → other < length files.outputs → is_closable now (output_at files other)
-  pub closed : HaveClosed told files place old now
+  pub closed : HaveClosed files place (effect told old now)
   pub output : CanTell files.tells now
   pub sound : KeepsBroken old now
 
 module _ (told : Bool) {files : FilesState} {place : ℕ} {old now : List Slot} (ready : AreReady files old)
     (within : place < length files.outputs) (so_far : Closing told files place old now) where
   closes_next : {new : List Slot} → new ≡ changed_at (output_at files place) closes now
-      → HaveClosed told files (place + 1) old new
+      → HaveClosed files (place + 1) (effect told old new)
   closes_next is before had at =
-      rw (changed_files (filing_in files) closes (closed_first place had) (closed_first (place + 1) had) within
+      rw (changed_files (filing_in files) closes (closed_first place had (length files.outputs)) (closed_first (place + 1) had _) refl within
       (λ i differs. grind (arith, nat_tests, differs)) (grind (arith, nat_tests))) at
       (file_changes told _ closes (λ file. refl) _ _ _ _ place (so_far.closed before had at) (rw (at.owns.stand place within) at is))
 
@@ -491,7 +497,7 @@ module _ (told : Bool) {files : FilesState} {place : ℕ} {old now : List Slot} 
 
   pub not_closed : {new : List Slot} {slot : ℕ} {why : Fault} → slot ≡ output_at files place
       → (why ≡ fault.Write slot) × SlotBreaks slot (changed_at slot closes now) new
-      → ClosesAll told files old new (Err why)
+      → ClosesAll files (effect told old new) (Err why)
   not_closed {new} slot_is failed =
       let can = so_far.left place (omega arith) within in let breaks = rw slot_is at failed.1 in
       let there : output_at files place < length (changed_at (output_at files place) closes now) =
@@ -501,14 +507,11 @@ module _ (told : Bool) {files : FilesState} {place : ℕ} {old now : List Slot} 
         writable_within (output_at files place) old
             (ready.closable place within).1,
       ) in
-      subst (λ those. ClosesAll told files old new (Err those)) (sym (failed.0 ∙ ap fault.Write slot_is)) (record {
-        closed = tt;
+      subst (λ those. ClosesAll files (effect told old new) (Err those)) (sym (failed.0 ∙ ap fault.Write slot_is)) (record {
         output = tt;
-        cut = λ before had at. (halts {filing = filing_in files} {part = closed_first (place + 1) had} tt (omega arith) (closes_next refl before had at)
-            (there, breaks) (inr (at.owns.stand place within))).stops
-            (all_open had) (closed_first (length files.outputs) had) _ _ (length files.outputs)
-            (grind (arith, nat_tests, begins_itself))
-            (grind (arith, nat_tests, cases_lt, begins_itself));
+        leaves = λ before had at. halts_wider (halts {part = closed_first (place + 1) had (length files.outputs)} tt (omega arith)
+            (closes_next refl before had at) (there, breaks) (inr (at.owns.stand place within))) (omega arith) (omega arith)
+            (grind (arith, nat_tests, begins_itself)) (grind (arith, nat_tests, cases_lt, begins_itself));
         caused = (
           output_at files place,
           refl,
@@ -521,12 +524,11 @@ module _ (told : Bool) {files : FilesState} {place : ℕ} {old now : List Slot} 
         owned = owned_same (broken_size (output_at files place) now new breaks ∙ so_far.size);
       })
 
-pub all_closed : {told : Bool} {files : FilesState} {place : ℕ} {old now : List Slot} → place ≡ length files.outputs
-    → Closing told files place old now → ClosesAll told files old now (Ok tt)
+pub all_closed : {files : FilesState} {place : ℕ} {outs : Effect} → place ≡ length files.outputs
+    → Closing outs.told files place outs.old outs.new → ClosesAll files outs (Ok tt)
 all_closed is so_far = record {
-  closed = rw is at so_far.closed;
+  leaves = rw is at so_far.closed;
   output = so_far.output;
-  cut = tt;
   caused = tt;
   owned = owned_same so_far.size;
 }
@@ -535,15 +537,15 @@ all_closed is so_far = record {
 
 module _ {told : Bool} {files next : FilesState} {old mid : List Slot} {place : ℕ} (bytes : List ℕ) where
   pub sent : {new : List Slot} {slot : ℕ} (result : Result (Unit {0}) Fault)
-      → Opens told files place (place + 1) old next mid (Ok tt) → slot ≡ output_at next place
+      → Opens files next place (place + 1) (effect told old mid) (Ok tt) → slot ≡ output_at next place
       → Wrote told slot bytes mid new (fault_in result)
-      → Adds told files (only_at place bytes) place (place + 1) old next new result
+      → Adds files next (only_at place bytes) place (place + 1) (effect told old new) result
   sent result reached slot_is wrote = adds_then result reached.adds (written told place bytes result reached.adds.ready
       (omega (arith, reached.adds.opened)) (rw slot_is at wrote)) (omega arith) (omega arith) (λ i. refl)
 
   -- a file that couldn't be reached stops the write to it as well
-  pub sent_unreached : {why : Fault} → Opens told files place (place + 1) old next mid (Err why)
-      → Adds told files (only_at place bytes) place (place + 1) old next mid (Err why)
+  pub sent_unreached : {why : Fault} → Opens files next place (place + 1) (effect told old mid) (Err why)
+      → Adds files next (only_at place bytes) place (place + 1) (effect told old mid) (Err why)
   sent_unreached reached = adds_wider place (place + 1) (only_at place bytes) reached.adds (λ i. refl)
       (λ i out. grind (arith, nat_tests, out)) (omega arith) (omega arith) (omega arith)
 

@@ -8,11 +8,11 @@ use Rattle.std.proofs.{
 }
 use Rattle.ports_core.specs.{
   Draft.{Manner, Draft, share, Share, shares_of, draft_part, output_of, with_bytes, with_next},
-  Engine.{CutsOff, EndsWith, EndsThere, IsMet, StandsAt, is_verdict},
+  Engine.{CutsOff, EndsWith, IsMet, StandsAt, is_verdict},
   FileWriter.{Leaves, At, Breaks, CanCount, CanTell, Goes, IsWrite, is_file, manner_in},
   Name.has_name,
   Part.writes,
-  Slot.{Slot, is_writable},
+  Slot.{Effect, effect, Slot, is_writable},
   InTurn.fault_in,
   inner.Shares.SharesBegin,
   declared.fault.Fault.{Fault, TheVariants.{Memory, Write, Open}},
@@ -171,12 +171,12 @@ below {state} {x} piece bytes comes = rw (← comes.is) (rw (append_assoc x _ _,
     (settled_grow state.limit (x ++ take bytes piece) (drop bytes piece)))
 
 -- a fault came on the way
-takes_not : {told : Bool} {state next : PartsState} {taken : List ℕ} {change : Draft → Draft} {are : ℕ × Bool × List ℕ}
-    {old new : List Slot} {f : Fault}
+takes_not : {state next : PartsState} {taken : List ℕ} {change : Draft → Draft} {are : ℕ × Bool × List ℕ}
+    {outs : Effect} {f : Fault}
     → ((x : List ℕ) → Stands state x
     → SharesBegin (shares_of (change (draft_of state.limit x))) (settled_parts state.limit (x ++ taken)))
-    → Moves told state are change old new next (Some f)
-    → Takes told state taken old new next (Some f)
+    → Moves state next are change outs (Some f)
+    → Takes state next taken outs (Some f)
 takes_not {state = state} {taken = taken} {change} begins moves = record {
   limit = moves.limit;
   leaves = moves.goes.leaves;
@@ -202,11 +202,11 @@ abbrev pub taken : ℕ → List ℕ → Option Fault → List ℕ
 taken bytes piece None = take bytes piece
 taken bytes piece (Some f) = piece
 
-module _ {told : Bool} {state next : PartsState} (piece : List ℕ) (bytes : ℕ) {old new : List Slot} where
+module _ {state next : PartsState} (piece : List ℕ) (bytes : ℕ) {outs : Effect} where
   takes_by : (fault : Option Fault) (change : Draft → Draft) {are : ℕ × Bool × List ℕ}
       → ((x : List ℕ) → Stands state x → Comes state x (take bytes piece) (change (draft_of state.limit x)) are)
-      → Moves told state are change old new next fault
-      → Takes told state (taken bytes piece fault) old new next fault
+      → Moves state next are change outs fault
+      → Takes state next (taken bytes piece fault) outs fault
   takes_by None change comes moves = record {
     limit = moves.limit;
     leaves = moves.goes.leaves;
@@ -221,8 +221,9 @@ module _ {told : Bool} {state next : PartsState} (piece : List ℕ) (bytes : ℕ
 
   -- all that is left goes to the part that was begun
   pub goes_on : (fault : Option Fault) (left : ℕ) (has_line : Bool) → LeadsOn state piece (GoesOn bytes left has_line)
-      → Moves told state (left, has_line, []) (with_bytes (state.waiting ++ take bytes piece)) old new next fault
-      → Takes told state (taken bytes piece fault) old new next fault
+      → Moves state next (left, has_line, []) (with_bytes (state.waiting ++ take bytes piece))
+      outs fault
+      → Takes state next (taken bytes piece fault) outs fault
   goes_on fault left has_line leads = takes_by fault _ (λ x stands.
       let led = leads _ stands.lacks in let cut = none_full state x _ led.short in record {
         is = cc (all_of _ stands);
@@ -232,8 +233,8 @@ module _ {told : Bool} {state next : PartsState} (piece : List ℕ) (bytes : ℕ
 
   -- what waits begins the next part
   pub begins_on : (fault : Option Fault) → LeadsOn state piece (Begins bytes)
-      → BeginsNext told state (take bytes piece) old new next fault
-      → Takes told state (taken bytes piece fault) old new next fault
+      → BeginsNext state next (take bytes piece) outs fault
+      → Takes state next (taken bytes piece fault) outs fault
   begins_on fault leads = takes_by fault _ (λ x stands.
       rw stands.waits (turned_so (leads _ stands.lacks)))
 
@@ -246,14 +247,15 @@ module _ {state : PartsState} (piece : List ℕ) (end bytes : ℕ) (leads : Lead
   ends_to x stands = rw (all_of (take end piece) stands) (turned_so (leads (rest_of state x) stands.lacks))
 
   pub ends_stopped : {told : Bool} {mid : PartsState} {old wet : List Slot} {f : Fault}
-      → Extends told state (take end piece) old wet mid (Some f) → Takes told state piece old wet mid (Some f)
+      → Extends state mid (take end piece) (effect told old wet) (Some f)
+      → Takes state mid piece (effect told old wet) (Some f)
   ends_stopped extends = takes_not (λ x stands. still_begins _ _ _ _ (rw (map-append, append_assoc) at (below piece bytes (ends_to x stands))))
       extends
 
   pub ends_on : {told : Bool} {mid next : PartsState} {old wet new : List Slot} (fault : Option Fault) → end ≤ bytes
-      → Extends told state (take end piece) old wet mid None
-      → BeginsNext told mid (take (bytes - end) (drop end piece)) wet new next fault
-      → Takes told state (taken bytes piece fault) old new next fault
+      → Extends state mid (take end piece) (effect told old wet) None
+      → BeginsNext mid next (take (bytes - end) (drop end piece)) (effect told wet new) fault
+      → Takes state next (taken bytes piece fault) (effect told old new) fault
   ends_on {mid = mid} fault low extends turn = takes_by piece bytes fault
       (λ draft. begins_next _ _) ends_to (record {
         limit = turn.limit ∙ extends.limit;
@@ -272,7 +274,7 @@ pub waited : (told : Bool) (state next : PartsState) (piece : List ℕ) (slots :
     → 0 < length piece → LeadsOn state piece Waits
     → IsReady state slots → IfOk result (λ n. n ≡ length piece)
     → OnOk result (next ≡ record state { left = state.left - length piece; waiting = state.waiting ++ piece })
-    → IfErr result (λ f. (f ≡ Memory) × (next ≡ state)) → TakesStretch told state piece slots slots next result
+    → IfErr result (λ f. (f ≡ Memory) × (next ≡ state)) → TakesStretch state next piece (effect told slots slots) result
 waited told state next piece slots (Ok n) some leads ready count waits err = grind (arith, common_steps, takes_by, take-length, none_full, goes_still)
 -- there is no room for it
 waited told state next piece slots (Err f) some leads ready count waits err =
@@ -283,13 +285,13 @@ waited told state next piece slots (Err f) some leads ready count waits err =
 -- A piece is taken in step by step.
 
 pub takes_none : (told : Bool) (state : PartsState) {slots : List Slot} → IsReady state slots
-    → Takes told state [] slots slots state None
+    → Takes state state [] (effect told slots slots) None
 takes_none told state ready = search rules
 
 pub takes_again : {told : Bool} {state mid next : PartsState} (first more : List ℕ) {old wet new : List Slot}
     (fault : Option Fault)
-    → Takes told state first old wet mid None → Takes told mid more wet new next fault
-    → Takes told state (first ++ more) old new next fault
+    → Takes state mid first (effect told old wet) None → Takes mid next more (effect told wet new) fault
+    → Takes state next (first ++ more) (effect told old new) fault
 takes_again {state = state} {mid} first more fault one other = record {
   limit = other.limit ∙ one.limit;
   leaves = leaves_again one.leaves other.leaves;
@@ -307,8 +309,8 @@ takes_again {state = state} {mid} first more fault one other = record {
   all_of_mid : (x : List ℕ) → settled_part mid ((x ++ first) ++ more) ≡ settled_part state (x ++ (first ++ more))
   all_of_mid x = rw (append_assoc x first more) (as_mid _)
 
-pub still_ready : {told : Bool} {state next : PartsState} {bytes : List ℕ} {old new : List Slot} → IsReady state old
-    → Takes told state bytes old new next None → IsReady next new
+pub still_ready : {state next : PartsState} {bytes : List ℕ} {outs : Effect} → IsReady state outs.old
+    → Takes state next bytes outs None → IsReady next outs.new
 still_ready ready takes = grind arith
 
 -- The end of the input
@@ -321,7 +323,7 @@ no_rest state x none = by _ (settled_some _ _) where
   by (byte ∷ rest) some = absurd (omega (arith, ap length none))
 
 pub finishes_none : (told : Bool) (state : PartsState) {slots : List Slot} → IsReady state slots
-    → false ≡ is_file state.writer.current → Finishes told state slots slots state None
+    → false ≡ is_file state.writer.current → Finishes state state (effect told slots slots) None
 finishes_none told state ready none = grind (arith, no_rest, append-nil)
 
 -- what waits is written, and then the part has all that is left
@@ -331,9 +333,9 @@ closes state draft = with_next Never (with_bytes state.waiting draft)
 pub some_broke : (result : Result (Unit {0}) Fault) → IfErr result IsWrite → IfSome (fault_in result) IsWrite
 some_broke result broke = search rules
 
-pub closed_so : {told : Bool} {state next : PartsState} {old new : List Slot} (fault : Option Fault)
-    → next.limit ≡ state.limit → Goes told state.writer (closes state) old new next.writer fault
-    → IfSome fault IsWrite → Finishes told state old new next fault
+pub closed_so : {state next : PartsState} {outs : Effect} (fault : Option Fault)
+    → next.limit ≡ state.limit → Goes state.writer next.writer (closes state) outs fault
+    → IfSome fault IsWrite → Finishes state next outs fault
 closed_so {state = state} fault limit goes broke = record {
   limit = limit;
   leaves = goes.leaves;
@@ -368,8 +370,8 @@ at_writer : {told : Bool} {before : List Slot} {state : PartsState} {x : List �
 at_writer at = search rules
 
 module _ (told : Bool) (state next : PartsState) (piece : List ℕ) (old new : List Slot) where
-  cut_off : (f : Fault) → Takes told state piece old new next (Some f)
-      → CutsOff ways.terms (way.Parts state) (λ x. (work state).settled (x ++ piece)) told old new f
+  cut_off : (f : Fault) → Takes state next piece (effect told old new) (Some f)
+      → CutsOff ways.terms (way.Parts state) (λ x. (work state).settled (x ++ piece)) (effect told old new) f
   cut_off (fault_is.Verdict Suffixes) stop before x at = engine.judged refl new ((stop.short refl x at.holds).all before (at_writer at)) refl
   cut_off Memory stop before x at = grind (arith, stopped_in_turn, has_told)
   cut_off (Write slot) stop before x at = grind (arith, stopped_in_turn, has_told)
@@ -377,9 +379,9 @@ module _ (told : Bool) (state next : PartsState) (piece : List ℕ) (old new : L
   cut_off f stop before x at = absurd stop.leaves.slots
 
   pub passes_by : (result : Result (Unit {0}) Fault) → IsReady state old
-      → Takes told state piece old new next (fault_in result)
-      → engine.Passes ways.terms told piece (way.Parts state) (way.Parts next) old new
-      (engine.IsMetWith ways.terms piece (way.Parts state)) result
+      → Takes state next piece (effect told old new) (fault_in result)
+      → engine.Passes ways.terms piece (way.Parts state) (way.Parts next)
+      (effect told old new) (engine.IsMetWith ways.terms piece (way.Parts state)) result
   passes_by (Ok done) ready takes = grind arith
   passes_by (Err f) ready takes =
       let cut = cut_off f takes in
@@ -392,9 +394,9 @@ module _ (told : Bool) (state next : PartsState) (piece : List ℕ) (old new : L
 -- the end
 
 pub finishes_by : (told : Bool) (state next : PartsState) (old new : List Slot) (result : Result (Unit {0}) Fault)
-    → IsReady state old → Finishes told state old new next (fault_in result)
-    → engine.Finishes ways.terms told (way.Parts state) (way.Parts next) old new
-    (engine.IsMetThere ways.terms (way.Parts state)) result
+    → IsReady state old → Finishes state next (effect told old new) (fault_in result)
+    → engine.Finishes ways.terms (way.Parts state) (way.Parts next)
+    (effect told old new) (engine.IsMetThere ways.terms (way.Parts state)) result
 finishes_by told state next old new (Ok done) ready ends = grind (arith, all_have_names)
 finishes_by told state next old new (Err f) ready ends =
     grind (arith, common_steps, work_by, filing_same, stopped_in_turn, has_told, at_writer)

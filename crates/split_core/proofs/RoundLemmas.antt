@@ -14,7 +14,7 @@ use Rattle.seg_core.{
 }
 use Rattle.ports_core.specs.{
   Name.{Naming, has_name},
-  Slot.Slot,
+  Slot.{Effect, Slot, effect},
   Part.{OutputsAt, StoppedBetween, gets_bytes, nothing},
   Work.{Judges, Work},
   declared.verdict.Verdict.TheVariants.Suffixes,
@@ -32,7 +32,7 @@ use Rattle.split_core.specs.{
   inner.CutLaws.named,
   inner.Dealt.{dealt_first, reached_by, share_of},
   inner.Ways.{EndsAs, PassesAs, held},
-  inner.Sharing.{file_at, always_named, part_by, all_open, closed_first, StandAt, Adds, Opens, ClosesAll, HaveClosed},
+  inner.Sharing.{file_at, always_named, part_by, all_open, closed_first, StandAt, Adds, Opens, ClosesAll},
   Split.{Filing, share, manner_of, are_named, is_verbose, output_by, dealt_files, settled_by, is_short, has_bytes},
   Split.{split_work, bytes_in},
   FilesState.{FilesState, filing_in},
@@ -40,7 +40,6 @@ use Rattle.split_core.specs.{
   Round.{round_plan, round_work, work, opened_by, Holds},
   declared.splitter.Splitter.Splitter,
   ChunkerState.ChunkerState,
-  PartsState.{PartsState, Stands},
 }
 use Rattle.split_core.proofs.{
   AlikeLemmas.{complete_as, verdict_as, waiting_as},
@@ -83,7 +82,7 @@ all_by filing n start (suc count) state f are few = cc (
 
 module _ (delim : ℕ) (filing : Filing) (elide : Bool) (n : ℕ) (x : List ℕ) (are : are_named filing.names n ≡ true) where
   filed_are : (state : State) {count : ℕ} → count ≡ opened_by delim elide n x
-      → part_by filing (λ i. share state (share_of delim n x i)) count
+      → part_by filing (record { count = count; at = λ i. share state (share_of delim n x i) })
       ≡ part_of (manner_of filing) (map (share state) (dealt_files delim elide n x))
   filed_are state is = search (rules, common_steps, dealt_files_are, all_by)
 
@@ -130,7 +129,7 @@ share_after delim n x y some i =
 -- what of a text the stage has written
 stands_is : {round : RoundState} {x : List ℕ} → Holds round x → (y : List ℕ) {count : ℕ}
     → count ≡ opened_by round.delim round.elide round.count y
-    → part_by (filing_in round.files) (all_open (share_of round.delim round.count y)) count ≡ (work round).settled y
+    → part_by (filing_in round.files) (all_open (share_of round.delim round.count y) count) ≡ (work round).settled y
 stands_is {round} holds y is = search (rules, filed_are)
 
 stand_at : {told : Bool} {round : RoundState} {before : List Slot} {x : List ℕ} {now : List Slot}
@@ -146,10 +145,10 @@ count_is piece holds = search (rules, length-map-range_with_len, opened_after)
 pub passes_at : (told : Bool) (round : RoundState) (piece : List ℕ) {place : ℕ} {next : FilesState}
     {before after : List Slot} (result : Result (Unit {0}) Fault)
     → OnOk result (place ≡ (round.next + delimiters round.delim piece) % round.count)
-    → Adds told round.files (λ i. get_or (dealt_first round.delim round.count round.next piece) i []) 0
-    (length (dealt_first round.delim round.count round.next piece)) before next after result
-    → PassesAs told (way.Round round) piece before after (way.Round (record round { files = next; next = place }))
-    result
+    → Adds round.files next (λ i. get_or (dealt_first round.delim round.count round.next piece) i []) 0
+    (length (dealt_first round.delim round.count round.next piece)) (effect told before after) result
+    → PassesAs (way.Round round) (way.Round (record round { files = next; next = place })) piece
+    (effect told before after) result
 passes_at told round piece (Ok u) is adds = record {
   same = cc adds.filing;
   size = omega arith;
@@ -175,7 +174,7 @@ passes_at told round piece {before = before} {after} (Err why) is adds =
       cut = λ start x at. cut (part.unjudged (always_named tells) before after why adds.caused lacks)
           (rw (stands_is at.holds x at.holds.opened, stands_is at.holds (x ++ piece) (count_is piece at.holds)) at
           ((adds.leaves start _ (share_of round.delim round.count (x ++ piece)) (stand_at at)
-          (λ i. rw at.holds.next (share_after round.delim round.count x piece at.holds.some i))).stops _ _ _ _ 0 grow_same grow_same));
+          (λ i. rw at.holds.next (share_after round.delim round.count x piece at.holds.some i))).stops _ _ 0 grow_same grow_same));
       met = part.met_files false _ _ (EndsWith ways.terms piece (way.Round round)) (always_named tells) tells
           before after why (refl, refl) refl refl adds.caused (λ is. absurd (lacks is));
     }
@@ -183,27 +182,25 @@ passes_at told round piece {before = before} {after} (Err why) is adds =
 -- The end
 
 closed_part : {round : RoundState} {x : List ℕ} → Holds round x
-    → part_by (filing_in round.files) (closed_first (length round.files.outputs) (share_of round.delim round.count x))
-    (length round.files.outputs) ≡ (work round).whole x
+    → part_by (filing_in round.files) (closed_first (length round.files.outputs) (share_of round.delim round.count x)
+    (length round.files.outputs)) ≡ (work round).whole x
 closed_part {round} {x} holds =
     let n = length round.files.outputs in let has = share_of round.delim round.count x in let filing = filing_in round.files in
     ap (part_with (output_by filing.verbose))
-    (map_same (λ i. file_at filing i (closed_first n has i)) (λ i. file_at filing i (share Closed (has i))) 0 n
+    (map_same (λ i. file_at filing i ((closed_first n has n).at i)) (λ i. file_at filing i (share Closed (has i))) 0 n
     (λ i low high. grind (arith, nat_tests)))
     ∙ filed_are round.delim filing round.elide round.count x holds.named Closed holds.opened
 
 -- once all files are closed, the outputs have the whole
-whole_closed : {told : Bool} {round : RoundState} {old new : List Slot}
-    → HaveClosed told round.files (length round.files.outputs) old new
-    → PutsOut ways.terms (way.Round round) (work round).whole told old new
-whole_closed {told} {new = new} closed before x at =
-    subst (λ part. OutputsAt told before part new) (closed_part at.holds) (closed before _ (stand_at at))
+whole_closed : {round : RoundState} {outs : Effect} → ClosesAll round.files outs (Ok tt)
+    → PutsOut ways.terms (way.Round round) (work round).whole outs
+whole_closed {outs = outs} closes before x at =
+    subst (λ part. OutputsAt outs.told before part outs.new) (closed_part at.holds) (closes.leaves before _ (stand_at at))
 
-pub finishes_by : (told : Bool) (round : RoundState) (old new : List Slot) (result : Result (Unit {0}) Fault)
-    → ClosesAll told round.files old new result
-    → EndsAs told (way.Round round) old new (way.Round round) result
-finishes_by told round old new (Ok u) closes = search (rules, closes, whole_closed, part.told_writable)
-finishes_by told round old new (Err why) closes = record {
+pub finishes_by : (round : RoundState) {outs : Effect} (result : Result (Unit {0}) Fault)
+    → ClosesAll round.files outs result → EndsAs (way.Round round) (way.Round round) outs result
+finishes_by round (Ok u) closes = search (rules, closes, whole_closed, part.told_writable)
+finishes_by round {outs} (Err why) closes = record {
   same = refl;
   size = omega arith;
   well = tt;
@@ -212,8 +209,9 @@ finishes_by told round old new (Err why) closes = record {
   owns = closes.owned;
   there = λ are. tt;
   cut = λ before x at. cut (ap is_verdict closes.caused.1)
-      (rw (stands_is at.holds x at.holds.opened, closed_part at.holds) at (closes.cut before _ (stand_at at)));
-  met = part.met_closing (is_verbose round.files.tells) (EndsThere ways.terms (way.Round round)) old new closes.caused;
+      (rw (stands_is at.holds x at.holds.opened, closed_part at.holds) at
+      ((closes.leaves before _ (stand_at at)).stops _ _ 0 grow_same grow_same));
+  met = part.met_closing (is_verbose round.files.tells) (EndsThere ways.terms (way.Round round)) outs.old outs.new closes.caused;
 }
 
 -- The start
@@ -235,17 +233,17 @@ starts_with delim elide n is = grind (arith, nat_tests)
 module _ {told : Bool} (names : Naming) (tells : Tells) (delim : ℕ) (elide : Bool) (n : ℕ) {count : ℕ}
     {files next : FilesState} {before old new : List Slot} (is : files ≡ no_files names tells)
     (are : are_named names n ≡ true) (counted : count ≡ cond elide 0 n) (at : OutputsAt told before nothing old) where
-  pub opens_so : Opens told files 0 count old next new (Ok tt)
+  pub opens_so : Opens files next 0 count (effect told old new) (Ok tt)
       → OutputsAt told before (settled_by (round_plan delim n elide (filing_in (no_files names tells))) []) new
   opens_so opens = let made = filed_are delim (filing_in (no_files names tells)) elide n [] are Open (starts_with delim elide n counted) in
       rw made at ((rw is at opens).adds.leaves before _ (λ i. []) (starts_at names tells at) (λ i. refl))
 
-  pub opens_cut : {why : Fault} → Opens told files 0 count old next new (Err why)
+  pub opens_cut : {why : Fault} → Opens files next 0 count (effect told old new) (Err why)
       → StoppedBetween (output_by (is_verbose tells)) told before nothing
       (settled_by (round_plan delim n elide (filing_in (no_files names tells))) []) why new
   opens_cut opens = let made = filed_are delim (filing_in (no_files names tells)) elide n [] are Open (starts_with delim elide n counted) in
       rw (nothing_part (output_by (is_verbose tells)), made) at
-      (((rw is at opens).adds.leaves before _ (λ i. []) (starts_at names tells at) (λ i. refl)).stops _ _ _ _ 0 grow_same grow_same)
+      (((rw is at opens).adds.leaves before _ (λ i. []) (starts_at names tells at) (λ i. refl)).stops _ _ 0 grow_same grow_same)
 
 -- if all files have names, the work is what was asked for
 pub does_all : (delim : ℕ) (filing others : Filing) (elide : Bool) (n : ℕ) → are_named filing.names n ≡ true

@@ -10,7 +10,7 @@ use Rattle.ports_core.specs.{
   Draft.{Draft, Manner, draft_part, made_of, with_bytes, with_next},
   FileWriter.{At, Goes, IsCurrent, IsReady, IsWrite, KeepsOrBreaks, Leaves, Writes, WriterState, is_file},
   Part.{Begins, FilesBegin, Output, OutputsAt, Part, gets_bytes, only_out},
-  Slot.{Slot, is_writable},
+  Slot.{Effect, effect, Slot, is_writable},
   Write.BrokeAfter,
   inner.Write.Wrote,
   InTurn.{IsThere, StoppedInTurn, fault_in},
@@ -45,20 +45,20 @@ use Rattle.ports_core.specs.inner.Write as short
 -- The files
 
 -- names run out for what is begun alone, and a draft that ends late has none there
-pub files_go : {told : Bool} {writer next : WriterState} {change : Draft → Draft} {old new : List Slot}
+pub files_go : {writer next : WriterState} {change : Draft → Draft} {outs : Effect}
     {fault : Option Fault}
     → ((manner : Manner) (draft : Draft) → Writes manner writer draft
     → manner.has_name (length (change draft).ended) ≡ false
     → made_of (change draft).opening (change draft).bytes ≡ (change draft).bytes ∷ []
     → manner.has_name (length draft.ended) ≡ false)
-    → Goes told writer change old new next fault → Files told writer change old new next fault
+    → Goes writer next change outs fault → Files writer next change outs fault
 files_go {fault = fault} named goes = grind (arith, common_steps)
 
 -- the same change in other words
-pub files_as : {told : Bool} {writer next : WriterState} {change other : Draft → Draft} {old new : List Slot}
+pub files_as : {writer next : WriterState} {change other : Draft → Draft} {outs : Effect}
     {fault : Option Fault}
     → ((draft : Draft) → IsCurrent writer.tells draft.opening draft.bytes writer.current → change draft ≡ other draft)
-    → Files told writer change old new next fault → Files told writer other old new next fault
+    → Files writer next change outs fault → Files writer next other outs fault
 files_as {next = next} {fault = fault} same files = record {
   leaves = files.leaves;
   reaches = λ manner draft writes. reaches_as refl (ap (draft_part manner) (sym (same draft writes.current))) (files.reaches manner draft writes);
@@ -70,8 +70,8 @@ pub files_again : {told : Bool} {one two three : WriterState} {first second : Dr
     {old mid new : List Slot} {fault : Option Fault} → ((draft : Draft) → second (first draft) ≡ both draft)
     → ((manner : Manner) (draft : Draft) → Begins (draft_part manner draft) (draft_part manner (first draft)))
     → IfSome fault (λ why. why ≡ Verdict Suffixes → (manner : Manner) (draft : Draft) → Writes manner two draft → ⊥)
-    → Files told one first old mid two None → Files told two second mid new three fault
-    → Files told one both old new three fault
+    → Files one two first (effect told old mid) None → Files two three second (effect told mid new) fault
+    → Files one three both (effect told old new) fault
 files_again {told} {three = three} {first} {second} both {new = new} {fault} is begins never before after = record {
   leaves = leaves_again before.leaves after.leaves;
   reaches = λ manner draft writes. reaches_again (begins manner draft) (before.reaches manner draft writes)
@@ -81,10 +81,11 @@ files_again {told} {three = three} {first} {second} both {new = new} {fault} is 
       (more manner (first draft) (before.writes manner draft writes)));
 }
 
-pub files_wider : {told : Bool} {writer next : WriterState} {low : Draft → Draft} (high : Draft → Draft)
-    {old new : List Slot} {fault : Fault}
+pub files_wider : {writer next : WriterState} {low : Draft → Draft} (high : Draft → Draft)
+    {outs : Effect} {fault : Fault}
     → ((manner : Manner) (draft : Draft) → Begins (draft_part manner (low draft)) (draft_part manner (high draft)))
-    → Files told writer low old new next (Some fault) → Files told writer high old new next (Some fault)
+    → Files writer next low outs (Some fault)
+    → Files writer next high outs (Some fault)
 files_wider high begins stopped = record {
   leaves = stopped.leaves;
   reaches = λ manner draft writes. stops_wider (stopped.reaches manner draft writes) (begins manner draft);
@@ -100,9 +101,10 @@ none_made tells opening bytes Due none now = rw (now.0, now.1) refl
 none_made tells opening bytes (File slot size) none now = absurd (cc)
 none_made tells opening bytes Unopened none now = absurd now
 
-pub emptied : {told : Bool} {writer next : WriterState} (elide : Bool) {old new : List Slot} {fault : Option Fault}
+pub emptied : {writer next : WriterState} (elide : Bool) {outs : Effect} {fault : Option Fault}
     → elide ≡ false → is_file writer.current ≡ false
-    → Goes told writer (with_next AtOnce) old new next fault → Files told writer (empties_by elide) old new next fault
+    → Goes writer next (with_next AtOnce) outs fault
+    → Files writer next (empties_by elide) outs fault
 emptied {writer = writer} elide kept none goes = rw kept (files_as
     (λ draft now. let is = none_made _ _ _ _ none now in sym (ap (λ made. begun_by made draft) is))
     (files_go (λ manner draft writes nameless begun. let is = none_made _ _ _ _ none writes.current in
@@ -121,15 +123,16 @@ empties_begin false manner draft = by (made_of draft.opening draft.bytes) where
   by (file ∷ files) = part_begins_itself _
 
 pub file_ends : {told : Bool} {writer mid next : WriterState} (elide : Bool) {old between new : List Slot}
-    {fault : Option Fault} → Files told writer (empties_by elide) old between mid None
-    → Goes told mid (with_next Late) between new next fault → Files told writer (ends_by elide) old new next fault
+    {fault : Option Fault} → Files writer mid (empties_by elide) (effect told old between) None
+    → Goes mid next (with_next Late) (effect told between new) fault
+    → Files writer next (ends_by elide) (effect told old new) fault
 file_ends elide {fault = fault} emptied goes = files_again (ends_by elide) (late_after elide) (λ manner draft. empties_begin elide manner draft)
     (where_short fault goes.short (λ ran manner draft writes. let none : [] ≡ [] ∷ [] = (ran manner draft writes).begun in cc)) emptied
     (files_go (λ manner draft writes nameless none. absurd (cc)) goes)
 
-pub file_stops : {told : Bool} {writer next : WriterState} (elide : Bool) {old new : List Slot} {fault : Fault}
-    → Files told writer (empties_by elide) old new next (Some fault)
-    → Files told writer (ends_by elide) old new next (Some fault)
+pub file_stops : {writer next : WriterState} (elide : Bool) {outs : Effect} {fault : Fault}
+    → Files writer next (empties_by elide) outs (Some fault)
+    → Files writer next (ends_by elide) outs (Some fault)
 file_stops elide stopped = files_wider (ends_by elide)
     (λ manner draft. subst (λ high. Begins (draft_part manner (empties_by elide draft)) (draft_part manner high))
     (late_after elide draft) (next_begins manner Late (empties_by elide draft))) stopped
@@ -155,18 +158,19 @@ of_files : (filing : Filing) (elide : Bool) (fault : Option Fault) → IfSome fa
 of_files filing elide None = tt
 of_files filing elide (Some why) = tt
 
-module _ {told : Bool} {writer next : WriterState} {elide : Bool} {change : Draft → Draft} {old new : List Slot}
-    (fault : Option Fault) (ready : IsReady writer old × TellsNoSizes writer.tells)
-    (files : Files told writer change old new next fault) where
-  stays_files : Stays (in_files (filing_by writer) elide) (to_files writer elide) (to_files next elide) old new fault
+module _ {writer next : WriterState} {elide : Bool} {change : Draft → Draft} {outs : Effect}
+    (fault : Option Fault) (ready : IsReady writer outs.old × TellsNoSizes writer.tells)
+    (files : Files writer next change outs fault) where
+  stays_files : Stays (in_files (filing_by writer) elide) (to_files writer elide)
+      (to_files next elide) outs.old outs.new fault
   stays_files = grind (arith, common_steps, filing_same, slots_as, of_files, where_well)
 
   brings_files : (cut : CutUp) {high : Part} → Writes (manner_of (filing_by writer)) writer (draft_by elide cut)
       → draft_part (manner_of (filing_by writer)) (change (draft_by elide cut)) ≡ high
       → ((manner : Manner) (draft : Draft) → Begins (draft_part manner draft) (draft_part manner (change draft)))
       → IfSome fault (λ why. why ≡ Verdict Suffixes → ⊥)
-      → Brings told (in_files (filing_by writer) elide) (to_files writer elide) (to_files next elide)
-      (part_on (in_files (filing_by writer) elide) cut) high old new fault
+      → Brings (in_files (filing_by writer) elide) (to_files writer elide) (to_files next elide)
+      (part_on (in_files (filing_by writer) elide) cut) high outs fault
   brings_files cut has is begins named = search (rules, at_aim)
 
   -- all chunks have names
@@ -180,8 +184,8 @@ module _ {told : Bool} {writer next : WriterState} {elide : Bool} {change : Draf
       → ((cut : CutUp) → change (draft_by elide cut) ≡ draft_by elide (changes cut))
       → ((manner : Manner) (draft : Draft) → Begins (draft_part manner draft) (draft_part manner (change draft)))
       → ((cut : CutUp) → length cut.full ≡ place → length (changes cut).full ≡ later)
-      → Changes told (record { place = place; aim = to_files writer elide }) changes old new
-      (record { place = later; aim = to_files next elide }) fault
+      → Changes (record { place = place; aim = to_files writer elide })
+      (record { place = later; aim = to_files next elide }) changes outs fault
   files_changed {place} changes is begins placed = record {
     stays = stays_files;
     gives = λ cut has. record {
@@ -196,11 +200,11 @@ module _ {told : Bool} {writer next : WriterState} {elide : Bool} {change : Draf
 
 -- more bytes
 
-pub files_put : {told : Bool} {writer next : WriterState} {elide : Bool} {place : ℕ} (bytes : List ℕ)
-    {old new : List Slot} (fault : Option Fault)
-    → IsReady writer old × TellsNoSizes writer.tells → Goes told writer (with_bytes bytes) old new next fault
-    → Changes told (record { place = place; aim = to_files writer elide }) (with_rest bytes) old new
-    (record { place = place; aim = to_files next elide }) fault
+pub files_put : {writer next : WriterState} {elide : Bool} {place : ℕ} (bytes : List ℕ)
+    {outs : Effect} (fault : Option Fault)
+    → IsReady writer outs.old × TellsNoSizes writer.tells → Goes writer next (with_bytes bytes) outs fault
+    → Changes (record { place = place; aim = to_files writer elide })
+    (record { place = place; aim = to_files next elide }) (with_rest bytes) outs fault
 files_put bytes fault ready goes = files_changed fault ready (files_go (λ manner draft writes nameless begun. nameless) goes)
     (with_rest bytes) (λ cut. refl) (λ manner draft. bytes_begin manner bytes draft) (λ cut placed. placed)
 
@@ -215,11 +219,11 @@ pub ends_begin : (elide : Bool) (manner : Manner) (draft : Draft)
 ends_begin elide manner draft = subst (λ high. Begins (draft_part manner draft) (draft_part manner high)) (late_after _ _)
     (part_trans _ _ _ (empties_begin elide manner draft) (next_begins manner Late (empties_by elide draft)))
 
-pub files_next : {told : Bool} {writer next : WriterState} {elide : Bool} {place : ℕ} {old new : List Slot}
+pub files_next : {writer next : WriterState} {elide : Bool} {place : ℕ} {outs : Effect}
     (fault : Option Fault)
-    → IsReady writer old × TellsNoSizes writer.tells → Files told writer (ends_by elide) old new next fault
-    → Changes told (record { place = place; aim = to_files writer elide }) with_full old new
-    (record { place = place + 1; aim = to_files next elide }) fault
+    → IsReady writer outs.old × TellsNoSizes writer.tells → Files writer next (ends_by elide) outs fault
+    → Changes (record { place = place; aim = to_files writer elide })
+    (record { place = place + 1; aim = to_files next elide }) with_full outs fault
 files_next {elide = elide} fault ready files = files_changed fault ready files with_full (ends_full elide) (ends_begin elide)
     (λ cut placed. length-append cut.full (cut.rest ∷ []) ∙ ap (λ n. n + 1) placed)
 
@@ -234,12 +238,12 @@ unnamed : (result : Result (Unit {0}) Fault) → IfErr result IsWrite
 unnamed (Ok done) broke = tt
 unnamed (Err why) broke = grind (arith, common_steps)
 
-pub files_end : {told : Bool} {writer next : WriterState} {elide : Bool} {place : ℕ} {old new : List Slot}
+pub files_end : {writer next : WriterState} {elide : Bool} {place : ℕ} {outs : Effect}
     (result : Result (Unit {0}) Fault)
-    → IsReady writer old × TellsNoSizes writer.tells → IfErr result IsWrite
-    → Goes told writer (with_next Never) old new next (fault_in result)
-    → EndsAll told (record { place = place; aim = to_files writer elide }) old new
-    (record { place = place; aim = to_files next elide }) (fault_in result)
+    → IsReady writer outs.old × TellsNoSizes writer.tells → IfErr result IsWrite
+    → Goes writer next (with_next Never) outs (fault_in result)
+    → EndsAll (record { place = place; aim = to_files writer elide })
+    (record { place = place; aim = to_files next elide }) outs (fault_in result)
 files_end {writer = writer} {elide = elide} result ready broke goes =
     let files = files_go (λ manner draft writes nameless begun. absurd (cc)) goes in record {
       stays = stays_files _ ready files;
@@ -298,8 +302,8 @@ out_slots told chunk more old new (Some _) can (short.broke n cut) = grind (arit
 
 pub output_put : {told : Bool} {chunk place : ℕ} (bytes : List ℕ) {old new : List Slot} (fault : Option Fault)
     → IsTrue (is_writable old 0) → Wrote told 0 (cond (eqb chunk place) bytes []) old new fault
-    → Changes told (record { place = place; aim = to_output chunk }) (with_rest bytes) old new
-    (record { place = place; aim = to_output chunk }) fault
+    → Changes (record { place = place; aim = to_output chunk }) (record { place = place; aim = to_output chunk })
+    (with_rest bytes) (effect told old new) fault
 output_put {told} {chunk} {place} bytes {old} {new} fault can wrote = let so = out_slots told chunk _ old new fault can wrote in record {
   stays = record {
     course = refl;
@@ -335,12 +339,12 @@ pub stays_none : {aim : AimState} {slots : List Slot} → IsAimed aim slots
 stays_none ready = grind (arith, common_steps)
 
 pub brings_none : {told : Bool} {on : Course} {aim : AimState} {part : Part} {slots : List Slot}
-    → Brings told on aim aim part part slots slots None
+    → Brings on aim aim part part (effect told slots slots) None
 brings_none = record { named = tt; begins = part_begins_itself _; reaches = λ before at. at }
 
 pub output_next : {told : Bool} {chunk place : ℕ} {slots : List Slot} → IsTrue (is_writable slots 0)
-    → Changes told (record { place = place; aim = to_output chunk }) with_full slots slots
-    (record { place = place + 1; aim = to_output chunk }) None
+    → Changes (record { place = place; aim = to_output chunk })
+    (record { place = place + 1; aim = to_output chunk }) with_full (effect told slots slots) None
 output_next {chunk = chunk} can = grind (arith, common_steps, stays_none, piece_full, brings_none, length-append)
 
 -- One after another
@@ -356,14 +360,15 @@ module _ {on : Course} {old mid new : List Slot} {fault : Option Fault} where
   stays_then first second = grind (arith, common_steps, slots_again, where_well)
 
   pub brings_then : {told : Bool} {one two three : AimState} {low middle high : Part}
-      → Brings told on one two low middle old mid None → Brings told on two three middle high mid new fault
-      → Brings told on one three low high old new fault
+      → Brings on one two low middle (effect told old mid) None
+      → Brings on two three middle high (effect told mid new) fault
+      → Brings on one three low high (effect told old new) fault
   brings_then {told} first second = grind (arith, common_steps, part_trans, there_from)
 
 -- a call that was stopped was stopped on its way to more
-pub brings_wider : {told : Bool} {on : Course} {aim next : AimState} {low middle high : Part} {old new : List Slot}
-    {why : Fault} → Begins middle high → Brings told on aim next low middle old new (Some why)
-    → Brings told on aim next low high old new (Some why)
+pub brings_wider : {on : Course} {aim next : AimState} {low middle high : Part} {outs : Effect}
+    {why : Fault} → Begins middle high → Brings on aim next low middle outs (Some why)
+    → Brings on aim next low high outs (Some why)
 brings_wider wider brings = record {
   named = brings.named;
   begins = part_trans _ _ _ brings.begins wider;

@@ -8,7 +8,7 @@ use Rattle.seg_core.{proofs.Delimiters.delimiters-append, specs.Line.{delimiters
 use Rattle.ports_core.{
   specs.{
     Engine.{cut},
-    Slot.{Slot, is_writable},
+    Slot.{effect, Slot, is_writable},
     InTurn.fault_in,
     inner.Write.Wrote,
     declared.fault.Fault.{Fault, TheVariants.Memory},
@@ -52,22 +52,22 @@ went_out {turn} {x} piece holds = grind (arith, dealt_append, dealt_same)
 pub passes_at : (told : Bool) (turn : TurnState) (piece : List ℕ) {before after : List Slot}
     (result : Result (Unit {0}) Fault) → IsTrue (is_writable before 0)
     → Wrote told 0 (due turn piece) before after (fault_in result)
-    → PassesAs told (way.Turn turn) piece before after (way.Turn (passed turn piece)) result
+    → PassesAs (way.Turn turn) (way.Turn (passed turn piece)) piece (effect told before after) result
 passes_at told turn piece {before} {after} (Ok u) can wrote =
-    let outputs : PutsOut ways.terms (way.Turn turn) (λ x. (work turn).settled (x ++ piece)) told before after =
+    let outputs : PutsOut ways.terms (way.Turn turn) (λ x. (work turn).settled (x ++ piece)) (effect told before after) =
     λ start x at. rw (went_out _ at.holds) at (out_more _ _ _ _ _ _ at.outputs wrote) in
     let ready = written_writable _ _ 0 0 _ can wrote in grind (arith, mod-add-mod, delimiters-append)
 passes_at told turn piece {before} {after} (Err why) can (short.broke n broke) =
-    let cuts : CutsOff ways.terms (way.Turn turn) (λ x. (work turn).settled (x ++ piece)) told before after why =
+    let cuts : CutsOff ways.terms (way.Turn turn) (λ x. (work turn).settled (x ++ piece)) (effect told before after) why =
     λ start x at. cut refl (rw (went_out _ at.holds) at (out_cut _ _ _ _ _ _ n at.outputs broke)) in
     let rose = write_rose _ 0 _ n _ _ can broke in grind (arith, common_steps)
 
 -- there was no room for it
 pub lacks_room : {told : Bool} (turn : TurnState) (next : ℕ) (piece : List ℕ) {slots : List Slot}
-    → PassesAs told (way.Turn turn) piece slots slots (way.Turn (record turn { next = next })) (Err Memory)
+    → PassesAs (way.Turn turn) (way.Turn (record turn { next = next })) piece (effect told slots slots) (Err Memory)
 lacks_room turn next piece = passes_lacking (way.Turn turn) _ piece refl (omega arith) (λ first own. tt) refl
 
 -- At the end nothing is left to be written.
 pub finishes_by : (told : Bool) (turn : TurnState) (slots : List Slot) → IsTrue (is_writable slots 0)
-    → EndsAs told (way.Turn turn) slots slots (way.Turn turn) (Ok tt)
+    → EndsAs (way.Turn turn) (way.Turn turn) (effect told slots slots) (Ok tt)
 finishes_by told turn slots can = grind arith

@@ -14,7 +14,7 @@ use Rattle.std.proofs.{
 use Rattle.ports_core.{
   specs.{
     Part.Begins,
-    Slot.Slot,
+    Slot.{Effect, Slot, effect},
     declared.{fault.Fault.Fault, file_writer.Opening.TheVariants.Never},
     InTurn.fault_in,
   },
@@ -71,7 +71,7 @@ still_all cutter waiting end z (has, all) (inr stops) = grind (arith, common_ste
 pub settles_none : {told : Bool} {cutter : CutterState} {waiting : List ℕ} {end : ℕ} {slots : List Slot}
     → IsAimed cutter.sink.aim slots
     → (length waiting ≡ 0) ⊎ (false ≡ (nat_lt cutter.at end || cutter.is_within))
-    → Settles told cutter waiting end slots slots cutter waiting None
+    → Settles cutter cutter waiting waiting end (effect told slots slots) None
 settles_none {cutter = cutter} {waiting} {end} ready ends = record {
   chunks = refl;
   bound = omega arith;
@@ -83,15 +83,16 @@ settles_none {cutter = cutter} {waiting} {end} ready ends = record {
 module _ {told : Bool} {cutter : CutterState} (waiting : List ℕ) (end : ℕ) {old : List Slot}
     (short : true ≡ (nat_lt cutter.at end || cutter.is_within)) where
   gives_on : {next : SinkState} {new : List Slot} {fault : Option Fault}
-      → Changes told cutter.sink (with_rest (cut_to cutter end waiting)) old new next fault → (z : List ℕ)
+      → Changes cutter.sink next (with_rest (cut_to cutter end waiting)) (effect told old new) fault → (z : List ℕ)
       → BeginsBefore cutter end z
-      → Gives told (course cutter) cutter.sink next (uncut z) (uncut (all_before cutter waiting end z)) old new fault
+      → Gives (course cutter) cutter.sink next (uncut z) (uncut (all_before cutter waiting end z))
+      (effect told old new) fault
   gives_on changes z so = let has = so.0 in let less : cutter.sink.place < cutter.chunks.count = omega (arith, some_in has) in
       rw (writes_on _ _ z _ so short) (changes.gives (uncut z) (has.carries, name_of _ _ _ has.all less))
 
   pub settles_on : {next : CutterState} {left : List ℕ} {new : List Slot} {n : ℕ}
-      → WritesTo told cutter end waiting old new next (Ok n) → left ≡ drop n waiting
-      → Settles told cutter waiting end old new next left None
+      → WritesTo cutter next end waiting (effect told old new) (Ok n) → left ≡ drop n waiting
+      → Settles cutter next waiting left end (effect told old new) None
   settles_on {next} {left} {new} {n} writes is = let y = cut_to cutter end waiting in let step = cutting _ writes in
       let long : length y ≡ n = omega (arith, ap length writes.count.2, length-take n waiting) in
       record {
@@ -108,8 +109,8 @@ module _ {told : Bool} {cutter : CutterState} (waiting : List ℕ) (end : ℕ) {
       }
 
   pub settles_not : {next : CutterState} {new : List Slot} {why : Fault}
-      → WritesTo told cutter end waiting old new next (Err why)
-      → Settles told cutter waiting end old new next waiting (Some why)
+      → WritesTo cutter next end waiting (effect told old new) (Err why)
+      → Settles cutter next waiting waiting end (effect told old new) (Some why)
   settles_not {why = why} writes = record {
     chunks = writes.chunks;
     bound = omega arith;
@@ -174,14 +175,15 @@ module _ (chunker : ChunkerState) (piece : List ℕ) {end : ℕ}
       → all_before chunker.cutter (chunker.waiting ++ piece) end (cut_front chunker x) ≡ cut_front chunker (x ++ piece)
   to_is has = rw (came_more has piece, end_is has) refl
 
-module _ {told : Bool} {chunker next : ChunkerState} {piece : List ℕ} {end : ℕ} {old new : List Slot}
+module _ {chunker next : ChunkerState} {piece : List ℕ} {end : ℕ} {outs : Effect}
     (said : chunker.said ≡ None) (same : next.said ≡ chunker.said)
     (spare : next.spare ≡ chunker.spare)
     (ends : end ≡ chunk_start chunker.cutter.chunks.count (chunker.cutter.at + length (chunker.waiting ++ piece))
     (first_on (course chunker.cutter))) where
   pub passes_unsaid : (result : Result (Unit {0}) Fault)
-      → Settles told chunker.cutter (chunker.waiting ++ piece) end old new next.cutter next.waiting (fault_in result)
-      → PassesAs told chunker piece old new next result
+      → Settles chunker.cutter next.cutter (chunker.waiting ++ piece) next.waiting end
+      outs (fault_in result)
+      → PassesAs chunker next piece outs result
   passes_unsaid result settles = passes_at result (record { said = same; chunks = settles.chunks })
       (omega (arith, length-append chunker.waiting piece))
       (record {
@@ -298,15 +300,15 @@ to_whole {cutter} {waiting} {size} z so = part_trans _ _ _ (so_grows (course cut
 
 module _ {told : Bool} {cutter start mid : CutterState} {waiting : List ℕ} {size : ℕ} {old wet : List Slot}
     (is : start ≡ first_begun cutter) where
-  gives_first : {fault : Option Fault} → EndsFull told start size old wet mid fault → {z : List ℕ}
+  gives_first : {fault : Option Fault} → EndsFull start mid size (effect told old wet) fault → {z : List ℕ}
       → IsFront cutter waiting size z
-      → Brings told (course cutter) cutter.sink.aim mid.sink.aim (part_on (course cutter) (uncut z))
-      (part_on (course cutter) (chunks_within cutter.chunks size z)) old wet fault
+      → Brings (course cutter) cutter.sink.aim mid.sink.aim (part_on (course cutter) (uncut z))
+      (part_on (course cutter) (chunks_within cutter.chunks size z)) (effect told old wet) fault
       × IfNone fault (IsCut mid size z)
   gives_first {fault} ends {z} so = grind (arith, common_steps, front_part, cut_off_so)
 
-  pub held_not_ended : {why : Fault} → EndsFull told start size old wet mid (Some why)
-      → EndsHeld told cutter waiting size old wet mid waiting (Some why)
+  pub held_not_ended : {why : Fault} → EndsFull start mid size (effect told old wet) (Some why)
+      → EndsHeld cutter mid waiting waiting size (effect told old wet) (Some why)
   held_not_ended ends = let full = rw is at ends in record {
     chunks = full.chunks;
     bound = omega arith;
@@ -314,12 +316,13 @@ module _ {told : Bool} {cutter start mid : CutterState} {waiting : List ℕ} {si
     brings = λ z so. brings_wider (to_whole z so) (gives_first ends so).0;
   }
 
-  module _ (ends : EndsFull told start size old wet mid None) {done : List ℕ} {next : CutterState} {new : List Slot}
+  module _ (ends : EndsFull start mid size (effect told old wet) None) {done : List ℕ} {next : CutterState}
+      {new : List Slot}
       {fault : Option Fault} (few : length done ≤ length waiting)
-      (cuts : CutsMore told mid size done wet new next fault) where
+      (cuts : CutsMore mid next size done (effect told wet new) fault) where
     rest_cut : (z : List ℕ) → IsFront cutter waiting size z
-        → Brings told (course cutter) cutter.sink.aim next.sink.aim (part_on (course cutter) (uncut z))
-        (part_on (course cutter) (chunks_within cutter.chunks size (z ++ done))) old new fault
+        → Brings (course cutter) cutter.sink.aim next.sink.aim (part_on (course cutter) (uncut z))
+        (part_on (course cutter) (chunks_within cutter.chunks size (z ++ done))) (effect told old new) fault
         × IfNone fault (IsCut next size (z ++ done))
     rest_cut z so = let full = rw is at ends in let first = gives_first ends so in
         let fits : length (z ++ done) ≤ size = omega (arith, so.all, length-append z done) in (
@@ -328,9 +331,9 @@ module _ {told : Bool} {cutter start mid : CutterState} {waiting : List ℕ} {si
         )
 
   pub held_not_cut : {next : CutterState} {new : List Slot} {why : Fault}
-      → size ≡ cutter.at + length waiting → EndsFull told start size old wet mid None
-      → CutsMore told mid size (take (min (length waiting) (size - mid.at)) waiting) wet new next (Some why)
-      → EndsHeld told cutter waiting size old new next [] (Some why)
+      → size ≡ cutter.at + length waiting → EndsFull start mid size (effect told old wet) None
+      → CutsMore mid next size (take (min (length waiting) (size - mid.at)) waiting) (effect told wet new) (Some why)
+      → EndsHeld cutter next waiting [] size (effect told old new) (Some why)
   held_not_cut all full stopped =
       let ends = rw is at full in let same = take_all (min (length waiting) (size - mid.at)) waiting (omega arith) in
       let cuts = rw same at stopped in record {
@@ -342,10 +345,10 @@ module _ {told : Bool} {cutter start mid : CutterState} {waiting : List ℕ} {si
 
   -- what is left once the output is complete changes nothing
   pub held_ends : {later next : CutterState} {left : ℕ} {between new : List Slot} (fault : Option Fault)
-      → size ≡ cutter.at + length waiting → EndsFull told start size old wet mid None
-      → CutsAs told mid size waiting wet between later left
-      → EndsAll told later.sink between new next.sink fault → next.chunks ≡ later.chunks → next.at ≡ later.at
-      → EndsHeld told cutter waiting size old new next [] fault
+      → size ≡ cutter.at + length waiting → EndsFull start mid size (effect told old wet) None
+      → CutsAs mid later size waiting left (effect told wet between)
+      → EndsAll later.sink next.sink (effect told between new) fault → next.chunks ≡ later.chunks → next.at ≡ later.at
+      → EndsHeld cutter next waiting [] size (effect told old new) fault
   held_ends {later} {left = left} {between} fault all full cuts last chunks at = record {
     chunks = chunks ∙ same;
     bound = omega (arith, ends.at);
@@ -353,7 +356,7 @@ module _ {told : Bool} {cutter start mid : CutterState} {waiting : List ℕ} {si
     brings = λ z so. let (brings, has) = rest_cut full few cuts.cuts z so in
         brings_then brings (rw (first.course, whole z so has) at (last.brings _ (rw same at has.cut.carries)));
   } where
-    ends : EndsFull told (first_begun cutter) size old wet mid None
+    ends : EndsFull (first_begun cutter) mid size (effect told old wet) None
     ends = rw is at full
 
     done : List ℕ
@@ -396,12 +399,12 @@ well_none : (on : Course) (chunks : Chunks) (x : List ℕ) → (work_on on chunk
 well_none (in_files filing elide) chunks x = refl
 well_none (in_output chunk) chunks x = refl
 
-pub ends_unsaid : {told : Bool} {chunker next : ChunkerState} {size : ℕ} {old new : List Slot}
-    (result : Result (Unit {0}) Fault) → IsAimed chunker.cutter.sink.aim old
+pub ends_unsaid : {chunker next : ChunkerState} {size : ℕ} {outs : Effect}
+    (result : Result (Unit {0}) Fault) → IsAimed chunker.cutter.sink.aim outs.old
     → chunker.said ≡ None → next.said ≡ chunker.said → next.spare ≡ chunker.spare
     → size ≡ chunker.cutter.at + length chunker.waiting
-    → EndsHeld told chunker.cutter chunker.waiting size old new next.cutter next.waiting (fault_in result)
-    → EndsAs told chunker old new next result
+    → EndsHeld chunker.cutter next.cutter chunker.waiting next.waiting size outs (fault_in result)
+    → EndsAs chunker next outs result
 ends_unsaid {chunker = chunker} {size = size} result aimed said same spare size_is ends =
     let fault = fault_in result in let on = course chunker.cutter in let chunks = chunker.cutter.chunks in
     ends_at result aimed (record { said = same; chunks = ends.chunks }) (omega arith)

@@ -1,7 +1,7 @@
 -- What a way to cut leaves that had no room for a piece.
 use Rattle.std.proofs.Common.{◌≡◌, ◌+◌, ◌≤◌, true, Bool, ℕ, List, length, Err, refl}
 use Rattle.ports_core.{
-  specs.{Engine.{KeepsOwn, cut}, Slot.Slot, declared.fault.Fault.TheVariants.Memory},
+  specs.{Engine.{KeepsOwn, cut}, Slot.{Slot, effect}, declared.fault.Fault.TheVariants.Memory},
   proofs.PartLemmas.stopped_here,
 }
 use Rattle.split_core.specs.{
@@ -14,7 +14,7 @@ use Rattle.split_core.specs.{
 -- nothing was written
 pub passes_lacking : {told : Bool} (old new : Splitter) (piece : List ℕ) {slots : List Slot} → work new ≡ work old
     → size new ≤ size old + length piece → KeepsOwn terms old new slots slots
-    → (work old).means.feeding.memory ≡ true → PassesAs told old piece slots slots new (Err Memory)
+    → (work old).means.feeding.memory ≡ true → PassesAs old new piece (effect told slots slots) (Err Memory)
 passes_lacking {told} old new piece {slots} same bound owns memory = record {
   same = same;
   size = bound;

@@ -1,6 +1,6 @@
 //! Cutting an input into chunks.
 ghost use Rattle.std.specs.Prelude.{◌≡◌, ◌+◌, ◌<◌, ◌^◌, ◌≤◌, ◌||◌, length, min, nat_lt, true};
-ghost use Rattle.ports_core.specs.InTurn.{fault_in};
+ghost use Rattle.ports_core.specs.{InTurn.fault_in, Slot.effect_of};
 ghost use Rattle.split_core.specs.{
   Chunks.chunk_start as start_of,
   ChunkerState.IsAimed,
@@ -40,8 +40,8 @@ impl ChunkCutter {
         requires ready { IsAimed (seen_cutter self.old).sink.aim (O.slots outs.old) }
         requires some { 0 < length text.now }
         requires fits { self.old.at + length text.now < 2 ^ 64 }
-        ensures { WritesTo O.told (seen_cutter self.old) end text.now (O.slots outs.old) (O.slots outs.new)
-            (seen_cutter self.new) result }
+        ensures { WritesTo (seen_cutter self.old) (seen_cutter self.new) end text.now
+            (effect_of O.told O.slots outs.old outs.new) result }
     {
         let n = next_cut(self.chunks, end.saturating_sub(self.at), text);
         self.sink.put(&text[..n], outs)?;
@@ -75,8 +75,8 @@ impl ChunkCutter {
     pub(crate) fn end_full<O: Outs>(&mut self, size: u64, outs: &mut O) -> Result<(), Fault>
         requires ready { IsAimed (seen_cutter self.old).sink.aim (O.slots outs.old) }
         requires some { 0 < self.old.chunks.count }
-        ensures { EndsFull O.told (seen_cutter self.old) size (O.slots outs.old) (O.slots outs.new)
-            (seen_cutter self.new) (fault_in result) }
+        ensures { EndsFull (seen_cutter self.old) (seen_cutter self.new) size
+            (effect_of O.told O.slots outs.old outs.new) (fault_in result) }
     {
         if self.is_within && self.at < size {
             return Ok(());
@@ -89,8 +89,8 @@ impl ChunkCutter {
         requires ready { IsAimed (seen_cutter self.old).sink.aim (O.slots outs.old) }
         requires some { 0 < self.old.chunks.count }
         requires whole { self.old.is_within ≡ true → size ≤ self.old.at }
-        ensures { EndsFull O.told (seen_cutter self.old) size (O.slots outs.old) (O.slots outs.new)
-            (seen_cutter self.new) (fault_in result) }
+        ensures { EndsFull (seen_cutter self.old) (seen_cutter self.new) size
+            (effect_of O.told O.slots outs.old outs.new) (fault_in result) }
     {
         'places: while self.sink.place < self.chunks.count
             && chunk_start(self.chunks.count, size, self.sink.place + 1) <= self.at
@@ -111,8 +111,8 @@ impl ChunkCutter {
         requires some { 0 < self.old.chunks.count }
         requires text { 0 < length text.now }
         requires fits { self.old.at + length text.now < 2 ^ 64 }
-        ensures { CutsStretch O.told (seen_cutter self.old) size text.now (O.slots outs.old) (O.slots outs.new)
-            (seen_cutter self.new) result }
+        ensures { CutsStretch (seen_cutter self.old) (seen_cutter self.new) size text.now
+            (effect_of O.told O.slots outs.old outs.new) result }
     {
         let end = self.end_of(size);
         let n = self.write_to(end, text, outs)?;
@@ -136,8 +136,8 @@ impl ChunkCutter {
         requires ready { IsAimed (seen_cutter self.old).sink.aim (O.slots outs.old) }
         requires some { 0 < self.old.chunks.count }
         requires fits { self.old.at + length text.now < 2 ^ 64 }
-        ensures { CutsSo O.told (seen_cutter self.old) size text.now (O.slots outs.old) (O.slots outs.new)
-            (seen_cutter self.new) result }
+        ensures { CutsSo (seen_cutter self.old) (seen_cutter self.new) size text.now
+            (effect_of O.told O.slots outs.old outs.new) result }
     {
         let own = text.len().min(size.saturating_sub(self.at) as usize);
         let past = text.len() - own;
@@ -165,8 +165,8 @@ impl ChunkCutter {
     ) -> Result<(), Fault>
         requires ready { IsAimed (seen_cutter self.old).sink.aim (O.slots outs.old) }
         requires fits { self.old.at + length waiting.old < 2 ^ 64 }
-        ensures { Settles O.told (seen_cutter self.old) waiting.old end (O.slots outs.old) (O.slots outs.new)
-            (seen_cutter self.new) waiting.new (fault_in result) }
+        ensures { Settles (seen_cutter self.old) (seen_cutter self.new) waiting.old waiting.new end
+            (effect_of O.told O.slots outs.old outs.new) (fault_in result) }
     {
         if waiting.is_empty() {
             return Ok(());
@@ -193,8 +193,8 @@ impl ChunkCutter {
         requires ready { IsAimed (seen_cutter self.old).sink.aim (O.slots outs.old) }
         requires some { 0 < self.old.chunks.count }
         requires fits { self.old.at + length waiting.old < 2 ^ 64 }
-        ensures { EndsHeld O.told (seen_cutter self.old) waiting.old (self.old.at + length waiting.old)
-            (O.slots outs.old) (O.slots outs.new) (seen_cutter self.new) waiting.new (fault_in result) }
+        ensures { EndsHeld (seen_cutter self.old) (seen_cutter self.new) waiting.old waiting.new
+            (self.old.at + length waiting.old) (effect_of O.told O.slots outs.old outs.new) (fault_in result) }
     {
         let size = self.at + waiting.len();
         self.sink.begin_first();

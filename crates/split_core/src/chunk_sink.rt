@@ -2,7 +2,7 @@
 ghost use Rattle.std.specs.Prelude.{◌≡◌, ◌+◌, ◌-◌, ◌<◌, ◌^◌, [], if◌then◌else◌, IsTrue, IfErr};
 ghost use Rattle.ports_core.specs.{
   FileWriter.{IsReady, IsWrite, seen_writer},
-  Slot.is_writable,
+  Slot.{is_writable, effect_of},
   InTurn.fault_in,
   inner.Write.Wrote,
 };
@@ -100,8 +100,8 @@ impl ChunkSink {
     /// Those of `FileWriter::put`; `Write(0)` if standard output broke.
     pub(crate) fn put<O: Outs>(&mut self, bytes: &[u8], outs: &mut O) -> Result<(), Fault>
         requires { IsAimed (seen_sink self.old).aim (O.slots outs.old) }
-        ensures changes { Changes O.told (seen_sink self.old) (with_rest bytes.now) (O.slots outs.old)
-            (O.slots outs.new) (seen_sink self.new) (fault_in result) }
+        ensures changes { Changes (seen_sink self.old) (seen_sink self.new) (with_rest bytes.now)
+            (effect_of O.told O.slots outs.old outs.new) (fault_in result) }
         ensures place { (seen_sink self.new).place ≡ (seen_sink self.old).place }
     {
         let place = self.place;
@@ -119,8 +119,8 @@ impl ChunkSink {
     pub(crate) fn next<O: Outs>(&mut self, outs: &mut O) -> Result<(), Fault>
         requires ready { IsAimed (seen_sink self.old).aim (O.slots outs.old) }
         requires fits { (seen_sink self.old).place + 1 < 2 ^ 64 }
-        ensures changes { Changes O.told (seen_sink self.old) with_full (O.slots outs.old) (O.slots outs.new)
-            (seen_sink self.new) (fault_in result) }
+        ensures changes { Changes (seen_sink self.old) (seen_sink self.new) with_full
+            (effect_of O.told O.slots outs.old outs.new) (fault_in result) }
         ensures place { (seen_sink self.new).place ≡ (seen_sink self.old).place + 1 }
     {
         self.place += 1;
@@ -137,8 +137,8 @@ impl ChunkSink {
     /// `Write` if its file broke.
     pub(crate) fn end<O: Outs>(&mut self, outs: &mut O) -> Result<(), Fault>
         requires { IsAimed (seen_sink self.old).aim (O.slots outs.old) }
-        ensures brings { EndsAll O.told (seen_sink self.old) (O.slots outs.old) (O.slots outs.new)
-            (seen_sink self.new) (fault_in result) }
+        ensures brings { EndsAll (seen_sink self.old) (seen_sink self.new)
+            (effect_of O.told O.slots outs.old outs.new) (fault_in result) }
         ensures broke { IfErr result IsWrite }
         ensures place { (seen_sink self.new).place ≡ (seen_sink self.old).place }
     {
@@ -163,8 +163,8 @@ fn write_where<O: Outs>(goes: bool, bytes: &[u8], outs: &mut O) -> Result<(), Fa
 /// Ends a file, and begins the next with its first byte. With `elide` an empty chunk has no file.
 fn end_file<O: Outs>(writer: &mut FileWriter, elide: bool, outs: &mut O) -> Result<(), Fault>
     requires { IsReady (seen_writer writer.old) (O.slots outs.old) }
-    ensures { Files O.told (seen_writer writer.old) (ends_by elide) (O.slots outs.old) (O.slots outs.new)
-        (seen_writer writer.new) (fault_in result) }
+    ensures { Files (seen_writer writer.old) (seen_writer writer.new) (ends_by elide)
+        (effect_of O.told O.slots outs.old outs.new) (fault_in result) }
 {
     make_empty(writer, elide, outs)?;
     writer.next(Opening::Late, outs)
@@ -173,8 +173,8 @@ fn end_file<O: Outs>(writer: &mut FileWriter, elide: bool, outs: &mut O) -> Resu
 /// Makes the file of an empty chunk, unless it is left out.
 fn make_empty<O: Outs>(writer: &mut FileWriter, elide: bool, outs: &mut O) -> Result<(), Fault>
     requires { IsReady (seen_writer writer.old) (O.slots outs.old) }
-    ensures { Files O.told (seen_writer writer.old) (empties_by elide) (O.slots outs.old) (O.slots outs.new)
-        (seen_writer writer.new) (fault_in result) }
+    ensures { Files (seen_writer writer.old) (seen_writer writer.new) (empties_by elide)
+        (effect_of O.told O.slots outs.old outs.new) (fault_in result) }
 {
     if elide || writer.is_open() {
         return Ok(());

@@ -1,7 +1,12 @@
 //! Parts of an input that follow one another, each in a file of its own (POSIX.1-2017, XCU split; `-C` is GNU's). They take memory for
 //! names, and under `-C` for twice the most bytes that waited, which are fewer than a part has.
 ghost use Rattle.std.specs.Prelude.{◌≡◌, ◌+◌, ◌-◌, ◌++◌, ◌<◌, [], length, IfOk, IfErr, OnOk};
-ghost use Rattle.ports_core.specs.{FileWriter.new_writer, InTurn.fault_in, declared.file_writer.Keeps.TheVariants.Open};
+ghost use Rattle.ports_core.specs.{
+  FileWriter.new_writer,
+  InTurn.fault_in,
+  Slot.effect_of,
+  declared.file_writer.Keeps.TheVariants.Open,
+};
 ghost use Rattle.seg_core.specs.Cut.{most};
 ghost use Rattle.split_core.specs.{
   PartsState.{IsReady, Stands, parts_work, work},
@@ -74,7 +79,7 @@ impl Parts {
     /// Writes what waits, and then these bytes, to the part that was begun.
     fn extend<O: Outs>(&mut self, bytes: &[u8], outs: &mut O) -> Result<(), Fault>
         requires { IsReady self.old (O.slots outs.old) }
-        ensures { Extends O.told self.old bytes.now (O.slots outs.old) (O.slots outs.new) self.new (fault_in result) }
+        ensures { Extends self.old self.new bytes.now (effect_of O.told O.slots outs.old outs.new) (fault_in result) }
     {
         put_waiting(&mut self.waiting, &mut self.writer, outs)?;
         self.writer.put(bytes, outs)
@@ -84,8 +89,8 @@ impl Parts {
     fn turn<O: Outs>(&mut self, bytes: &[u8], outs: &mut O) -> Result<(), Fault>
         requires ready { IsReady self.old (O.slots outs.old) }
         requires room { length self.old.waiting + length bytes.now < most self.old.limit }
-        ensures { BeginsNext O.told self.old bytes.now (O.slots outs.old) (O.slots outs.new) self.new
-            (fault_in result) }
+        ensures { BeginsNext self.old self.new bytes.now
+            (effect_of O.told O.slots outs.old outs.new) (fault_in result) }
     {
         let size = (self.waiting.len() + bytes.len()) as u64;
         self.writer.next(Opening::Late, outs)?;
@@ -111,7 +116,7 @@ impl Parts {
     fn step<O: Outs>(&mut self, piece: &[u8], outs: &mut O) -> Result<usize, Fault>
         requires some { 0 < length piece.now }
         requires ready { IsReady self.old (O.slots outs.old) }
-        ensures { TakesStretch O.told self.old piece.now (O.slots outs.old) (O.slots outs.new) self.new result }
+        ensures { TakesStretch self.old self.new piece.now (effect_of O.told O.slots outs.old outs.new) result }
     {
         match next_step(self.limit, self.left, self.has_line, piece) {
             Step::Goes {
@@ -145,7 +150,7 @@ impl Parts {
     /// no room for what waits, for a name or its line, `Suffixes` if no name is left for the next file.
     pub(crate) fn pass<O: Outs>(&mut self, piece: &[u8], outs: &mut O) -> Result<(), Fault>
         requires { IsReady self.old (O.slots outs.old) }
-        ensures { Takes O.told self.old piece.now (O.slots outs.old) (O.slots outs.new) self.new (fault_in result) }
+        ensures { Takes self.old self.new piece.now (effect_of O.told O.slots outs.old outs.new) (fault_in result) }
     {
         let mut left = piece;
         'stretches: while !left.is_empty() {
@@ -162,7 +167,7 @@ impl Parts {
     /// `Write` if its file broke.
     pub(crate) fn finish<O: Outs>(&mut self, outs: &mut O) -> Result<(), Fault>
         requires { IsReady self.old (O.slots outs.old) }
-        ensures { Finishes O.told self.old (O.slots outs.old) (O.slots outs.new) self.new (fault_in result) }
+        ensures { Finishes self.old self.new (effect_of O.told O.slots outs.old outs.new) (fault_in result) }
     {
         if !self.writer.is_open() {
             return Ok(());

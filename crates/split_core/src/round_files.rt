@@ -2,7 +2,7 @@ ghost use Rattle.std.specs.{
   Prelude.{◌≡◌, ◌+◌, ◌≤◌, ◌<◌, ◌++◌, ◌∷◌, [], true, length, slice_index_or, vec_len, vec_capacity},
 };
 ghost use Rattle.split_core.specs.{Round.AreReady, Split.are_named, inner.Sharing.{Adds, ClosesAll, Opens, only_at}};
-ghost use Rattle.ports_core.specs.Name.{has_name};
+ghost use Rattle.ports_core.specs.{Name.has_name, Slot.effect_of};
 
 use crate::files::write_bytes;
 use crate::gathered::Gathered;
@@ -49,7 +49,7 @@ impl RoundFiles {
         requires ready { AreReady self.old (O.slots outs.old) }
         requires none { self.old.outputs ≡ [] }
         requires named { are_named self.old.names.naming count ≡ true }
-        ensures { Opens O.told self.old 0 count (O.slots outs.old) self.new (O.slots outs.new) result }
+        ensures { Opens self.old self.new 0 count (effect_of O.told O.slots outs.old outs.new) result }
     {
         for place in 0..count {
             self.reach(place, outs)?;
@@ -70,8 +70,8 @@ impl RoundFiles {
     ) -> Result<(), Fault>
         requires ready { AreReady self.old (O.slots outs.old) }
         requires named { are_named self.old.names.naming (length gathered.now) ≡ true }
-        ensures { Adds O.told self.old (λ place. slice_index_or gathered.now place []) 0 (length gathered.now)
-            (O.slots outs.old) self.new (O.slots outs.new) result }
+        ensures { Adds self.old self.new (λ place. slice_index_or gathered.now place []) 0 (length gathered.now)
+            (effect_of O.told O.slots outs.old outs.new) result }
     {
         for place in 0..gathered.len() {
             self.send(place, gathered[place].bytes(), outs)?;
@@ -86,7 +86,7 @@ impl RoundFiles {
     /// `Write` if a close failed: later files stay open.
     pub(crate) fn close<O: Outs>(&self, outs: &mut O) -> Result<(), Fault>
         requires ready { AreReady self.now (O.slots outs.old) }
-        ensures { ClosesAll O.told self.now (O.slots outs.old) (O.slots outs.new) result }
+        ensures { ClosesAll self.now (effect_of O.told O.slots outs.old outs.new) result }
     {
         for place in 0..self.outputs.len() {
             outs.close(self.outputs[place])?;
@@ -99,8 +99,8 @@ impl RoundFiles {
         requires ready { AreReady self.old (O.slots outs.old) }
         requires near { place ≤ length self.old.outputs }
         requires named { has_name self.old.names.naming place ≡ true }
-        ensures { Adds O.told self.old (only_at place bytes.now) place (place + 1) (O.slots outs.old) self.new
-            (O.slots outs.new) result }
+        ensures { Adds self.old self.new (only_at place bytes.now) place (place + 1)
+            (effect_of O.told O.slots outs.old outs.new) result }
     {
         self.reach(place, outs)?;
         write_bytes(self.outputs[place], bytes, outs)
@@ -111,7 +111,7 @@ impl RoundFiles {
         requires ready { AreReady self.old (O.slots outs.old) }
         requires near { place ≤ length self.old.outputs }
         requires named { has_name self.old.names.naming place ≡ true }
-        ensures { Opens O.told self.old place (place + 1) (O.slots outs.old) self.new (O.slots outs.new) result }
+        ensures { Opens self.old self.new place (place + 1) (effect_of O.told O.slots outs.old outs.new) result }
     {
         if place < self.outputs.len() {
             return Ok(());

@@ -1,5 +1,5 @@
 ghost use Rattle.std.specs.Prelude.{◌≡◌, ◌<◌, ◌≤◌, [], None, true, if◌then◌else◌, length, IfOk, IfErr, OnOk};
-ghost use Rattle.ports_core.specs.FileWriter.{CanTell};
+ghost use Rattle.ports_core.specs.{FileWriter.CanTell, Slot.effect_of};
 ghost use Rattle.split_core.specs.{
   ChunkWork.work_by,
   Round.{Holds, Owns, Ready, work},
@@ -92,8 +92,8 @@ impl RoundSplitter {
     /// output broke, `Open` if a file can't be opened.
     pub(crate) fn pass<O: Outs>(&mut self, piece: &[u8], outs: &mut O) -> Result<(), Fault>
         requires { Ready self.old (O.slots outs.old) }
-        ensures { PassesAs O.told (way.Round self.old) piece.now (O.slots outs.old) (O.slots outs.new)
-            (way.Round self.new) result }
+        ensures { PassesAs (way.Round self.old) (way.Round self.new) piece.now
+            (effect_of O.told O.slots outs.old outs.new) result }
     {
         let reached = self.deal.gather(piece)?;
         self.files.write(self.deal.first(reached), outs)
@@ -106,7 +106,7 @@ impl RoundSplitter {
     /// `Write` if one broke.
     pub(crate) fn finish<O: Outs>(&self, outs: &mut O) -> Result<(), Fault>
         requires { Ready self.now (O.slots outs.old) }
-        ensures { ClosesAll O.told self.now.files (O.slots outs.old) (O.slots outs.new) result }
+        ensures { ClosesAll self.now.files (effect_of O.told O.slots outs.old outs.new) result }
     {
         self.files.close(outs)
     }

@@ -1,4 +1,5 @@
 ghost use Rattle.std.specs.Prelude.{◌≡◌, ◌<◌, [], IfOk, IfErr};
+ghost use Rattle.ports_core.specs.Slot.{effect_of};
 ghost use Rattle.split_core.specs.{ChunkWork.turn_work, Turn.{Holds, Ready, work}, inner.Ways.PassesAs};
 ghost use Rattle.split_core.specs.declared.splitter.Splitter.TheVariants as way;
 
@@ -59,8 +60,8 @@ impl Turn {
     /// broke.
     pub(crate) fn pass<O: Outs>(&mut self, piece: &[u8], outs: &mut O) -> Result<(), Fault>
         requires { Ready (O.slots outs.old) }
-        ensures passes { PassesAs O.told (way.Turn self.old) piece.now (O.slots outs.old) (O.slots outs.new)
-            (way.Turn self.new) result }
+        ensures passes { PassesAs (way.Turn self.old) (way.Turn self.new) piece.now
+            (effect_of O.told O.slots outs.old outs.new) result }
         ensures no_room { IfErr result (λ fault. fault ≡ Fault.Memory → O.slots outs.new ≡ O.slots outs.old) }
     {
         self.deal.gather(piece)?;

@@ -26,7 +26,7 @@ use Rattle.bre_core.specs.{Pattern.Pattern, Search.contains}
 use Rattle.seg_core.specs.Line.{lines_of, line_count, ends_with, delimiters}
 use Rattle.ports_core.specs.{
   Part.{Part, Begins, nothing},
-  Slot.{Slot, is_writable},
+  Slot.{Effect, Slot, effect, is_writable},
   Swept.{Removes, HasNoFiles},
   declared.{
     fault.Fault.{Fault, TheVariants.Memory},
@@ -151,8 +151,8 @@ abbrev pub Keeps : CutterState → CutterState → List Slot → List Slot → O
 Keeps cutter = KeepsBy cutter.operands cutter.style cutter.writer
 
 -- outputs that had one part get another, or a fault stopped that
-abbrev pub Puts : Bool → CutterState → CutterState → Part → Part → List Slot → List Slot → Option Fault → Type 0
-Puts told cutter next = Reaches (sizes_wanted cutter.style) told cutter.writer next.writer
+abbrev pub Puts : (cutter next : CutterState) → (low high : Part) → Effect → Option Fault → Type 0
+Puts cutter next = Reaches (sizes_wanted cutter.style) cutter.writer next.writer
 
 -- these bytes came in
 pub record Took (cutter : CutterState) (text : List ℕ) (next : CutterState) : Type 0 where
@@ -165,7 +165,7 @@ pub record Takes (told : Bool) (cutter : CutterState) (text : List ℕ) (old new
     (fault : Option Fault) : Type 0 where
   pub keeps : Keeps cutter next old new fault
   pub reaches : (x : List ℕ) → IsWhole x → Stands cutter x
-      → Puts told cutter next (settled_part cutter x) (settled_part cutter (x ++ text)) old new fault
+      → Puts cutter next (settled_part cutter x) (settled_part cutter (x ++ text)) (effect told old new) fault
   pub went : IfNone fault (Took cutter text next)
 
 -- The plan over x ends at the cutter's state. What is written of the open section is settled.
@@ -186,7 +186,7 @@ pub record HoldsLines (told : Bool) (cutter : CutterState) (left : List ℕ) (ol
     (fault : Option Fault) : Type 0 where
   pub keeps : Keeps cutter next old new fault
   pub reaches : (x : List ℕ) (at : IsAt (bare cutter) x left) → Arrives cutter at
-      → Puts told cutter next (part_at at) (settled_part cutter x) old new fault
+      → Puts cutter next (part_at at) (settled_part cutter x) (effect told old new) fault
   pub went : IfNone fault (Held cutter left next)
 
 -- this line is the last in x; if the line ends with its newline, x is complete lines
@@ -307,7 +307,7 @@ pub record IsAfter (told : Bool) (due : Due) (x : List ℕ) (low : Part) (old ne
   pub near : next.lines ≤ search_line (suppress_in next) (state_in next)
   pub none : now.taken ≡ 0
   pub grows : Begins low (part_at now)
-  pub reaches : Puts told due.cutter next low (part_at now) old new None
+  pub reaches : Puts due.cutter next low (part_at now) (effect told old new) None
 
 -- Some cuts were made, and the lines `left` are left.
 pub record Spreading (told : Bool) (due : Due) (old new : List Slot) (now : CutterState) (left : List ℕ) : Type 0 where
@@ -347,7 +347,7 @@ pub record CutsAll (told : Bool) (due : Due) (more : List ℕ) (old new : List S
     (fault : Option Fault) : Type 0 where
   pub keeps : Keeps due.cutter next old new fault
   pub reaches : (x : List ℕ) (at : IsAt (bare due.cutter) x due.left) → CutsNow due x at
-      → Puts told due.cutter next (part_at at) (settled_part due.cutter (x ++ more)) old new fault
+      → Puts due.cutter next (part_at at) (settled_part due.cutter (x ++ more)) (effect told old new) fault
   pub went : IfNone fault (CutAll due more next)
 
 -- how many lines past the last one the next cut may stand
@@ -467,7 +467,7 @@ writer_for style = paused (new_for style)
 
 -- The first section could not begin, which would have made this part: a file could not be made, or memory was lacking.
 pub record BegunNot (told : Bool) (style : Style) (part : Part) (old new : List Slot) (fault : Fault) : Type 0 where
-  pub reaches : Reaches (sizes_wanted style) told (writer_for style) (writer_for style) nothing part old new
+  pub reaches : Reaches (sizes_wanted style) (writer_for style) (writer_for style) nothing part (effect told old new)
       (Some fault)
   pub breaks : Breaks (manner_of style) old new fault
   -- no file was made
@@ -479,8 +479,8 @@ pub record Opened (told : Bool) (style : Style) (operands : List Operand) (old n
   pub asked : cutter.style ≡ style
   pub operands_are : cutter.operands ≡ operands
   pub stands : Stands cutter []
-  pub reaches : Reaches (sizes_wanted style) told (writer_for style) cutter.writer nothing
-      (settled_of style operands []) old new None
+  pub reaches : Reaches (sizes_wanted style) (writer_for style) cutter.writer nothing (settled_of style operands [])
+      (effect told old new) None
   pub owns : OwnsFiles cutter.writer (length old) new
   pub ready : IsReady cutter.writer new
   pub output : IsTrue (is_writable old 0) → IsTrue (is_writable new 0)
@@ -498,7 +498,7 @@ pub record EndsAll (told : Bool) (cutter : CutterState) (old new : List Slot) (n
     (fault : Option Fault) : Type 0 where
   pub keeps : Keeps cutter next old new fault
   pub reaches : (x : List ℕ) → Stands cutter x
-      → Puts told cutter next (settled_part cutter x) (whole_part cutter x) old new fault
+      → Puts cutter next (settled_part cutter x) (whole_part cutter x) (effect told old new) fault
   pub judged : IfNone fault ((x : List ℕ) → Stands cutter x → IsJudged next x)
 
 -- The files that were there are removed, and the files are left whose removal failed.
@@ -525,8 +525,8 @@ pub record Closed (told : Bool) (stage : CsplitState) (old new : List Slot) (nex
     (fault : Option Fault) : Type 0 where
   pub keeps : Keeps stage.cutter next.cutter old new fault
   pub reaches : (x : List ℕ) → IsWhole x → Stands stage.cutter x
-      → Puts told stage.cutter next.cutter (settled_part stage.cutter x) (whole_part stage.cutter (x ++ stage.rest))
-      old new fault
+      → Puts stage.cutter next.cutter (settled_part stage.cutter x) (whole_part stage.cutter (x ++ stage.rest))
+      (effect told old new) fault
   pub judged : IfNone fault ((x : List ℕ) → IsWhole x → Stands stage.cutter x → IsJudged next.cutter (x ++ stage.rest))
 
 -- the cutter's verdict after the last section is the verdict with which the plan over all lines ends

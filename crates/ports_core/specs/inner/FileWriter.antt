@@ -6,7 +6,7 @@ use Rattle.std.specs.{
 use Rattle.ports_core.specs.{
   FileWriter.WriterState,
   Names.{next_name, has_next, told_next, with_one_drawn, OpensNone},
-  Slot.{Slot, opened},
+  Slot.{Effect, Slot, opened},
   inner.Write.Wrote,
   declared.fault.Fault.Fault,
   declared.file_writer.{
@@ -26,12 +26,12 @@ CountsOn Sizes size bytes more = more ≡ size + length bytes
 CountsOn Openings size bytes more = more ≤ size + length bytes
 
 -- the open file, of which `size` bytes are counted, got these bytes as well, or broke among them
-pub record Appends (told : Bool) (writer : WriterState) (slot size : ℕ) (bytes : List ℕ) (old new : List Slot)
-    (next : WriterState) (fault : Option Fault) : Type 0 where
+pub record Appends (writer next : WriterState) (slot size : ℕ) (bytes : List ℕ) (outs : Effect) (fault : Option Fault)
+    : Type 0 where
   pub same : next ≡ record writer { current = next.current }
   pub current : IfNone fault ((more : ℕ) × (next.current ≡ File slot more) × CountsOn writer.tells size bytes more)
   pub still : IfSome fault (λ why. next.current ≡ writer.current)
-  pub wrote : Wrote told slot bytes old new fault
+  pub wrote : Wrote outs.told slot bytes outs.old outs.new fault
 
 -- the size of a file was written to standard output, or standard output broke; nothing happened if sizes aren't written
 abbrev pub TellsSize : Bool → Tells → ℕ → List Slot → List Slot → Option Fault → Type 0

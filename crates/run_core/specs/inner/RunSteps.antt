@@ -5,7 +5,7 @@ use Rattle.std.specs.{
   Prelude.{if◌then◌else◌, ◌≤◌, ◌<◌},
 }
 use Rattle.ports_core.specs.{
-  Slot.{Slot, is_open, streams},
+  Slot.{effect, Slot, is_open, streams},
   Swept.Swept,
   Guard.{GuardState, IsRefusedThere},
   Engine.{Clears, Terms, Finishes, is_verdict},
@@ -31,10 +31,10 @@ use Rattle.run_core.specs.{
 pub data EndsSo {S : Type 0} (terms : Terms S) (told : Bool) (engine : GuardState S) (fed : Fed)
     (old new : List Slot) : Result Fed Fault → Type 0 where
   finished : (next : S)
-      → Finishes terms told engine.stage next old new (IsRefusedThere terms engine) (Ok tt)
+      → Finishes terms engine.stage next (effect told old new) (IsRefusedThere terms engine) (Ok tt)
       → EndsSo terms told engine fed old new (Ok fed)
   fell_short : (fault : Fault) (next : S) (reached : List Slot)
-      → Finishes terms told engine.stage next old reached (IsRefusedThere terms engine) (Err fault)
+      → Finishes terms engine.stage next (effect told old reached) (IsRefusedThere terms engine) (Err fault)
       → (is_verdict fault ≡ true → new ≡ reached) → (is_verdict fault ≡ false → Clears terms next reached new)
       → EndsSo terms told engine fed old new (Err fault)
 

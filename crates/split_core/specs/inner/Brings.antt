@@ -6,7 +6,7 @@ use Rattle.ports_core.specs.{
   Draft.{Draft, Manner, draft_part, made_of, with_next},
   FileWriter.{KeepsOrBreaks, Leaves, Reaches, Writes, WriterState},
   Part.{Output, Part, OutputsAt, Begins, gets_bytes},
-  Slot.{Slot, is_writable},
+  Slot.{Effect, Slot, is_writable},
   InTurn.IsThere,
   Name.has_name,
   declared.{
@@ -64,17 +64,17 @@ pub record Stays (on : Course) (aim next : AimState) (old new : List Slot) (faul
   pub ready : IfNone fault (IsAimed next new)
 
 -- Outputs that had the part `low` have the part `high`, or a fault stopped them between the two.
-pub record Brings (told : Bool) (on : Course) (aim next : AimState) (low high : Part) (old new : List Slot)
-    (fault : Option Fault) : Type 0 where
+pub record Brings (on : Course) (aim next : AimState) (low high : Part) (outs : Effect) (fault : Option Fault)
+    : Type 0 where
   pub named : IfSome fault (λ why. why ≡ Verdict Suffixes → ⊥)
   pub begins : Begins low high
-  pub reaches : (before : List Slot) → AtAim told aim before low old
-      → IsThere (output_on on) told (AtAim told next before high new) before low high new fault
+  pub reaches : (before : List Slot) → AtAim outs.told aim before low outs.old
+      → IsThere (output_on on) outs.told (AtAim outs.told next before high outs.new) before low high outs.new fault
 
 -- The same of what is written of two texts that are cut up; without a fault the sink may have been given the second.
-pub record Gives (told : Bool) (on : Course) (sink next : SinkState) (from to : CutUp) (old new : List Slot)
-    (fault : Option Fault) : Type 0 where
-  pub brings : Brings told on sink.aim next.aim (part_on on from) (part_on on to) old new fault
+pub record Gives (on : Course) (sink next : SinkState) (from to : CutUp) (outs : Effect) (fault : Option Fault)
+    : Type 0 where
+  pub brings : Brings on sink.aim next.aim (part_on on from) (part_on on to) outs fault
   pub carries : IfNone fault (Carries next to)
 
 -- the sink may have been given this, and the file of the chunk that was begun has a name
@@ -82,20 +82,18 @@ abbrev pub CarriesOn : SinkState → CutUp → Type 0
 CarriesOn sink cut = Carries sink cut × HasName (course_of sink.aim) sink.place
 
 -- what a change of any text that is cut up gives
-pub record Changes (told : Bool) (sink : SinkState) (change : CutUp → CutUp) (old new : List Slot)
-    (next : SinkState) (fault : Option Fault) : Type 0 where
-  pub stays : Stays (course_of sink.aim) sink.aim next.aim old new fault
+pub record Changes (sink next : SinkState) (change : CutUp → CutUp) (outs : Effect) (fault : Option Fault)
+    : Type 0 where
+  pub stays : Stays (course_of sink.aim) sink.aim next.aim outs.old outs.new fault
   pub gives : (cut : CutUp) → CarriesOn sink cut
-      → Gives told (course_of sink.aim) sink next cut (change cut) old new fault
+      → Gives (course_of sink.aim) sink next cut (change cut) outs fault
 
 -- what the end of any text that is cut up gives
-pub record EndsAll (told : Bool) (sink : SinkState) (old new : List Slot)
-    (next : SinkState) (fault : Option Fault)
-    : Type 0 where
-  pub stays : Stays (course_of sink.aim) sink.aim next.aim old new fault
+pub record EndsAll (sink next : SinkState) (outs : Effect) (fault : Option Fault) : Type 0 where
+  pub stays : Stays (course_of sink.aim) sink.aim next.aim outs.old outs.new fault
   pub brings : (cut : CutUp) → Carries sink cut
-      → Brings told (course_of sink.aim) sink.aim next.aim (part_on (course_of sink.aim) cut)
-      (whole_on (course_of sink.aim) cut) old new fault
+      → Brings (course_of sink.aim) sink.aim next.aim (part_on (course_of sink.aim) cut)
+      (whole_on (course_of sink.aim) cut) outs fault
 
 -- The files
 
@@ -124,12 +122,11 @@ empties_by false draft = begun_by (made_of draft.opening draft.bytes) draft
 
 -- The files changed so, and the outputs with them; or a fault stopped that. Names ran out only if the file that was
 -- begun has no name.
-pub record Files (told : Bool) (writer : WriterState) (change : Draft → Draft) (old new : List Slot)
-    (next : WriterState) (fault : Option Fault) : Type 0 where
-  pub leaves : Leaves writer next old new fault
+pub record Files (writer next : WriterState) (change : Draft → Draft) (outs : Effect) (fault : Option Fault)
+    : Type 0 where
+  pub leaves : Leaves writer next outs.old outs.new fault
   pub reaches : (manner : Manner) (draft : Draft) → Writes manner writer draft
-      → Reaches manner.output told writer next (draft_part manner draft) (draft_part manner (change draft)) old new
-      fault
+      → Reaches manner.output writer next (draft_part manner draft) (draft_part manner (change draft)) outs fault
   pub named : IfSome fault (λ why. why ≡ Verdict Suffixes → (manner : Manner) (draft : Draft)
       → Writes manner writer draft → manner.has_name (length draft.ended) ≡ false)
   pub writes : IfNone fault ((manner : Manner) (draft : Draft) → Writes manner writer draft

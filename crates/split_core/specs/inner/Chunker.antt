@@ -1,7 +1,7 @@
 -- What private calls say: chunks of an input, as a stage.
 use Rattle.std.specs.Prelude.{◌≡◌, ℕ, max, Bool, List, length, Option, Result}
 use Rattle.seg_core.specs.declared.unit.Unit.{Unit as Counted}
-use Rattle.ports_core.specs.{Engine.TookIn, Part.Part, Slot.Slot, declared.fault.Fault.Fault}
+use Rattle.ports_core.specs.{Engine.TookIn, Part.Part, Slot.Effect, declared.fault.Fault.Fault}
 use Rattle.split_core.specs.{
   Alike.as_if,
   ChunkerState.{ChunkerState, Holds, course, work},
@@ -37,19 +37,17 @@ pub record IsLike (chunker next : ChunkerState) : Type 0 where
   pub chunks : next.cutter.chunks ≡ chunker.cutter.chunks
 
 -- the outputs went from what is settled to this part, or a fault stopped them between the two
-pub record Comes (told : Bool) (chunker : ChunkerState) (high : List ℕ → Part) (old new : List Slot)
-    (next : ChunkerState) (fault : Option Fault) : Type 0 where
-  pub stays : Stays (course chunker.cutter) chunker.cutter.sink.aim next.cutter.sink.aim old new fault
+pub record Comes (chunker next : ChunkerState) (high : List ℕ → Part) (outs : Effect) (fault : Option Fault)
+    : Type 0 where
+  pub stays : Stays (course chunker.cutter) chunker.cutter.sink.aim next.cutter.sink.aim outs.old outs.new fault
   pub brings : (x : List ℕ) → Holds chunker x
-      → Brings told (course chunker.cutter) chunker.cutter.sink.aim next.cutter.sink.aim
-      ((work chunker).settled x) (high x) old new fault
+      → Brings (course chunker.cutter) chunker.cutter.sink.aim next.cutter.sink.aim ((work chunker).settled x) (high x)
+      outs fault
 
 -- what a call leaves that takes in a piece
-abbrev pub PassesAs : Bool → ChunkerState → List ℕ → List Slot → List Slot → ChunkerState → Result (Unit {0}) Fault
-    → Type 0
-PassesAs told chunker piece old new next result =
-    ways.PassesAs told (Chunks chunker) piece old new (Chunks next) result
+abbrev pub PassesAs : (chunker next : ChunkerState) → List ℕ → Effect → Result (Unit {0}) Fault → Type 0
+PassesAs chunker next = ways.PassesAs (Chunks chunker) (Chunks next)
 
 -- what the call at the end leaves
-abbrev pub EndsAs : Bool → ChunkerState → List Slot → List Slot → ChunkerState → Result (Unit {0}) Fault → Type 0
-EndsAs told chunker old new next result = ways.EndsAs told (Chunks chunker) old new (Chunks next) result
+abbrev pub EndsAs : (chunker next : ChunkerState) → Effect → Result (Unit {0}) Fault → Type 0
+EndsAs chunker next = ways.EndsAs (Chunks chunker) (Chunks next)

@@ -1,9 +1,9 @@
 -- What private calls say: cutting an input into chunks.
 use Rattle.std.specs.{
-  Prelude.{◌≡◌, ℕ, ◌+◌, ◌-◌, ◌<◌, ◌≤◌, ◌⊎◌, max, min, Bool, true, false, List, ◌++◌, length, take, drop, Option},
+  Prelude.{◌≡◌, ℕ, ◌+◌, ◌-◌, ◌<◌, ◌≤◌, ◌⊎◌, max, min, true, false, List, ◌++◌, length, take, drop, Option},
   Prelude.{Some, None, IfNone, Result, Ok, Err, IfErr, IfOk, OnOk},
 }
-use Rattle.ports_core.specs.{Part.Part, Slot.Slot, InTurn.fault_in, Work.{IsNeeded, Work}, declared.fault.Fault.Fault}
+use Rattle.ports_core.specs.{Part.Part, Slot.Effect, InTurn.fault_in, Work.{IsNeeded, Work}, declared.fault.Fault.Fault}
 use Rattle.split_core.specs.{
   Chunks.{before_chunk, begun_before, chunk_start, chunks_within, is_within, passed},
   ChunkerState.{CutterState, HasCut, course, first_on, part_on, whole_on, work_on},
@@ -25,11 +25,11 @@ abbrev pub cut_to : CutterState → ℕ → List ℕ → List ℕ
 cut_to cutter end text = begun_before cutter.chunks.unit cutter.chunks.delim (max (end - cutter.at) 1) text
 
 -- the bytes that go with the chunk that was begun were written
-pub record WritesTo (told : Bool) (cutter : CutterState) (end : ℕ) (text : List ℕ) (old new : List Slot)
-    (next : CutterState) (result : Result ℕ Fault) : Type 0 where
+pub record WritesTo (cutter next : CutterState) (end : ℕ) (text : List ℕ) (outs : Effect) (result : Result ℕ Fault)
+    : Type 0 where
   pub chunks : next.chunks ≡ cutter.chunks
   pub place : next.sink.place ≡ cutter.sink.place
-  pub changes : Changes told cutter.sink (with_rest (cut_to cutter end text)) old new next.sink (fault_in result)
+  pub changes : Changes cutter.sink next.sink (with_rest (cut_to cutter end text)) outs (fault_in result)
   pub count : IfOk result (λ n. (0 < n) × (n ≤ length text) × (take n text ≡ cut_to cutter end text))
   pub at : IfOk result (λ n. next.at ≡ cutter.at + n)
   pub kept : IfErr result (λ fault. next.at ≡ cutter.at)
@@ -61,25 +61,24 @@ abbrev pub part_at : CutterState → ℕ → List ℕ → ℕ → Part
 part_at cutter size x place = part_on (course cutter) (cut_before cutter.chunks size x place)
 
 -- all chunks that had all that goes with them ended
-pub record EndsFull (told : Bool) (cutter : CutterState) (size : ℕ) (old new : List Slot) (next : CutterState)
-    (fault : Option Fault) : Type 0 where
+pub record EndsFull (cutter next : CutterState) (size : ℕ) (outs : Effect) (fault : Option Fault) : Type 0 where
   pub chunks : next.chunks ≡ cutter.chunks
   pub at : next.at ≡ cutter.at
-  pub stays : Stays (course cutter) cutter.sink.aim next.sink.aim old new fault
+  pub stays : Stays (course cutter) cutter.sink.aim next.sink.aim outs.old outs.new fault
   pub brings : (x : List ℕ) → IsCutOff cutter size x
-      → Brings told (course cutter) cutter.sink.aim next.sink.aim (part_at cutter size x cutter.sink.place)
-      (part_so cutter size x) old new fault
+      → Brings (course cutter) cutter.sink.aim next.sink.aim (part_at cutter size x cutter.sink.place)
+      (part_so cutter size x) outs fault
   pub leads : (x : List ℕ) → IsCutOff cutter size x → IfNone fault (IsCut next size x)
 
 -- more of a text was cut off, or a fault came meanwhile
-pub record CutsMore (told : Bool) (cutter : CutterState) (size : ℕ) (bytes : List ℕ) (old new : List Slot)
-    (next : CutterState) (fault : Option Fault) : Type 0 where
+pub record CutsMore (cutter next : CutterState) (size : ℕ) (bytes : List ℕ) (outs : Effect) (fault : Option Fault)
+    : Type 0 where
   pub chunks : next.chunks ≡ cutter.chunks
   pub bound : next.at ≤ cutter.at + length bytes
-  pub stays : Stays (course cutter) cutter.sink.aim next.sink.aim old new fault
+  pub stays : Stays (course cutter) cutter.sink.aim next.sink.aim outs.old outs.new fault
   pub brings : (x : List ℕ) → IsCut cutter size x → length (x ++ bytes) ≤ size
-      → Brings told (course cutter) cutter.sink.aim next.sink.aim (part_so cutter size x)
-      (part_so cutter size (x ++ bytes)) old new fault
+      → Brings (course cutter) cutter.sink.aim next.sink.aim (part_so cutter size x)
+      (part_so cutter size (x ++ bytes)) outs fault
   pub leads : (x : List ℕ) → IsCut cutter size x → length (x ++ bytes) ≤ size
       → IfNone fault (IsCut next size (x ++ bytes))
 
@@ -88,29 +87,28 @@ abbrev pub IsOpen : CutterState → ℕ → List ℕ → Type 0
 IsOpen cutter size x = (said_work cutter size).is_complete x ≡ false
 
 -- a stretch of the text was cut off, or a fault came
-abbrev pub CutsStretch : Bool → CutterState → ℕ → List ℕ → List Slot → List Slot → CutterState → Result ℕ Fault → Type 0
-CutsStretch told cutter size text old new next (Ok n) = (0 < n) × (n ≤ length text)
-    × (next.at ≡ cutter.at + n) × CutsMore told cutter size (take n text) old new next None
+abbrev pub CutsStretch : (cutter next : CutterState) → ℕ → List ℕ → Effect → Result ℕ Fault → Type 0
+CutsStretch cutter next size text outs (Ok n) = (0 < n) × (n ≤ length text)
+    × (next.at ≡ cutter.at + n) × CutsMore cutter next size (take n text) outs None
     × (is_past_on cutter.sink ≡ false → (x : List ℕ) → IsCut cutter size x → length (x ++ text) ≤ size
     → IsOpen cutter size (x ++ take (n - 1) text))
-CutsStretch told cutter size text old new next (Err fault) = CutsMore told cutter size text old new next (Some fault)
+CutsStretch cutter next size text outs (Err fault) = CutsMore cutter next size text outs (Some fault)
 
 -- Of the text within the size, as much was cut off as the complete output needs; the last `left` bytes are left.
-pub record CutsAs (told : Bool) (cutter : CutterState) (size : ℕ) (text : List ℕ) (old new : List Slot)
-    (next : CutterState) (left : ℕ) : Type 0 where
+pub record CutsAs (cutter next : CutterState) (size : ℕ) (text : List ℕ) (left : ℕ) (outs : Effect) : Type 0 where
   pub few : left ≤ length text
   pub at : next.at ≡ cutter.at + (length text - left)
   pub fits : cutter.at ≤ size → cutter.at + (length text - left) ≤ size
   pub still : is_past_on cutter.sink ≡ true → left ≡ length text
-  pub cuts : CutsMore told cutter size (take (length text - left) text) old new next None
+  pub cuts : CutsMore cutter next size (take (length text - left) text) outs None
   pub needed : (left ≡ length text) ⊎ ((x : List ℕ) → IsCut cutter size x
       → IsNeeded (said_work cutter size).is_complete 1 (x ++ take (length text - left) text))
   pub enough : (left ≡ 0) ⊎ (is_past_on next.sink ≡ true) ⊎ (size ≤ next.at)
 
-abbrev pub CutsSo : Bool → CutterState → ℕ → List ℕ → List Slot → List Slot → CutterState → Result ℕ Fault → Type 0
-CutsSo told cutter size text old new next (Ok left) = CutsAs told cutter size text old new next left
-CutsSo told cutter size text old new next (Err fault) =
-    CutsMore told cutter size (take (min (length text) (size - cutter.at)) text) old new next (Some fault)
+abbrev pub CutsSo : (cutter next : CutterState) → ℕ → List ℕ → Effect → Result ℕ Fault → Type 0
+CutsSo cutter next size text outs (Ok left) = CutsAs cutter next size text left outs
+CutsSo cutter next size text outs (Err fault) =
+    CutsMore cutter next size (take (min (length text) (size - cutter.at)) text) outs (Some fault)
 
 -- Where the size isn't known
 
@@ -124,14 +122,14 @@ abbrev pub all_before : CutterState → List ℕ → ℕ → List ℕ → List �
 all_before cutter waiting end z = begun_before cutter.chunks.unit cutter.chunks.delim end (z ++ waiting)
 
 -- what begins before a place was written, and the rest waits
-pub record Settles (told : Bool) (cutter : CutterState) (waiting : List ℕ) (end : ℕ) (old new : List Slot)
-    (next : CutterState) (left : List ℕ) (fault : Option Fault) : Type 0 where
+pub record Settles (cutter next : CutterState) (waiting left : List ℕ) (end : ℕ) (outs : Effect)
+    (fault : Option Fault) : Type 0 where
   pub chunks : next.chunks ≡ cutter.chunks
   pub bound : next.at + length left ≤ cutter.at + length waiting
-  pub stays : Stays (course cutter) cutter.sink.aim next.sink.aim old new fault
+  pub stays : Stays (course cutter) cutter.sink.aim next.sink.aim outs.old outs.new fault
   pub brings : (z : List ℕ) → BeginsBefore cutter end z
-      → Brings told (course cutter) cutter.sink.aim next.sink.aim (part_on (course cutter) (uncut z))
-      (part_on (course cutter) (uncut (all_before cutter waiting end z))) old new fault
+      → Brings (course cutter) cutter.sink.aim next.sink.aim (part_on (course cutter) (uncut z))
+      (part_on (course cutter) (uncut (all_before cutter waiting end z))) outs fault
   pub leads : (z : List ℕ) → BeginsBefore cutter end z
       → IfNone fault (HasCut next (all_before cutter waiting end z) (uncut (all_before cutter waiting end z))
       × (left ≡ drop (length (all_before cutter waiting end z)) (z ++ waiting)))
@@ -143,11 +141,11 @@ pub record IsFront (cutter : CutterState) (waiting : List ℕ) (size : ℕ) (z :
   pub is : before_chunk cutter.chunks size (first_on (course cutter)) (z ++ waiting) ≡ z
 
 -- what was cut off and what waits are cut up into chunks, and all chunks end
-pub record EndsHeld (told : Bool) (cutter : CutterState) (waiting : List ℕ) (size : ℕ) (old new : List Slot)
-    (next : CutterState) (left : List ℕ) (fault : Option Fault) : Type 0 where
+pub record EndsHeld (cutter next : CutterState) (waiting left : List ℕ) (size : ℕ) (outs : Effect)
+    (fault : Option Fault) : Type 0 where
   pub chunks : next.chunks ≡ cutter.chunks
   pub bound : next.at + length left ≤ cutter.at + length waiting
-  pub stays : Stays (course cutter) cutter.sink.aim next.sink.aim old new fault
+  pub stays : Stays (course cutter) cutter.sink.aim next.sink.aim outs.old outs.new fault
   pub brings : (z : List ℕ) → IsFront cutter waiting size z
-      → Brings told (course cutter) cutter.sink.aim next.sink.aim (part_on (course cutter) (uncut z))
-      (whole_on (course cutter) (chunks_within cutter.chunks size (z ++ waiting))) old new fault
+      → Brings (course cutter) cutter.sink.aim next.sink.aim (part_on (course cutter) (uncut z))
+      (whole_on (course cutter) (chunks_within cutter.chunks size (z ++ waiting))) outs fault

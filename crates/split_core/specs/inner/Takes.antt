@@ -7,7 +7,7 @@ use Rattle.ports_core.specs.{
   Draft.{Draft, draft_part, part_of, with_bytes, with_next},
   FileWriter.{Goes, Leaves, Reaches, At, IsWrite},
   Part.{Part, OutputsAt},
-  Slot.Slot,
+  Slot.{Effect, Slot},
   declared.{
     fault.Fault.{Fault, TheVariants.Verdict},
     verdict.Verdict.TheVariants.Suffixes,
@@ -34,55 +34,52 @@ abbrev pub numbers : PartsState → ℕ × Bool × List ℕ
 numbers parts = (parts.left, parts.has_line, parts.waiting)
 
 -- The files changed as this says, and then the numbers are these; or a fault came meanwhile.
-pub record Moves (told : Bool) (parts : PartsState) (are : ℕ × Bool × List ℕ) (change : Draft → Draft)
-    (old new : List Slot) (next : PartsState) (fault : Option Fault) : Type 0 where
+pub record Moves (parts next : PartsState) (are : ℕ × Bool × List ℕ) (change : Draft → Draft) (outs : Effect)
+    (fault : Option Fault) : Type 0 where
   pub limit : next.limit ≡ parts.limit
   pub same : IfNone fault (numbers next ≡ are)
-  pub goes : Goes told parts.writer change old new next.writer fault
+  pub goes : Goes parts.writer next.writer change outs fault
 
 -- what waits and these bytes went to the part that was begun, or a fault came meanwhile
-abbrev pub Extends : Bool → PartsState → List ℕ → List Slot → List Slot → PartsState → Option Fault → Type 0
-Extends told parts bytes old new next fault =
-    Moves told parts (parts.left, parts.has_line, []) (with_bytes (parts.waiting ++ bytes)) old new next fault
+abbrev pub Extends : (parts next : PartsState) → List ℕ → Effect → Option Fault → Type 0
+Extends parts next bytes =
+    Moves parts next (parts.left, parts.has_line, []) (with_bytes (parts.waiting ++ bytes))
 
 -- the file that was begun ends, and these bytes begin the next
 abbrev pub begins_next : List ℕ → Draft → Draft
 begins_next past draft = with_bytes past (with_next Late draft)
 
 -- the part that was begun ended, and what waits and these bytes begin the next
-abbrev pub BeginsNext : Bool → PartsState → List ℕ → List Slot → List Slot → PartsState → Option Fault → Type 0
-BeginsNext told parts bytes old new next fault =
-    Moves told parts (most parts.limit - length (parts.waiting ++ bytes), false, [])
-    (begins_next (parts.waiting ++ bytes)) old new next fault
+abbrev pub BeginsNext : (parts next : PartsState) → List ℕ → Effect → Option Fault → Type 0
+BeginsNext parts next bytes = Moves parts next (most parts.limit - length (parts.waiting ++ bytes), false, [])
+    (begins_next (parts.waiting ++ bytes))
 
 -- names ran out before these bytes of the input were written: all files that have a name are written
-pub record LacksNames (told : Bool) (parts : PartsState) (x bytes : List ℕ) (old new : List Slot) : Type 0 where
+pub record LacksNames (parts : PartsState) (x bytes : List ℕ) (outs : Effect) : Type 0 where
   pub none : are_named (filing_of parts).names (length (settled_parts parts.limit (x ++ bytes))) ≡ false
-  pub all : (before : List Slot) → At told parts.writer before (settled_part parts x) old
-      → OutputsAt told before (settled_part parts (x ++ bytes)) new
+  pub all : (before : List Slot) → At outs.told parts.writer before (settled_part parts x) outs.old
+      → OutputsAt outs.told before (settled_part parts (x ++ bytes)) outs.new
 
 -- These bytes were taken in, and what is settled with them is written; or a fault came meanwhile.
-pub record Takes (told : Bool) (parts : PartsState) (bytes : List ℕ) (old new : List Slot) (next : PartsState)
-    (fault : Option Fault) : Type 0 where
+pub record Takes (parts next : PartsState) (bytes : List ℕ) (outs : Effect) (fault : Option Fault) : Type 0 where
   pub limit : next.limit ≡ parts.limit
-  pub leaves : Leaves parts.writer next.writer old new fault
+  pub leaves : Leaves parts.writer next.writer outs.old outs.new fault
   pub stands : IfNone fault ((x : List ℕ) → Stands parts x → Stands next (x ++ bytes))
-  pub reaches : (x : List ℕ) → Stands parts x → Reaches (output_by (filing_of parts).verbose) told parts.writer
-      next.writer (settled_part parts x) (settled_part parts (x ++ bytes)) old new fault
+  pub reaches : (x : List ℕ) → Stands parts x → Reaches (output_by (filing_of parts).verbose) parts.writer next.writer
+      (settled_part parts x) (settled_part parts (x ++ bytes)) outs fault
   pub short : IfSome fault (λ why. why ≡ Verdict Suffixes → (x : List ℕ) → Stands parts x
-      → LacksNames told parts x bytes old new)
+      → LacksNames parts x bytes outs)
 
 -- a stretch of the piece was taken in, or a fault came
-abbrev pub TakesStretch : Bool → PartsState → List ℕ → List Slot → List Slot → PartsState → Result ℕ Fault → Type 0
-TakesStretch told parts piece old new next (Ok n) = (0 < n) × (n ≤ length piece)
-    × Takes told parts (take n piece) old new next None
-TakesStretch told parts piece old new next (Err fault) = Takes told parts piece old new next (Some fault)
+abbrev pub TakesStretch : (parts next : PartsState) → List ℕ → Effect → Result ℕ Fault → Type 0
+TakesStretch parts next piece outs (Ok n) = (0 < n) × (n ≤ length piece)
+    × Takes parts next (take n piece) outs None
+TakesStretch parts next piece outs (Err fault) = Takes parts next piece outs (Some fault)
 
 -- the input ended, and the whole is written; or a file broke meanwhile
-pub record Finishes (told : Bool) (parts : PartsState) (old new : List Slot) (next : PartsState)
-    (fault : Option Fault) : Type 0 where
+pub record Finishes (parts next : PartsState) (outs : Effect) (fault : Option Fault) : Type 0 where
   pub limit : next.limit ≡ parts.limit
-  pub leaves : Leaves parts.writer next.writer old new fault
+  pub leaves : Leaves parts.writer next.writer outs.old outs.new fault
   pub broke : IfSome fault IsWrite
-  pub reaches : (x : List ℕ) → Stands parts x → Reaches (output_by (filing_of parts).verbose) told parts.writer
-      next.writer (settled_part parts x) (whole_part parts x) old new fault
+  pub reaches : (x : List ℕ) → Stands parts x → Reaches (output_by (filing_of parts).verbose) parts.writer next.writer
+      (settled_part parts x) (whole_part parts x) outs fault

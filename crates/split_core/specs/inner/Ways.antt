@@ -1,6 +1,6 @@
 -- What private calls say: the ways to cut, as one stage.
-use Rattle.std.specs.Prelude.{ℕ, Bool, List, length, Result}
-use Rattle.ports_core.specs.{Slot.Slot, declared.fault.Fault.Fault}
+use Rattle.std.specs.Prelude.{ℕ, List, length, Result}
+use Rattle.ports_core.specs.{Slot.Effect, declared.fault.Fault.Fault}
 use Rattle.split_core.specs.{
   Ways.terms,
   declared.splitter.Splitter.{Splitter, TheVariants.{Parts, Round, Chunks, Turn}},
@@ -8,14 +8,12 @@ use Rattle.split_core.specs.{
 use Rattle.ports_core.specs.Engine as engine
 
 -- what a call leaves that takes in a piece
-abbrev pub PassesAs : Bool → Splitter → List ℕ → List Slot → List Slot → Splitter → Result (Unit {0}) Fault → Type 0
-PassesAs told old piece before after new result =
-    engine.Passes terms told piece old new before after (engine.IsMetWith terms piece old) result
+abbrev pub PassesAs : (old new : Splitter) → List ℕ → Effect → Result (Unit {0}) Fault → Type 0
+PassesAs old new piece outs = engine.Passes terms piece old new outs (engine.IsMetWith terms piece old)
 
 -- what the call at the end leaves
-abbrev pub EndsAs : Bool → Splitter → List Slot → List Slot → Splitter → Result (Unit {0}) Fault → Type 0
-EndsAs told old before after new result =
-    engine.Finishes terms told old new before after (engine.IsMetThere terms old) result
+abbrev pub EndsAs : (old new : Splitter) → Effect → Result (Unit {0}) Fault → Type 0
+EndsAs old new outs = engine.Finishes terms old new outs (engine.IsMetThere terms old)
 
 -- how many bytes wait; of dealt lines none do
 abbrev pub held : Splitter → ℕ

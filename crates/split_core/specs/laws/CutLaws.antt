@@ -45,21 +45,21 @@ pub cut_once : (limit : Limit) {x : List ℕ} {parts : List (List ℕ)} {rest : 
     → cut_up limit x ≡ cut_so parts rest
 cut_once limit {x} cuts = once_within _ (omega arith) cuts
 
-pub cuts_on : {limit : Limit} (x y : List ℕ) {parts : List (List ℕ)} (more : List (List ℕ)) {rest left : List ℕ}
-    → Cuts limit x parts rest
-    → Cuts limit (rest ++ y) more left → Cuts limit (x ++ y) (parts ++ more) left
-cuts_on x y more (stops _ short) then = then
-cuts_on {limit} x y more {left} (goes _ parts _ full after) then =
+cuts_on : {limit : Limit} (x y : List ℕ) {parts : List (List ℕ)} {rest : List ℕ} → Cuts limit x parts rest
+    → Cuts limit (x ++ y) (parts ++ (cut_up limit (rest ++ y)).full) (cut_up limit (rest ++ y)).rest
+cuts_on x y (stops _ short) = cuts_up
+cuts_on {limit} x y (goes _ parts rest full after) =
+    let left = cut_up limit (rest ++ y) in
     let all : is_full limit (x ++ y) ≡ true = grind (arith, measure-append) in
-    let rest : Cuts limit (after_first limit (x ++ y)) (parts ++ more) left =
-    rw (after-append limit x y full) (cuts_on _ y more after then) in
-    rw (first-append limit x y full) at (goes (x ++ y) _ left all rest)
+    let more : Cuts limit (after_first limit (x ++ y)) (parts ++ left.full) left.rest =
+    rw (after-append limit x y full) (cuts_on _ y after) in
+    rw (first-append limit x y full) at (goes (x ++ y) _ left.rest all more)
 
 -- a longer text has the parts of the text, and then those of its rest and what follows
 pub cut_on : (limit : Limit) (x y : List ℕ)
     → cut_up limit (x ++ y) ≡ cut_so ((cut_up limit x).full ++ (cut_up limit ((cut_up limit x).rest ++ y)).full)
     (cut_up limit ((cut_up limit x).rest ++ y)).rest
-cut_on limit x y = cut_once _ (cuts_on x y _ cuts_up cuts_up)
+cut_on limit x y = cut_once _ (cuts_on x y cuts_up)
 
 left_short : (limit : Limit) (x : List ℕ) {parts : List (List ℕ)} {rest : List ℕ} → Cuts limit x parts rest
     → is_full limit rest ≡ false

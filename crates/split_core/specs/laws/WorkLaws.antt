@@ -2,25 +2,24 @@
 use Rattle.std.{
   proofs.lemmas.{Bool.{false≢true, ltb-true, not-true}, List.{append-nil, length-map}},
   proofs.Common.{◌≡◌, ℕ, ◌+◌, ◌≤◌, zero, suc, List, [], ◌++◌, map, Bool, true, false, Option, arith, length},
-  proofs.Common.{Some, None, refl, rules},
+  proofs.Common.{Some, None, inl, refl, rules},
   specs.List.range_with_len,
 }
 use Rattle.ports_core.{
   specs.{
-    Part.{IsBeginning, FilesBegin, Begins},
+    Part.IsBeginning,
     Slot.MayBecome,
     Work.{IsLawful, IsComplete},
-    declared.slot.State.{State, TheVariants.{Open, Closed}},
-    Draft.part_of,
+    declared.slot.State.{State, TheVariants.Open},
+    inner.Shares.SharesBegin,
   },
   proofs.PartLemmas.{begins_itself},
 }
 use Rattle.split_core.specs.{
-  inner.{CutLaws.named, Dealt.share_of},
-  Split.{Filing, share, manner_of, dealt_files, are_named},
-  Round.{round_plan, round_work, opened_by},
+  Split.{Filing, share, are_named},
+  Round.{round_plan, round_work},
   laws.DealLaws.{dealt_append, dealt_files_are, opened_by-grows},
-  laws.ShareLaws.{part_begins, told_begins, settled_grow, settled_end, files_settled, files_whole, parts_grow},
+  laws.ShareLaws.{part_begins, settled_grow, settled_end, files_settled, files_whole, parts_grow},
   laws.ShareLaws.are_named_more,
   laws.ChunkWorkLaws.{chunk_lawful, chunks_lawful, turn_lawful},
   Parts.{parts},
@@ -33,31 +32,24 @@ use Rattle.split_core.specs.{
 use Rattle.seg_core.specs.declared.cut.{Limit.Limit, Chunks.Chunks as Chunking}
 
 -- files begin other files that aren't fewer, if each has a beginning of the other's bytes
-files_begin : (filing : Filing) (high : State) (f g : ℕ → List ℕ) → MayBecome Open high
-    → ((file : ℕ) → IsBeginning (f file) (g file))
-    → (place start m n : ℕ) → m ≤ n
-    → FilesBegin (named filing place (map (share Open) (map f (range_with_len start m))))
-    (named filing place (map (share high) (map g (range_with_len start n))))
-files_begin filing high f g may begin place start zero n few = tt
-files_begin filing high f g may begin place start (suc m) zero few = absurd (omega arith)
-files_begin filing high f g may begin place start (suc m) (suc n) few =
-    grind (arith, files_begin filing high f g may begin (place + 1) (start + 1) m n (omega arith))
+files_begin : (high : State) (f g : ℕ → List ℕ) → ((file : ℕ) → MayBecome Open high × IsBeginning (f file) (g file))
+    → (start m n : ℕ) → m ≤ n → SharesBegin (map (share Open) (map f (range_with_len start m)))
+    (map (share high) (map g (range_with_len start n)))
+files_begin high f g begins start zero n few = tt
+files_begin high f g begins start (suc m) zero few = absurd (omega arith)
+files_begin high f g begins start (suc m) (suc n) few =
+    (inl (begins start).0, (begins start).1, files_begin high f g begins (start + 1) m n (omega arith))
 
 -- dealt files only grow, and none is taken back
-dealt_begin : (delim : ℕ) (elide : Bool) (n : ℕ) (filing : Filing) (high : State) (x z : List ℕ)
-    → MayBecome Open high → ((file : ℕ) → IsBeginning (share_of delim n x file) (share_of delim n z file))
-    → opened_by delim elide n x ≤ opened_by delim elide n z
-    → Begins (part_of (manner_of filing) (map (share Open) (dealt_files delim elide n x)))
-    (part_of (manner_of filing) (map (share high) (dealt_files delim elide n z)))
-dealt_begin delim elide n filing high x z may begin few =
-    grind (arith, told_begins, dealt_files_are, files_begin)
-
 pub round_lawful : (delim count : ℕ) (elide : Bool) (filing : Filing)
     → IsLawful (round_work (round_plan delim count elide filing))
 round_lawful delim count elide filing = record {
-  grows = λ x y. dealt_begin delim elide count filing Open x (x ++ y)
-      (refl, refl) (λ file. (_, dealt_append delim count file 0 x y)) (opened_by-grows delim elide count x y);
-  ends = λ x. dealt_begin delim elide count filing Closed x x (refl, refl) (λ file. begins_itself _) (omega arith);
+  grows = λ x y. part_begins filing _ _
+      (rw (dealt_files_are delim elide count x, dealt_files_are delim elide count (x ++ y))
+      (files_begin _ _ _ (λ file. ((refl, refl), (_, dealt_append delim count file 0 x y))) 0 _ _
+      (opened_by-grows delim elide count x y)));
+  ends = λ x. part_begins filing _ _ (rw (dealt_files_are delim elide count x)
+      (files_begin _ _ _ (λ file. ((refl, refl), begins_itself _)) 0 _ _ (omega arith)));
   stays = λ x y never. absurd (false≢true never);
 }
 

@@ -10,7 +10,7 @@ pub stretches-init : goal.stretches-init
 stretches-init g c = away_none c.requires.ready
 
 pub returns-in_err-n : goal.returns-in_err-n
-returns-in_err-n g c = result_is (CutsSo _ _ _ _ _ _ _) _ _ c.from_residual.ensures.1
+returns-in_err-n g c = result_is (CutsSo _ _ _ _ _) _ _ c.from_residual.ensures.1
     (rw (c.min-own.ensures, c.saturating_sub.ensures) at (away_stops c.stretches.invariant c.in_err-n.ensures))
 
 pub stretches-preserved : goal.stretches-preserved

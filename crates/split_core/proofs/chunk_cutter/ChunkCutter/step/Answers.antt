@@ -9,7 +9,7 @@ use Rattle.split_core.proofs.chunk_cutter.ChunkCutter.step.Goals as goal
 pub returns-in_err-n : goal.returns-in_err-n
 returns-in_err-n g c =
     let wrote = c.in_err-n.ensures in
-    result_is (CutsStretch _ _ _ _ _ _ _) _ _ c.from_residual.ensures.1
+    result_is (CutsStretch _ _ _ _ _) _ _ c.from_residual.ensures.1
     (cuts_all c.args.text.now (rw c.end_of-end.ensures refl)
     (cuts_not c.args.text.now (rw c.end_of-end.ensures refl) c.requires.text wrote.chunks wrote.kept wrote.changes))
 
@@ -17,7 +17,7 @@ pub returns-in_err-end_full : goal.returns-in_err-end_full
 returns-in_err-end_full g c =
     let wrote = c.in_ok-n.ensures in
     let is = rw c.end_of-end.ensures at wrote.count.2 in
-    result_is (CutsStretch _ _ _ _ _ _ _) _ _ c.from_residual-in_err-end_full.ensures.1
+    result_is (CutsStretch _ _ _ _ _) _ _ c.from_residual-in_err-end_full.ensures.1
     (cuts_all c.args.text.now is (cuts_on c.args.text.now (Some c.in_err-end_full.field-0.0) is
     (cutting c.args.text.now wrote) (rw (← wrote.count.2) at wrote.changes) c.in_err-end_full.ensures))
 

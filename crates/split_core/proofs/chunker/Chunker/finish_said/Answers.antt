@@ -11,7 +11,7 @@ use Rattle.split_core.{
 use Rattle.split_core.proofs.chunker.Chunker.finish_said.Goals as goal
 
 pub returns-in_err-end : goal.returns-in_err-end
-returns-in_err-end g c = rw (← c.self.view_is) (result_is (EndsAs _ _ _ _ _) _ _ c.from_residual.ensures.1
+returns-in_err-end g c = rw (← c.self.view_is) (result_is (EndsAs _ _ _) _ _ c.from_residual.ensures.1
     (said_stops (rw (← c.self.view_is) at c.requires.said)
     (record { said = refl; chunks = refl }) (omega arith)
     (rw (← c.self.view_is) at c.requires.ready) c.in_err-end.ensures.brings c.in_err-end.ensures.broke))

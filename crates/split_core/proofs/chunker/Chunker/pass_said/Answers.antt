@@ -10,7 +10,7 @@ use Rattle.split_core.{
 use Rattle.split_core.proofs.chunker.Chunker.pass_said.Goals as goal
 
 pub returns-in_err-past : goal.returns-in_err-past
-returns-in_err-past g c = rw (← c.self.view_is) (result_is (PassesAs _ _ _ _ _ _) _ _ c.from_residual.ensures.1
+returns-in_err-past g c = rw (← c.self.view_is) (result_is (PassesAs _ _ _ _) _ _ c.from_residual.ensures.1
     (passes_not c.args.piece.now (rw (← c.self.view_is) at c.requires.said) c.in_err-past.ensures))
 
 pub returns-then-is_each : goal.returns-then-is_each

@@ -11,5 +11,5 @@ returns g c = rw (← c.self.view_is) (
 
 pub returns-in_err-put : goal.returns-in_err-put
 returns-in_err-put g c = rw (← c.self.view_is, c.in_err-put.ensures.err) (
-    result_is (PassesAs _ _ _ _ _ _) _ _ c.from_residual.ensures.1
+    result_is (PassesAs _ _ _ _) _ _ c.from_residual.ensures.1
     (lacks_room _ (rw (← c.self.view_is) at c.requires.said)))

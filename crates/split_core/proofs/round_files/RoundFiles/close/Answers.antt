@@ -10,7 +10,7 @@ pub returns-in_err-close : goal.returns-in_err-close
 returns-in_err-close g c =
     let at = output_is c.args.self.now c.loop-place.place (ap (λ (files : FilesState). files.outputs) c.self.view_is)
     (omega arith) c.index.ensures in
-    result_is (ClosesAll _ _ _ _) _ _ c.from_residual.ensures.1
+    result_is (ClosesAll _ _) _ _ c.from_residual.ensures.1
     (not_closed _ c.requires.ready at.0 c.loop-place.invariant at.1 c.in_err-close.ensures.err)
 
 pub loop-place-preserved : goal.loop-place-preserved

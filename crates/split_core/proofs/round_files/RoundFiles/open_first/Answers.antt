@@ -7,7 +7,7 @@ use Rattle.ports_core.proofs.HandedOn.{result_is}
 use Rattle.split_core.proofs.round_files.RoundFiles.open_first.Goals as goal
 
 pub returns-in_err-reach : goal.returns-in_err-reach
-returns-in_err-reach g c = result_is (Opens _ _ _ _ _ _ _) _ _ c.from_residual.ensures.1 (record {
+returns-in_err-reach g c = result_is (Opens _ _ _ _ _) _ _ c.from_residual.ensures.1 (record {
   adds = adds_wider (c.loop-place.place + 1) c.args.count (λ place. [])
       (adds_then _ c.loop-place.invariant c.in_err-reach.ensures.adds (omega arith) (omega arith) (λ i. refl))
       (λ i. refl) (λ i out. refl) (omega arith) (omega arith) (omega arith);

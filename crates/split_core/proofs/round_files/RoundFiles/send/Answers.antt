@@ -7,7 +7,7 @@ use Rattle.split_core.{
 use Rattle.split_core.proofs.round_files.RoundFiles.send.Goals as goal
 
 pub returns-in_err-reach : goal.returns-in_err-reach
-returns-in_err-reach g c = result_is (Adds _ _ _ _ _ _ _ _) _ _ c.from_residual.ensures.1 (sent_unreached c.args.bytes.now c.in_err-reach.ensures)
+returns-in_err-reach g c = result_is (Adds _ _ _ _ _ _) _ _ c.from_residual.ensures.1 (sent_unreached c.args.bytes.now c.in_err-reach.ensures)
 
 pub returns : goal.returns
 returns g c = sent c.args.bytes.now c.write_bytes.result c.in_ok-reach.ensures

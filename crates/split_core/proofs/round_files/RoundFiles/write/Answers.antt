@@ -4,7 +4,7 @@ use Rattle.split_core.{specs.inner.Sharing.Adds, proofs.FilesLemmas.{sent_next, 
 use Rattle.split_core.proofs.round_files.RoundFiles.write.Goals as goal
 
 pub returns-in_err-send : goal.returns-in_err-send
-returns-in_err-send g c = result_is (Adds _ _ _ _ _ _ _ _) _ _ c.from_residual.ensures.1 (sent_stops c.args.gathered.now
+returns-in_err-send g c = result_is (Adds _ _ _ _ _ _) _ _ c.from_residual.ensures.1 (sent_stops c.args.gathered.now
     c.loop-place.invariant c.loop-place-test.true c.index-gathered-place.is c.bytes.ensures c.in_err-send.ensures)
 
 pub loop-place-preserved : goal.loop-place-preserved

@@ -11,7 +11,7 @@ use Rattle.split_core.{
 use Rattle.split_core.proofs.round_splitter.RoundSplitter.pass.Goals as goal
 
 pub returns-in_err-reached : goal.returns-in_err-reached
-returns-in_err-reached g c = result_is (PassesAs _ _ _ _ _ _) _ _ c.from_residual.ensures.1
+returns-in_err-reached g c = result_is (PassesAs _ _ _ _) _ _ c.from_residual.ensures.1
     (rw (← c.self.view_is, c.gather.ensures.delim, c.gather.ensures.count)
     (passes_at g.O.Outs.told _ c.args.piece.now (Err Memory) tt (no_room g.O.Outs.told c.self.inside.files _ _ (λ i past. get_or_past _ i [] past))))
 

@@ -11,7 +11,7 @@ returns-in-Parts g c = rw c.in-Parts.is (finishes_as_if _ c.finish.result
 
 pub returns-in-Round : goal.returns-in-Round
 returns-in-Round g c = rw c.in-Round.is (finishes_as_if _ c.finish-in-Round.result
-    (dealing.finishes_by _ _ _ _ _ c.finish-in-Round.ensures))
+    (dealing.finishes_by _ _ c.finish-in-Round.ensures))
 
 pub returns-in-Turn : goal.returns-in-Turn
 returns-in-Turn g c = rw c.in-Turn.is (finishes_as_if _ (Ok tt)

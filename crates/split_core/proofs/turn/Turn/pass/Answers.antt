@@ -4,7 +4,7 @@ use Rattle.split_core.{specs.inner.Ways.PassesAs, proofs.TurnLemmas.{lacks_room,
 use Rattle.split_core.proofs.turn.Turn.pass.Goals as goal
 
 pub returns-in_err-gather-clause-passes : goal.returns-in_err-gather-clause-passes
-returns-in_err-gather-clause-passes g c = result_is (PassesAs _ _ _ _ _ _) _ _ c.from_residual.ensures.1
+returns-in_err-gather-clause-passes g c = result_is (PassesAs _ _ _ _) _ _ c.from_residual.ensures.1
     (rw (← c.self.view_is, c.gather.ensures.delim, c.gather.ensures.count) (lacks_room _ _ c.args.piece.now))
 
 pub returns-clause-passes : goal.returns-clause-passes
