@@ -399,6 +399,23 @@ left_at suppress total index cut line (step ∷ steps) ending same =
     {later = place_from suppress total (index + 1) steps ending line} (nat_lt line step.cut)
     (suppress && nat_le line step.cut) refl refl (left_at suppress total (index + 1) cut line steps ending) same
 
+-- sections follow one another
+module _ (suppress : Bool) (total : ℕ) (ending : Ending) where
+  none_earlier : (index : ℕ) (steps : List Step) (line section : ℕ)
+      → place_from suppress total index steps ending line ≡ in_section section → index ≤ section
+  none_earlier index [] line section is = grind arith
+  none_earlier index (step ∷ steps) line section is = grind (arith, none_earlier (index + 1) steps line section)
+
+  sections_rise : (index : ℕ) (steps : List Step) (line later section other : ℕ) → line ≤ later
+      → place_from suppress total index steps ending line ≡ in_section section
+      → place_from suppress total index steps ending later ≡ in_section other → section ≤ other
+  sections_rise index [] line later section other few is also = grind arith
+  sections_rise index (step ∷ steps) line later section other few is also = grind (
+    arith,
+    none_earlier index (step ∷ steps) later other,
+    sections_rise (index + 1) steps line later section other few,
+  )
+
 nowhere_by_step : (lt le : Bool) (index : ℕ) {later : Place} (A : Type 0)
     → (lt ≡ false → le ≡ false → later ≡ nowhere → A)
     → cond lt (in_section index) (cond le (left_out index) later) ≡ nowhere → A
@@ -566,6 +583,7 @@ module _ (style : Style) (operands : List Operand) (x : List Line) where
   pub are_placed : ArePlaced (place_of style operands x) style.suppress made x
   are_placed = record {
     sections = λ k. placed_from here (omega arith) 0 k (omega arith);
+    order = sections_rise style.suppress (length x) made.ending 0 made.steps;
     cuts = λ line cut some same.
         let left = left_at style.suppress (length x) 0 cut line made.steps made.ending same in
         (left.so, ap (λ n. get_or (map (λ (step : Step). step.cut) made.steps) n 0) (let e : cut ≡ left.k = omega arith in e) ∙ left.is);

@@ -55,6 +55,9 @@ pub record ArePlaced (places : ℕ → Place) (suppress : Bool) (plan : Plan) (l
   pub sections : (section : ℕ)
       → get_or (map (λ (one : Section). one.lines) (whole_sections lines plan)) section []
       ≡ lines_into section places 1 lines
+  -- sections follow one another: no line goes into an earlier section than a line before it
+  pub order : (line later section other : ℕ) → line ≤ later → places line ≡ in_section section
+      → places later ≡ in_section other → section ≤ other
   -- a line that is left out is the line of that cut, and lines at cuts are left out
   pub cuts : (line cut : ℕ) → 1 ≤ line → places line ≡ left_out cut → (suppress ≡ true)
       × (get_or (map (λ (step : Step). step.cut) plan.steps) cut 0 ≡ line)

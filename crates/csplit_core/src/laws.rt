@@ -59,7 +59,8 @@ pub fn few_lines_wait()
 /// What is settled is what all continuations agree on. The lines that wait are those that two continuations put into
 /// different places, or that one of them puts nowhere. This is said of complete lines, each with a mark for each
 /// operand; the line at a cut may be left out or not. Places are right: each section, a skipped section too, has the
-/// lines that go into it, in their order, and no others.
+/// lines that go into it, in their order, and no others. Sections follow one another, so equal lines can't swap
+/// their sections.
 pub fn agreed_is_settled()
     ensures outputs { (style : Style) (operands : List Operand) (x : List Line)
         → IsAgreed (whole_outputs style operands) x (settled_outputs style operands x) }
