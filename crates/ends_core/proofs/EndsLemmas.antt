@@ -40,7 +40,7 @@ use Rattle.ends_core.specs.{
   Stage.all_but_last,
   inner.{
     Stage.{EndsBadly, changed, stopped, WritesNothing, passed, due, due_at_end, left_waiting, is_full, unused_of},
-    Stage.{FullLacksNone, SameAsked, piece_for, wanted_by},
+    Stage.{FullLacksNone, SameAsked, front_after, piece_for, wanted_by},
     Kept.Stops,
   },
   Kept.{held_of, most_of, delim_of as kept_delim, unit_of as kept_unit},
@@ -291,7 +291,7 @@ passed_none ends = refl
 pub passed_front : {told : Bool} {slot count n : ℕ} {ends next : Ends} {front now : Front} {old new : List Source}
     → ends ≡ FromNth n front → next ≡ FromNth n now
     → PassesOver told slot count (λ x. (after_of front.delim front.unit front.left x ≡ [])
-    × (now ≡ record front { left = front.left - measure front.delim front.unit x })) old new
+    × (now ≡ front_after front x)) old new
     → PassesOver told slot count (λ x. WritesNothing ends x × (next ≡ passed ends x)) old new
 passed_front is after passes = passes_so _ passes (λ x long keeps. rw (is, after, keeps.1) (keeps.0, refl))
 

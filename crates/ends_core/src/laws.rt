@@ -145,9 +145,9 @@ pub fn full_windows_lack_nothing()
         → count_of engine.stage ≤ length x → may_lack engine.stage ≡ false }
     ensures none { (engine : GuardState Ends) (x : List ℕ) → HoldsIn Holds engine x
         → keeps (stretch_of engine.stage) ≡ false → may_lack engine.stage ≡ false }
-    ensures fails { (engine : GuardState Ends) (x piece : List ℕ) (old new : List Slot) (fault : Fault)
-        → HoldsIn Holds engine x → may_lack engine.stage ≡ false → IsRefusedWith terms piece engine old new fault
-        → (fault ≡ Fault.Write 0) ⊎ (fault ≡ Fault.TooLong) }
+    ensures fails { (engine : GuardState Ends) (x piece : List ℕ) (old new : List Slot) (why : Fault)
+        → HoldsIn Holds engine x → may_lack engine.stage ≡ false → IsRefusedWith terms piece engine old new why
+        → (why ≡ Fault.Write 0) ⊎ (why ≡ Fault.TooLong) }
 {}
 
 /// How many lines a text has: as many as delimiters, and one more if its last line is open.

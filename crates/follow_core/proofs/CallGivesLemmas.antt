@@ -13,12 +13,12 @@ use Rattle.follow_core.specs.{
   Sharing.{CameTo, CanPrint},
   Printing.{broke as short_broke, no_room},
   declared.{visitor.Stop.{Stop, TheVariants.{Broke, Over}}},
-  inner.Giving.{Are, ArePut, BrokeAt, ByStop, Came, CanGoOn, Copies, Follows, Gives, Keeps, Moment, Pen, Puts, Sight},
+  inner.Giving.{Are, ArePut, BrokeAt, ByStop, Came, CanGoOn, Copies, Follows, Yields, Keeps, Moment, Pen, Puts, Sight},
   inner.Giving.{fault_by, over_by},
   inner.Visits.KeepsOthers,
   Reading.{AreRead, IsLong, Saw, none_read, one_more, read_all, read_part, read_some},
   Event.{begins_none, Event, bytes_in, gives},
-  Look.{Fate, call_of, sound, unread},
+  Look.{Fate, broken_by, sound, unread},
   Telling.Remark,
 }
 use Rattle.follow_core.proofs.{
@@ -46,8 +46,8 @@ module _ {told is_opened : Bool} {fate : Fate} {name : List ℕ} where
   -- a relation of events may be replaced by what follows from it
   pub gives_over : {One Both : Option Fate → List Event → Type 0} {other : Fate} {old new : Moment} {why : Fault}
       → ((events : List Event) → One None events → Both None events)
-      → Gives told One fate is_opened name old new (Some (Over why))
-      → Gives told Both other is_opened name old new (Some (Over why))
+      → Yields told One fate is_opened name old new (Some (Over why))
+      → Yields told Both other is_opened name old new (Some (Over why))
   gives_over so ends = record {
     events = ends.events;
     given = (ends.given.0, so ends.given.0 ends.given.1, ends.given.2);
@@ -56,22 +56,22 @@ module _ {told is_opened : Bool} {fate : Fate} {name : List ℕ} where
 
   abbrev pub gives_so : {One Both : Option Fate → List Event → Type 0} {old new : Moment} {stop : Option Stop}
       → ((reach : Option Fate) (events : List Event) → One reach events → Both reach events)
-      → Gives told One fate is_opened name old new stop → Gives told Both fate is_opened name old new stop
+      → Yields told One fate is_opened name old new stop → Yields told Both fate is_opened name old new stop
   gives_so {stop = stop} so ends =
       record { events = ends.events; given = given_so fate stop ends.events so ends.given; came = ends.came }
 
   -- the watched names don't matter
   pub gives_at : {Is : Option Fate → List Event → Type 0} {old new : Moment} {watched names : List Watched}
-      {stop : Option Stop} → Gives told Is fate is_opened name old new stop
-      → Gives told Is fate is_opened name (record old { watched = watched }) (record new { watched = names }) stop
+      {stop : Option Stop} → Yields told Is fate is_opened name old new stop
+      → Yields told Is fate is_opened name (record old { watched = watched }) (record new { watched = names }) stop
   gives_at ends = record { events = ends.events; given = ends.given; came = ends.came }
 
   -- if the first of two steps was done, both end as the second does
   pub gives_both : {One Two Both : Option Fate → List Event → Type 0} {first : Fate} {old mid new : Moment}
       {stop : Option Stop}
       → ((reach : Option Fate) (events more : List Event) → One (Some sound) events → Two reach more
-      → Both reach (events ++ more)) → Gives told One first is_opened name old mid None
-      → Gives told Two fate false name mid new stop → Gives told Both fate is_opened name old new stop
+      → Both reach (events ++ more)) → Yields told One first is_opened name old mid None
+      → Yields told Two fate false name mid new stop → Yields told Both fate is_opened name old new stop
   gives_both {Two = Two} {Both} {stop = stop} join one two = record {
     events = one.events ++ two.events;
     given = by stop two.events two.given;
@@ -85,16 +85,16 @@ module _ {told is_opened : Bool} {fate : Fate} {name : List ℕ} where
     by (Some (Over why)) events (all, is, begins) =
         (one.events ++ all, join None one.events all one.given is, begins_after one.events begins)
 
-fails_not : {fate : Fate} → is_some (call_of fate) ≡ true → Some fate ≡ Some sound → ⊥
+fails_not : {fate : Fate} → is_some (broken_by fate) ≡ true → Some fate ≡ Some sound → ⊥
 fails_not {fate} broke is = let same : fate ≡ sound = cc in
-    false≢true (subst (λ those. is_some (call_of those) ≡ true) same broke)
+    false≢true (subst (λ those. is_some (broken_by those) ≡ true) same broke)
 
 -- a stop of the first of two steps stops both
 pub gives_early : {told is_opened : Bool} {One Both : Option Fate → List Event → Type 0} {fate : Fate} {name : List ℕ}
     {old new : Moment} (place : ℕ) (watched watched_new : List Watched) (stop : Stop)
     → Keeps place watched watched_new fate (Some stop)
     → ((reach : Option Fate) (events : List Event) → (reach ≡ Some sound → ⊥) → One reach events → Both reach events)
-    → Gives told One fate is_opened name old new (Some stop) → Gives told Both fate is_opened name old new (Some stop)
+    → Yields told One fate is_opened name old new (Some stop) → Yields told Both fate is_opened name old new (Some stop)
 gives_early place watched watched_new (Broke why) keeps so ends = record {
   events = ends.events;
   given = so _ ends.events (fails_not keeps.0.broke) ends.given;
@@ -104,12 +104,12 @@ gives_early place watched watched_new (Over why) keeps so ends = gives_over (λ 
 
 module _ {told : Bool} {Is : Option Fate → List Event → Type 0} {name : List ℕ} {now : Moment} where
   abbrev pub gives_none : (fate : Fate) {watched : List Watched} → Is (Some sound) []
-      → Gives told Is fate false name now (record now { watched = watched }) None
+      → Yields told Is fate false name now (record now { watched = watched }) None
   gives_none fate is = record { events = []; given = is; came = came_none }
 
   -- a call failed before anything was given
   pub gives_failed : (fate : Fate) {watched : List Watched} {why : Fault} → Is (Some fate) []
-      → Gives told Is fate false name now (record now { watched = watched }) (Some (Broke why))
+      → Yields told Is fate false name now (record now { watched = watched }) (Some (Broke why))
   gives_failed fate is = record { events = []; given = is; came = came_none }
 
 -- Bytes that were written are one event.
@@ -127,7 +127,7 @@ none_put (Some why) {bytes = byte ∷ bytes} (rest, is) = absurd (cc)
 
 pub header_only : {told is_opened : Bool} {name : List ℕ} {old new : Moment} (over : Option Fault)
     → Puts told is_opened name [] old.pen new.pen over
-    → Gives told (Are []) sound is_opened name old new (option_map Over over)
+    → Yields told (Are []) sound is_opened name old new (option_map Over over)
 header_only None put = record { events = []; given = refl; came = rw (none_put None put.are) at put.came }
 header_only (Some why) put =
     record { events = []; given = ([], refl, begins_none); came = rw (none_put (Some why) put.are) at put.came }
@@ -202,7 +202,7 @@ puts_can None put can = came_can None put.came can
 puts_can (Some why) put can = came_can (Some (Over why)) put.came can
 
 pub ends_can : {told is_opened : Bool} {Is : Option Fate → List Event → Type 0} {fate : Fate} {name : List ℕ}
-    {old new : Moment} {stop : Option Stop} → Gives told Is fate is_opened name old new stop → CanPrint old.pen.slots
+    {old new : Moment} {stop : Option Stop} → Yields told Is fate is_opened name old new stop → CanPrint old.pen.slots
     → CanGoOn stop new.pen.slots
 ends_can {stop = stop} ends can = came_can stop ends.came can
 
@@ -239,7 +239,7 @@ none_of (Some x) is = cc
 
 -- a call failed on the names as they were, and broke one
 pub broke_at : {place : ℕ} {old now new : List Watched} {fate : Fate} {why : Fault} (how : Option ℕ → Broken)
-    → call_of fate ≡ Some (how (watched_at old place).opened)
+    → broken_by fate ≡ Some (how (watched_at old place).opened)
     → now ≡ old → why ≡ fault_by place fate → NameBreaks how place now new → BrokeAt place old new fate why
 broke_at {place} {old} {fate} how is same fault (reason, broken) = record {
   broke = ap is_some is;
@@ -255,7 +255,7 @@ pub broke_why : {place : ℕ} {old new : List Watched} {fate : Fate} {fault : Fa
 broke_why {place} {old} {new} {fate} can broke told =
     told (ap (λ (w : Watched). is_some w.failed) there ∙ broke.broke) ∙ ap (λ (w : Watched). w.reason) there where
       there : watched_at new place
-          ≡ record (watched_at old place) { opened = None; failed = call_of fate; reason = broke.reason }
+          ≡ record (watched_at old place) { opened = None; failed = broken_by fate; reason = broke.reason }
       there = rw broke.names (changed_there no_name place _ old (watchable_within old place can))
 
 -- a file was opened, and then a call on it kept the names or broke this name: that is one call that follows the name

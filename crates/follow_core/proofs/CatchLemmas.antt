@@ -5,12 +5,12 @@ use Rattle.std.proofs.{
   Common.{Result, Ok, Err, IsTrue, IfOk, option_map},
 }
 use Rattle.follow_core.specs.{
-  inner.Giving.{Adds, Are, Follows, Gives, Keeps, Leads, Moment, Sight, stop_in},
+  inner.Giving.{Adds, Are, Yields, Keeps, Leads, LooksAgain, Moment, Sight, stop_in},
   declared.{visitor.Stop.{Stop}, notice.Notice.Notice},
   Event.{change_between, notes},
-  Look.{Fate, sound},
+  Look.sound,
   Version.open_after_look,
-  Reading.{Changed, IsLong, Later, Saw, came_all, came_early, not_asked, opened_there, unchanged},
+  Reading.{Changed, IsLong, Saw, came_all, came_early, not_asked, opened_there, unchanged},
 }
 use Rattle.follow_core.proofs.CallGivesLemmas.{
   follows_from,
@@ -93,7 +93,7 @@ pub leads_opened : {see : Sight} {is_there : Bool} {place : ℕ} {name : List �
     {notice : Notice} {result : Result ℕ Stop} → IsTrue (is_watchable old.watched place)
     → (watched_at old.watched place).name ≡ name
     → Changed see.told_in see.snapshot (watched_at old.watched place).name (watched_at old.watched place).opened notice
-    → Gives see.told (Are (notes notice ∷ [])) sound false name old mid None
+    → Yields see.told (Are (notes notice ∷ [])) sound false name old mid None
     → Reopens see.told_in see.snapshot old.watched mid.watched place is_there
     → Adds see place name 0 mid new result → Leads see true place name position old new result
 leads_opened {see} {place = place} {name} {old = old} {mid} {new} {result = result} can named changed line reopens adds =
@@ -118,19 +118,6 @@ leads_opened {see} {place = place} {name} {old = old} {mid} {new} {result = resu
           IfOk result (IsLong see.told_in true see.snapshot now.name now.opened)
       by (Ok len) long same = rw (same, here) (long_by see.snapshot len reopens.file (λ none is. inr (rw none at saw)) long)
       by (Err stop) long keeps = tt
-
--- What a later look at a name gives, without the message about a call that failed.
-pub record LooksAgain (see : Sight) (by_name : Bool) (place : ℕ) (name : List ℕ) (position : ℕ) (old new : Moment)
-    (result : Result ℕ Stop) : Type 0 where
-  pub fate : Fate
-  pub ends : let known = watched_at old.watched place in
-      Gives see.told (Later see.told_in by_name see.snapshot known.name known.opened position) fate false name old new
-      (stop_in result)
-  pub long : let now = watched_at new.watched place in
-      IfOk result (IsLong see.told_in by_name see.snapshot now.name now.opened)
-  pub follows : Follows see.told_in
-      (open_after_look by_name name (watched_at old.watched place).opened see.snapshot) place old.watched new.watched
-      fate (stop_in result)
 
 module _ {see : Sight} {place : ℕ} {name : List ℕ} {position : ℕ} {old : Moment} where
   pub stopped_looks : (by_name : Bool) {new : Moment} {stop : Stop} → Adds see place name position old new (Err stop)

@@ -14,7 +14,7 @@ use Rattle.follow_core.specs.{
   FollowState.{AllReady, Begun, up_to},
   Look.{Look, Visit, Ways, failed_for, failed_in, is_dropped, sound_visit},
   Share.{BeginsShare, Share, share_by, share_of},
-  inner.{Visits.{KeepsOthers, Opened, Stopped, Visited, VisitedTo, Visits}, Giving.{IsFront, Moment, Sight}},
+  inner.{Visits.{KeepsOthers, Opened, Stopped, Visited, VisitedTo, VisitsBy}, Giving.{IsFront, Moment, Sight}},
   Printing.PrinterState,
   Reading.{AreAtLook, IsGiven, names_more, no_names},
   Sharing.{AllShared, AllShort},
@@ -88,7 +88,7 @@ one_given from (first ∷ names) (names_more is rest) given =
 
 pub visited_more : {see : Sight} {ways : Ways} {looks : List Look} {now : List NameState} {one : NameState} {place : ℕ}
     {old mid new : Moment} {before failed : Bool} → place < length now
-    → Visits see ways (ways.first + place) (state_at now place) mid one.standing new (Ok failed)
+    → VisitsBy see ways (ways.first + place) (state_at now place) mid one.standing new (Ok failed)
     → one.text ≡ (state_at now place).text → VisitedTo see ways looks place now old mid before
     → VisitedTo see ways looks (place + 1) (set now place one) old new (before || failed)
 visited_more {see} {ways} {looks} {now} {one} {place} {mid = mid} {new} {failed = failed} within visits same sofar = record {
@@ -168,7 +168,7 @@ opens_keeps Is (name ∷ names) (suc place) (suc other) file is here = opens_kee
 pub visited_short : {see : Sight} {ways : Ways} {looks : List Look} {now : List NameState} {standing : Standing}
     {place : ℕ}
     {old mid new : Moment} {before : Bool} {why : Fault} → place < length now
-    → Visits see ways (ways.first + place) (state_at now place) mid standing new (Err why)
+    → VisitsBy see ways (ways.first + place) (state_at now place) mid standing new (Err why)
     → VisitedTo see ways looks place now old mid before → length new.watched ≡ ways.first + length now
     → (whole part : List Share) × Begun see.told_in ways (texts now) looks see.snapshot new.watched whole part
     × (printed : PrinterState) × (reached : List Slot)

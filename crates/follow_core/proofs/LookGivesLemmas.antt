@@ -3,7 +3,7 @@ use Rattle.follow_core.specs.{
   Standing.{CanVisit, NameState, IsFollowed, IsLeft, Stands},
   declared.{
     visitor.Stop.{Stop, TheVariants.{Broke, Over}},
-    name.Standing.{Standing, TheVariants.{New, Followed, Left}},
+    name.Standing.{Standing, TheVariants.{Followed, Left}},
   },
   Reading.{AreAtLook, AreFound, CallsFind, Caught, First, IsFound, IsLong, IsMissing, LedTo, LookGives, NoneBreaks, ReadOn, Saw},
   Reading.{at_first, at_later, begun, came_all, came_early, first_unmeasured, first_unsought, looks_more, measured},
@@ -15,13 +15,14 @@ use Rattle.follow_core.specs.{
   Version.{entries_led, held_at, open_after_later, open_after_look},
   Gain.gains_after,
   inner.{
-    Giving.{Are, BrokeAt, ByStop, Came, Follows, Gives, Moment, Pen, Shared, Sight, Starts, fault_by, is_read, moment},
-    Giving.{stop_in, text_under},
-    Visits.{SaysFailed, TellsStop, Visited, Visits},
+    Giving.{Are, BrokeAt, ByStop, Came, Follows, Yields, Moment, Pen, Shared, Sight, Starts, fault_by, is_read, moment},
+    Giving.{LooksAgain, stop_in, text_under},
+    Visits.{SaysFailed, StandsBefore, TellsStop, Visited, VisitsBy},
   },
-  Look.{Fate, Look, Visit, Ways, call_of, can_meet, entries_in, failed_by, failed_in, fate_at, is_dropped, is_first},
+  Look.{Fate, Look, Visit, Ways, broken_by, can_meet, entries_in, failed_by, failed_in, fate_at, is_dropped, is_first},
   Look.{snapshots, sound, sound_visit, unopened, visit_at},
   Notice.is_missing,
+  FollowState.new_state,
   Share.{Due, Share, due_at, due_later, events_at, failure_of, failure_remark, given_at, given_by, is_unopened},
   Share.missing_share,
   Share.{no_share, opened_in, share_by},
@@ -31,7 +32,7 @@ use Rattle.follow_core.specs.{
 use Rattle.follow_core.proofs.{
   CallLemmas.{came_none, failure_said, wrote_after, wrote_line},
   CallGivesLemmas.{broke_at, broke_why, gives_both, gives_none, gives_so, keeps_others, none_of, opened_now, some_of},
-  CatchLemmas.{LooksAgain, long_by},
+  CatchLemmas.long_by,
   EventLemmas.begins_trans,
   ShownLemmas.{AreBy, first_are, later_are},
   LookLemmas.{broke_by, broken_more, broken_sound, failed_more, failed_sound, open_more, seeing},
@@ -82,11 +83,11 @@ said_after {told} {opened} {name} {bytes} line {old = old} came says = record {
   slots = wrote_after _ _ _ _ _ _ _ None (append-nil (text_under old.printer opened name bytes)) refl came.slots (wrote_line told _ line says);
 }
 
-fault_line : (name : List ℕ) (visit : Visit) → is_some (call_of visit.fate) ≡ true
+fault_line : (name : List ℕ) (visit : Visit) → is_some (broken_by visit.fate) ≡ true
     → (failed (record { fault = fault_by 0 visit.fate; why = visit.why }) name ∷ []
     ≡ failure_remark name (failure_of visit)) × (is_some (failure_of visit) ≡ true)
 fault_line name visit = by visit.fate where
-  by : (fate : Fate) → is_some (call_of fate) ≡ true → let those : Visit = record { fate = fate; why = visit.why } in
+  by : (fate : Fate) → is_some (broken_by fate) ≡ true → let those : Visit = record { fate = fate; why = visit.why } in
       (failed (record { fault = fault_by 0 fate; why = visit.why }) name ∷ []
       ≡ failure_remark name (failure_of those)) × (is_some (failure_of those) ≡ true)
   by sound broke = absurd (false≢true broke)
@@ -161,7 +162,7 @@ shared_as opened name events failure = record { name = name; is_opened = opened;
 
 module _ {see : Sight} {ways : Ways} {before : List Look} {name : List ℕ} {old mid : Moment} where
   -- all that is due was given
-  pub looked_whole : {fate : Fate} (ends : Gives see.told (LookGives see.told_in ways before see.snapshot name) fate
+  pub looked_whole : {fate : Fate} (ends : Yields see.told (LookGives see.told_in ways before see.snapshot name) fate
       (is_first before) name old mid None)
       → (see.told_in ≡ true → IsShown ways before see.snapshot name fate None ends.events)
       → Looked see ways before name old mid false sound_visit
@@ -181,8 +182,8 @@ module _ {see : Sight} {ways : Ways} {before : List Look} {name : List ℕ} {old
 
   -- a call failed: what comes before it was given, and the message follows
   pub looked_broke : (place : ℕ) {slots : List Slot} {fault : Fault} (visit : Visit)
-      → is_some (call_of visit.fate) ≡ true → fault ≡ fault_by place visit.fate
-      → (ends : Gives see.told (LookGives see.told_in ways before see.snapshot name) visit.fate (is_first before) name
+      → is_some (broken_by visit.fate) ≡ true → fault ≡ fault_by place visit.fate
+      → (ends : Yields see.told (LookGives see.told_in ways before see.snapshot name) visit.fate (is_first before) name
       old mid (Some (Broke fault)))
       → (see.told_in ≡ true → IsShown ways before see.snapshot name visit.fate (Some (Broke fault)) ends.events)
       → SaysFailed see.told old.pen.printer.calling name visit.why fault mid.pen.slots slots
@@ -232,7 +233,7 @@ calls_find ways name (first ∷ looks) look fate events later = later_are {snaps
 pub record Gave (see : Sight) (ways : Ways) (looks : List Look) (place : ℕ) (name : List ℕ) (led : Option ℕ)
     (old new : Moment) (fate : Fate) (result : Result ℕ Stop) : Type 0 where
   pub kept : is_dropped place looks ≡ false
-  pub ends : Gives see.told (LookGives see.told_in ways looks see.snapshot name) fate (is_first looks) name old new
+  pub ends : Yields see.told (LookGives see.told_in ways looks see.snapshot name) fate (is_first looks) name old new
       (stop_in result)
   pub shown : see.told_in ≡ true → IsShown ways looks see.snapshot name fate (stop_in result) ends.events
   pub last : see.told_in ≡ true → (ways.by_name ≡ false → is_some led ≡ true)
@@ -243,14 +244,14 @@ begun_more : (looks : List Look) (look : Look) → is_first (looks ++ look ∷ [
 begun_more [] look = refl
 begun_more (before ∷ looks) look = refl
 
-some_call : (visit : Visit) → is_some (failed_by visit None) ≡ is_some (call_of visit.fate)
+some_call : (visit : Visit) → is_some (failed_by visit None) ≡ is_some (broken_by visit.fate)
 some_call visit = by visit.fate where
-  by : (fate : Fate) → is_some (failed_by (record { fate = fate; why = visit.why }) None) ≡ is_some (call_of fate)
+  by : (fate : Fate) → is_some (failed_by (record { fate = fate; why = visit.why }) None) ≡ is_some (broken_by fate)
   by sound = refl
   by fate = refl
 
 kept_more : (place : ℕ) (looks : List Look) (look : Look) {visit : Visit} → is_dropped place looks ≡ false
-    → visit_at place look ≡ visit → is_dropped place (looks ++ look ∷ []) ≡ is_some (call_of visit.fate)
+    → visit_at place look ≡ visit → is_dropped place (looks ++ look ∷ []) ≡ is_some (broken_by visit.fate)
 kept_more place looks look {visit} kept at =
     ap is_some (failed_more place looks look (none_of (failed_in place looks) kept) at) ∙ some_call visit
 
@@ -290,9 +291,9 @@ module _ {see : Sight} {ways : Ways} {place : ℕ} {one : NameState} {old new : 
       → new.watched ≡ changed_at place change old.watched → IsTrue (is_watchable old.watched place)
       → CanVisit (record one { standing = now }) (change (watched_at old.watched place))
       → (watched_at new.watched place ≡ change (watched_at old.watched place) → (looks : List Look)
-      → Stands see.told_in ways looks place one.text (watched_at old.watched place) one.standing
+      → StandsBefore see ways looks place one old
       → Visited see ways looks place (record one { standing = now }) old new failed)
-      → Visits see ways place one old now new (Ok failed)
+      → VisitsBy see ways place one old now new (Ok failed)
   visits_by now change is can ready visited = record {
     visited = visited there;
     stopped = tt;
@@ -306,11 +307,11 @@ module _ {see : Sight} {ways : Ways} {place : ℕ} {one : NameState} {old new : 
   -- the name broke
   drops : (fate : Fate) (fault : Fault) → (watched_at old.watched place).name ≡ one.text
       → IsTrue (is_watchable old.watched place) → (broke : BrokeAt place old.watched new.watched fate fault)
-      → ((looks : List Look) → Stands see.told_in ways looks place one.text (watched_at old.watched place) one.standing
+      → ((looks : List Look) → StandsBefore see ways looks place one old
       → (is_dropped place looks ≡ false)
       × Looked see ways looks one.text old new true (record { fate = fate; why = broke.reason })
       × (can_meet (is_first looks) ways.by_name ways.seeks fate ≡ true))
-      → Visits see ways place one old Left new (Ok true)
+      → VisitsBy see ways place one old Left new (Ok true)
   drops fate fault named can broke gave = visits_by Left _ broke.names can tt (λ there looks stands.
       let visit : Visit = record { fate = fate; why = broke.reason } in
       let (kept, looked, met) = gave looks stands in
@@ -323,10 +324,10 @@ module _ {see : Sight} {ways : Ways} {place : ℕ} {one : NameState} {old new : 
   -- no call on the name failed
   pub gave_through : {led : Option ℕ} {len : ℕ} (fate : Fate) → (watched_at old.watched place).name ≡ one.text
       → IsTrue (is_watchable old.watched place) → Follows see.told_in led place old.watched new.watched fate None
-      → ((looks : List Look) → Stands see.told_in ways looks place one.text (watched_at old.watched place) one.standing
+      → ((looks : List Look) → StandsBefore see ways looks place one old
       → Gave see ways looks place one.text led old new fate (Ok len))
       → (let now = watched_at new.watched place in IsLong see.told_in ways.by_name see.snapshot now.name now.opened len)
-      → Visits see ways place one old (Followed len) new (Ok false)
+      → VisitsBy see ways place one old (Followed len) new (Ok false)
   gave_through {len = len} fate named can (file, is, leads) gave long =
       visits_by (Followed len) (opens file) is can (named, none_of (watched_at old.watched place).failed (not-true _ can))
       (λ there looks stands.
@@ -337,12 +338,12 @@ module _ {see : Sight} {ways : Ways} {place : ℕ} {one : NameState} {old new : 
   pub gave_fails : {led : Option ℕ} {slots : List Slot} {why : Reason} (fate : Fate) (stop : Stop) {now : Standing}
       {result : Result Bool Fault} → (watched_at old.watched place).name ≡ one.text
       → IsTrue (is_watchable old.watched place) → Follows see.told_in led place old.watched new.watched fate (Some stop)
-      → ((looks : List Look) → Stands see.told_in ways looks place one.text (watched_at old.watched place) one.standing
+      → ((looks : List Look) → StandsBefore see ways looks place one old
       → Gave see ways looks place one.text led old (record new { pen = record new.pen { slots = slots } }) fate
       (Err stop))
       → (is_some (watched_at new.watched place).failed ≡ true → why ≡ (watched_at new.watched place).reason)
       → TellsStop (SaysFailed see.told new.pen.printer.calling one.text why) slots now new.pen.slots stop result
-      → Visits see ways place one old now new result
+      → VisitsBy see ways place one old now new result
   gave_fails {slots = slots} fate (Broke fault) named can broke gave reason (tells, left, says) = rw (tells, left) (drops fate fault named can broke (λ looks stands.
       let made = gave looks stands in (
         made.kept,
@@ -378,15 +379,15 @@ module _ {see : Sight} {ways : Ways} {place : ℕ} {one : NameState} {old new : 
 -- How the first look ends.
 
 pub first_missing : {see : Sight} {ways : Ways} {place : ℕ} {name : List ℕ} {old : Moment} {watched : List Watched}
-    {slots : List Slot} {is_there : Bool} {reason : Reason}
+    {slots : List Slot} {is_there : Bool} {reason : Reason} {now : Standing}
+    → now ≡ (if ways.by_name then Followed 0 else Left)
     → Reopens see.told_in see.snapshot old.watched watched place is_there → is_there ≡ false
     → (watched_at old.watched place).name ≡ name → IsTrue (is_watchable old.watched place)
     → SaysOn see.told (tail_by old.pen.printer.calling) reason (failure_message (Open place) name) old.pen.slots slots
-    → Visits see ways place (record { text = name; standing = New }) old (if ways.by_name then Followed 0 else Left)
-    (moment watched old.pen.printer slots) (Ok true)
-first_missing {see} {ways} {place} {name} {old} {watched} {slots} {reason = reason} reopens gone named can says =
-    visits_by _ (opens None) (rw none at reopens.names) can (ready ways.by_name) (λ there looks fresh. rw fresh.0
-    (looked_visited _ refl looked (λ visits at. rw there (stands visits at ways.by_name refl)))) where
+    → VisitsBy see ways place (new_state name) old now (moment watched old.pen.printer slots) (Ok true)
+first_missing {see} {ways} {place} {name} {old} {watched} {slots} {reason = reason} is reopens gone named can says =
+    rw is (visits_by _ (opens None) (rw none at reopens.names) can (ready ways.by_name) (λ there looks fresh. rw fresh.0
+    (looked_visited _ refl looked (λ visits at. rw there (stands visits at ways.by_name refl))))) where
       none : reopens.file ≡ None
       none = none_of reopens.file (reopens.found ∙ gone)
 
@@ -444,7 +445,7 @@ pub first_unopened : {see : Sight} {ways : Ways} {place : ℕ} {name : List ℕ}
     → see.snapshot.breaks (watched_at old.watched place).name ≡ true
     → (is_some (watched_at watched place).failed ≡ true → why ≡ (watched_at watched place).reason)
     → TellsStop (SaysFailed see.told old.pen.printer.calling name why) old.pen.slots now slots (Broke fault) result
-    → Visits see ways place (record { text = name; standing = New }) old now (moment watched old.pen.printer slots)
+    → VisitsBy see ways place (new_state name) old now (moment watched old.pen.printer slots)
     result
 first_unopened {place = place} {name} {old} {watched} {fault = fault} named can is call fails reason (tells, left, says) =
     let broke : BrokeAt place old.watched watched unopened fault = broke_at (λ file. broken.Open) refl refl is call in
@@ -473,9 +474,9 @@ pub first_gave : {see : Sight} {ways : Ways} {place : ℕ} {name : List ℕ} {in
     {mid : List Watched} {is_there : Bool} {fate : Fate} {result : Result ℕ Stop}
     → inside ≡ old.pen.printer → (reopens : Reopens see.told_in see.snapshot old.watched mid place is_there)
     → is_there ≡ true → (watched_at old.watched place).name ≡ name
-    → Gives see.told (First see.told_in see.snapshot name reopens.file ways.seeks ways.start) fate true name
+    → Yields see.told (First see.told_in see.snapshot name reopens.file ways.seeks ways.start) fate true name
     (record old { pen = record old.pen { printer = inside } }) new (stop_in result)
-    → (looks : List Look) → Stands see.told_in ways looks place name (watched_at old.watched place) New
+    → (looks : List Look) → StandsBefore see ways looks place (new_state name) old
     → Gave see ways looks place name (see.snapshot.leads name) old new fate result
 first_gave {see} {ways} {name = name} {old = old} {new} {fate = fate} {result} viewed reopens there named gave looks fresh =
     let (file, is) = some_of reopens.file (reopens.found ∙ there) in
@@ -512,9 +513,9 @@ pub first_started : {see : Sight} {ways : Ways} {now : Snapshot} {place : ℕ} {
     {old mid new : Moment} {is_there : Bool} {result : Result ℕ Stop} → inside ≡ old.pen.printer
     → Reopens see.told_in see.snapshot old.watched mid.watched place is_there → is_there ≡ true
     → (watched_at old.watched place).name ≡ name → IsTrue (is_watchable old.watched place) → now ≡ see.snapshot
-    → Gives see.told (Are []) sound true name (record old { pen = record old.pen { printer = inside } }) mid None
+    → Yields see.told (Are []) sound true name (record old { pen = record old.pen { printer = inside } }) mid None
     → (starts : Starts (record see { snapshot = now }) ways.seeks ways.start place name mid new (stop_in result))
-    → (looks : List Look) → Stands see.told_in ways looks place name (watched_at old.watched place) New
+    → (looks : List Look) → StandsBefore see ways looks place (new_state name) old
     → Gave see ways looks place name (see.snapshot.leads name) old new starts.fate result
 first_started {see} {now = now} {place} {name} {old = old} {mid} viewed reopens there named can same header starts =
     first_gave viewed reopens there named (gives_both (λ reach events more are first. rw are first) header
@@ -567,6 +568,23 @@ later_gave {see} {ways} {place} {name} {position} {old} {result = result} again 
           (length (held_at last file))
       seen_same last seen snapshot None long = refl
       seen_same last seen snapshot (Some file) long = ap (came_of snapshot (Some file)) (long.1 refl)
+
+-- a later look at a name that can be looked at
+module _ {see : Sight} {ways : Ways} {place : ℕ} {name : List ℕ} {position : ℕ} {old new : Moment}
+    (can : CanVisit (record { text = name; standing = Followed position }) (watched_at old.watched place)) where
+  -- no call failed
+  pub looks_through : {len : ℕ} → LooksAgain see ways.by_name place name position old new (Ok len)
+      → VisitsBy see ways place (record { text = name; standing = Followed position }) old (Followed len) new (Ok false)
+  looks_through again = gave_through again.fate can.0 (rw can.1 refl) again.follows (later_gave again) again.long
+
+  -- the look was stopped
+  pub looks_short : {slots : List Slot} {why : Reason} {stop : Stop} {now : Standing} {result : Result Bool Fault}
+      → LooksAgain see ways.by_name place name position old (record new { pen = record new.pen { slots = slots } })
+      (Err stop)
+      → (is_some (watched_at new.watched place).failed ≡ true → why ≡ (watched_at new.watched place).reason)
+      → TellsStop (SaysFailed see.told new.pen.printer.calling name why) slots now new.pen.slots stop result
+      → VisitsBy see ways place (record { text = name; standing = Followed position }) old now new result
+  looks_short {stop = stop} again = gave_fails again.fate stop can.0 (rw can.1 refl) again.follows (later_gave again)
 
 -- A name that is looked at no more.
 

@@ -6,11 +6,11 @@ use Rattle.follow_core.specs.{
   Version.open_after_later,
   Version.{open_after_look, version, version_in},
   Gain.{last_from, gains_after, gains_later},
-  Look.{Failed, Fate, Look, Visit, Ways, are_met, call_of, can_meet, entries_in, failed_by, failed_for},
+  Look.{Failed, Fate, Look, Visit, Ways, are_met, broken_by, can_meet, entries_in, failed_by, failed_for},
   Look.{failed_in, fate_at, is_dropped, snapshots, sound, visit_at},
   Look.is_first,
-  Run.{AreKept, name_text},
-  Share.{gain, gains_from, opened_in},
+  Run.AreKept,
+  Share.{gain, gains_from, opened_in, text_in},
 }
 use Rattle.follow_core.proofs.{
   CallGivesLemmas.none_of,
@@ -106,8 +106,7 @@ gain_adds ways name (before ∷ looks) look =
 -- the text goes on by what a look gives, if files that are appended to keep their bytes
 pub look_goes_on : (ways : Ways) (name : List ℕ) (looks : List Look) (look : Look)
     → AreKept (entries_in ways name (looks ++ look ∷ []))
-    → name_text ways.start (entries_in ways name (looks ++ look ∷ []))
-    ≡ name_text ways.start (entries_in ways name looks) ++ gain ways name looks look
+    → text_in ways name (looks ++ look ∷ []) ≡ text_in ways name looks ++ gain ways name looks look
 look_goes_on ways name looks look kept = grind (arith, common_steps, entries_go_on, gain_adds, text_goes_on)
 
 gains_are : (ways : Ways) (name : List ℕ) (before looks : List Look)
@@ -126,7 +125,7 @@ gains_are ways name before (look ∷ looks) = grind (
 
 -- what all looks give is the text, if files that are appended to keep their bytes
 pub looks_give_text : (ways : Ways) (name : List ℕ) (looks : List Look) → AreKept (entries_in ways name looks)
-    → gains_from ways name [] looks ≡ name_text ways.start (entries_in ways name looks)
+    → gains_from ways name [] looks ≡ text_in ways name looks
 looks_give_text ways name looks kept = gains_are ways name [] looks ∙ sym (text_is_gains ways.start (entries_in ways name looks) kept)
 
 -- The file that is open.
@@ -158,9 +157,9 @@ open_more ways name before looks look =
     ∙ open_append ways.by_name name (before.snapshot.leads name) (snapshots looks) look.snapshot
 
 -- the call of a visit by which a name broke
-pub broke_by : (visit : Visit) → failed_by visit None ≡ failed_for visit.why (call_of visit.fate)
+pub broke_by : (visit : Visit) → failed_by visit None ≡ failed_for visit.why (broken_by visit.fate)
 broke_by visit = by visit.fate where
-  by : (fate : Fate) → failed_by (record { fate = fate; why = visit.why }) None ≡ failed_for visit.why (call_of fate)
+  by : (fate : Fate) → failed_by (record { fate = fate; why = visit.why }) None ≡ failed_for visit.why (broken_by fate)
   by sound = refl
   by fate = refl
 

@@ -9,10 +9,10 @@ use Rattle.std.proofs.{
   lemmas.List.{append-nil, get_or-map, length-append, length-map, take_all, get_or-append-add, get_or_append_left},
   lemmas.List.{map-append, take-append-le},
 }
-use Rattle.ports_core.specs.{Slot.{Slot, adds}, declared.{fault.Fault.Fault, calling.Calling.Calling}}
+use Rattle.ports_core.specs.{Slot.{Slot, adds, streams}, declared.{fault.Fault.Fault, calling.Calling.Calling}}
 use Rattle.follow_core.specs.{
   FollowState.{AllReady, CanLook, FollowState, Holds, IsCause, IsOther, LooksOn, StandsIn, goes_on_at, is_alive},
-  FollowState.{is_alive_from, new_state, nothing, lacks_memory, output_broke, opened_follow, Asked, Point, asked_so},
+  FollowState.{is_alive_from, new_state, nothing, lacks_memory, output_broke, opened_follow, Asked, Point},
   FollowState.point,
   Look.{Look, Ways, snapshots, ways_of},
   inner.{
@@ -22,9 +22,9 @@ use Rattle.follow_core.specs.{
   Reading.{looks_more, no_looks},
   Sharing.CanPrint,
   Standing.{AllStand, NoneGoesOn, NameState, Stands, no_state, state_at, texts, AreWatched},
-  declared.start.Start.Start,
+  declared.{run.Method.Method, start.Start.Start},
   declared.{name.Standing.{Standing, TheVariants.New}, follow.Phase.{Phase, TheVariants.{Fresh, Looking, Over}}},
-  Ending.{AreMost, FollowEndsAs, FollowEndsBy, is_over, until_over, Made, Remains},
+  Ending.{AreMost, asked_so, is_by_name, is_over, until_over, Made},
 }
 use Rattle.follow_core.proofs.{
   CallLemmas.no_memory,
@@ -199,7 +199,7 @@ module _ {told_in told : Bool} {asked : Asked} {looks : List Look} {follow : Fol
 
   -- the names stand as the looks before left them
   stand_from : follow.phase ≡ Looking
-      → StandFrom told_in (ways_of asked.ways.first follow.by_name follow.start) looks follow.first follow.names watched
+      → StandFrom told_in (ways_of follow.by_name follow.start asked.ways.first) looks follow.first follow.names watched
   stand_from looking = let (stand, many) = rw looking at holds.stand in
       rw (← holds.way) (record {
         numbered = λ some. holds.numbered looking (rw (← length_names follow holds.same) some);
@@ -258,92 +258,84 @@ module _ {told_in told : Bool} {snapshot : Snapshot} {seen seen_new : List Snaps
       (λ number other. rw added_now (begins.others number other).1)
 
 -- the names were looked at, after they were watched and the watch began a look
-pub makes_look : {see : Sight} {seen seen_new : List Snapshot} {old mid : FollowState}
-    {watched watched_mid : List Watched}
-    {slots : List Slot} {names : List NameState} {new : Moment} {result : Result Bool Fault} → (old.phase ≡ Over → ⊥)
-    → CanLook old watched slots → BeginsLook see.told_in old watched mid watched_mid
-    → seen_new ≡ seen ++ see.snapshot ∷ []
-    → VisitsAll see (λ from. ways_of from mid.by_name mid.start) mid.first mid.names
-    (moment watched_mid mid.printer slots)
-    names new result
-    → MakesLook see.told_in see.told see.snapshot seen (point old watched slots) seen_new
-    (point (record mid { names = names; printer = new.pen.printer }) new.watched new.pen.slots) result
-makes_look {see} {seen} {seen_new} {old} {mid} {watched} {watched_mid} {slots} {names} {new} {result} live can begins saw =
-    by result where
-      others : {those : Result Bool Fault}
-          → VisitsAll see (λ from. ways_of from mid.by_name mid.start) mid.first mid.names
-          (moment watched_mid mid.printer slots) names new those → (number : ℕ) → IsOther old watched number
-          → watched_at new.watched number ≡ watched_at watched number
-      others visits number other =
-          let (others, same) = begins.others number other in
-          visits.others number (subst (λ phase. IsOther (record mid { phase = phase }) watched_mid number) begins.phase others) ∙ same
+module _ {see : Sight} {old mid : FollowState} {watched watched_mid : List Watched} {slots : List Slot}
+    {names : List NameState} {new : Moment} (live : old.phase ≡ Over → ⊥) (can : CanLook old watched slots)
+    (begins : BeginsLook see.told_in old watched mid watched_mid) where
+  others : {result : Result Bool Fault}
+      → VisitsAll see (ways_of mid.by_name mid.start) mid.first mid.names (moment watched_mid mid.printer slots) names
+      new result → (number : ℕ) → IsOther old watched number
+      → watched_at new.watched number ≡ watched_at watched number
+  others visits number other =
+      let (others, same) = begins.others number other in
+      visits.others number (subst (λ phase. IsOther (record mid { phase = phase }) watched_mid number) begins.phase others) ∙ same
 
-      by : (result : Result Bool Fault)
-          → VisitsAll see (λ from. ways_of from mid.by_name mid.start) mid.first mid.names
-          (moment watched_mid mid.printer slots) names new result
-          → MakesLook see.told_in see.told see.snapshot seen (point old watched slots) seen_new
-          (point (record mid { names = names; printer = new.pen.printer }) new.watched new.pen.slots) result
-      by (Ok failed) visits = record {
-        looked = λ asked looks before.
-            let holds = begins.holds see.told asked looks slots before in
-            let stood = stand_from holds begins.phase in
-            let visited : VisitedTo see asked.ways looks (length mid.names) names (moment watched_mid mid.printer slots) new failed =
-            rw holds.way (visits.visited asked.ways.first looks stood) in
-            let look : Look = record { snapshot = see.snapshot; visits = visited.visits } in
-            let front : IsFront visited.visits visited.visits = ([], sym (append-nil visited.visits)) in
-            let many = same_length mid.names names visits.same in
-            let taken : take (length mid.names) (texts names) ≡ asked.names = (let size = length_texts names in
-            take_all (length mid.names) (texts names) (omega arith) ∙ visits.same ∙ holds.same) in (
-              visited.visits,
-              record {
-                way = holds.way;
-                same = visits.same ∙ holds.same;
-                numbered = holds.numbered;
-                stand = subst (StandsIn see.told_in asked.ways (looks ++ look ∷ []) names new.watched) (sym begins.phase) (
-                  (λ place within. visited.done visited.visits front place (omega (arith, within, many))),
-                  rw (← many) (visits.count ∙ stood.many),
-                );
-                shares = holds.shares ++ visited.shares;
-                found = looks_more holds.found (rw taken at (visited.found visited.visits front));
-                shared = all_both holds.shared visited.shared;
-                failed = rw (failed-append holds.shares visited.shares, holds.failed, visited.is_failed) refl;
-              },
+  pub makes_look : {seen seen_new : List Snapshot} (result : Result Bool Fault)
+      → seen_new ≡ seen ++ see.snapshot ∷ []
+      → VisitsAll see (ways_of mid.by_name mid.start) mid.first mid.names (moment watched_mid mid.printer slots) names
+      new result
+      → MakesLook see.told_in see.told see.snapshot seen (point old watched slots) seen_new
+      (point (record mid { names = names; printer = new.pen.printer }) new.watched new.pen.slots) result
+  makes_look (Ok failed) saw visits = record {
+    looked = λ asked looks before.
+        let holds = begins.holds see.told asked looks slots before in
+        let stood = stand_from holds begins.phase in
+        let visited : VisitedTo see asked.ways looks (length mid.names) names (moment watched_mid mid.printer slots) new failed =
+        rw holds.way (visits.visited asked.ways.first looks stood) in
+        let look : Look = record { snapshot = see.snapshot; visits = visited.visits } in
+        let front : IsFront visited.visits visited.visits = ([], sym (append-nil visited.visits)) in
+        let many = same_length mid.names names visits.same in
+        let taken : take (length mid.names) (texts names) ≡ asked.names = (let size = length_texts names in
+        take_all (length mid.names) (texts names) (omega arith) ∙ visits.same ∙ holds.same) in (
+          visited.visits,
+          record {
+            way = holds.way;
+            same = visits.same ∙ holds.same;
+            numbered = holds.numbered;
+            stand = subst (StandsIn see.told_in asked.ways (looks ++ look ∷ []) names new.watched) (sym begins.phase) (
+              (λ place within. visited.done visited.visits front place (omega (arith, within, many))),
+              rw (← many) (visits.count ∙ stood.many),
             );
-        stopped = tt;
-        seen_is = saw;
-        saw = tt;
-        phase = begins.phase;
-        ready = visits.ready;
-        can = visits.can;
-        cause = tt;
-        error = visits.can.1;
-        others = others visits;
-      }
-      by (Err why) visits = record {
-        looked = tt;
-        stopped = λ asked looks before.
-            let holds = begins.holds see.told asked looks slots before in
-            let (whole, part, begun, printer, reached, shared, short) =
-            visits.stopped asked.ways.first looks (stand_from holds begins.phase) in record {
-              shares = holds.shares;
-              found = holds.found;
-              whole = whole;
-              part = part;
-              begun = grind (arith, common_steps, holds.way, holds.same);
-              printer = printer;
-              reached = reached;
-              shared = all_both holds.shared shared;
-              short = short;
-            };
-        seen_is = tt;
-        saw = inr saw;
-        phase = tt;
-        ready = tt;
-        can = tt;
-        cause = cause_is watched live can visits.error;
-        error = visits.error.1;
-        others = others visits;
-      }
+            shares = holds.shares ++ visited.shares;
+            found = looks_more holds.found (rw taken at (visited.found visited.visits front));
+            shared = all_both holds.shared visited.shared;
+            failed = rw (failed-append holds.shares visited.shares, holds.failed, visited.is_failed) refl;
+          },
+        );
+    stopped = tt;
+    seen_is = saw;
+    saw = tt;
+    phase = begins.phase;
+    ready = visits.ready;
+    can = visits.can;
+    cause = tt;
+    error = visits.can.1;
+    others = others visits;
+  }
+  makes_look (Err why) saw visits = record {
+    looked = tt;
+    stopped = λ asked looks before.
+        let holds = begins.holds see.told asked looks slots before in
+        let (whole, part, begun, printer, reached, shared, short) =
+        visits.stopped asked.ways.first looks (stand_from holds begins.phase) in record {
+          shares = holds.shares;
+          found = holds.found;
+          whole = whole;
+          part = part;
+          begun = grind (arith, common_steps, holds.way, holds.same);
+          printer = printer;
+          reached = reached;
+          shared = all_both holds.shared shared;
+          short = short;
+        };
+    seen_is = tt;
+    saw = inr saw;
+    phase = tt;
+    ready = tt;
+    can = tt;
+    cause = cause_is watched live can visits.error;
+    error = visits.error.1;
+    others = others visits;
+  }
 
 -- this many looks were made, and `going` says whether a further look can give something
 pub record Progress (told_in told : Bool) (asked : Asked) (shows : ℕ → Snapshot) (made : ℕ) (going : Bool)
@@ -476,25 +468,24 @@ until_last {process} {shows} {now} {made} {count} {seen} is below found gone sam
 
 -- A whole run.
 
-pub ends_by : {told_in told : Bool} {asked : Asked} {count : ℕ} {shows : ℕ → Snapshot} {left : Remains} {status : ℕ}
-    (process : Option ℕ) (most : ℕ) → AreMost told_in process shows count most
-    → FollowEndsAs told_in told asked most shows left status
-    → FollowEndsBy process told_in told asked count shows left status
-ends_by (Some process) most are ends = (most, are, ends)
-ends_by {count} None most are ends = rw (← no_fewer (cases_lt most count)) ends where
-  no_fewer : (most < count) ⊎ (count ≤ most) → most ≡ count
-  no_fewer (inl fewer) = absurd (false≢true (are.found fewer).2)
-  no_fewer (inr all) = let within = are.within in omega arith
+-- if no process is given, as many looks are made as are asked for
+pub as_many : {told_in : Bool} {shows : ℕ → Snapshot} {count most : ℕ} → AreMost told_in None shows count most
+    → most ≡ count
+as_many {count = count} {most} are = elim (cases_lt most count) [
+  | inl fewer ↦ absurd (false≢true (are.found fewer).2)
+  | inr all ↦ omega (arith, all, are.within)
+]
 
 texts_of_new : (names : List (List ℕ)) → texts (map new_state names) ≡ names
 texts_of_new [] = refl
 texts_of_new (name ∷ names) = ap (λ rest. name ∷ rest) (texts_of_new names)
 
-pub open_holds : {told_in told by_name headers : Bool} {calling : Calling} {start : Start} {names : List (List ℕ)}
-    {follow : FollowState} {watched : List Watched} {slots : List Slot}
-    → follow ≡ opened_follow calling by_name start headers names → watched ≡ []
-    → Holds told_in told (asked_so calling by_name start headers names slots) [] (point follow watched slots)
-open_holds {names} is unwatched = rw is (record {
+pub open_holds : {told_in told headers by_name : Bool} {calling : Calling} (method : Method) {start : Start}
+    {names : List (List ℕ)} {follow : FollowState} {watched : List Watched} {slots : List Slot}
+    → by_name ≡ is_by_name method → follow ≡ opened_follow calling by_name start headers names → watched ≡ []
+    → slots ≡ streams
+    → Holds told_in told (asked_so calling method start headers names streams) [] (point follow watched slots)
+open_holds method {names = names} by is unwatched fresh = rw (is, by, fresh) (record {
   way = refl;
   same = texts_of_new names;
   numbered = λ looking some. refl;

@@ -141,15 +141,14 @@ one_more_go ways names before look at_look by insists place within so_far nowher
           (among_sound ways before look ways.first names at_look by insists place within leads was)
     ]
 
-pub names_go : (ways : Ways) (names : List (List ℕ)) (looks : List Look) (shares : List Share)
-    → AreFound true ways names looks shares → ways.by_name ≡ true → AllInsist looks
-    → (place : ℕ) → place < length names → LeadsNowhere (get_or names place []) looks
-    → is_dropped (ways.first + place) looks ≡ true
-names_go ways names looks shares no_looks by insist place within nowhere = absurd nowhere
-names_go ways names looks shares (looks_more {looks = before} {look} {shares = given} found at_look) by insist place within nowhere =
+pub names_go : (ways : Ways) (names : List (List ℕ)) (looks : List Look) → ways.by_name ≡ true → AllInsist looks
+    → (shares : List Share) → AreFound true ways names looks shares → (place : ℕ) → place < length names
+    → LeadsNowhere (get_or names place []) looks → is_dropped (ways.first + place) looks ≡ true
+names_go ways names looks by insist shares no_looks place within nowhere = absurd nowhere
+names_go ways names looks by insist shares (looks_more {looks = before} {look} {shares = given} found at_look) place within nowhere =
     let insisted = insist_before before look insist in
     one_more_go ways names before look at_look by insisted.1 place within
-    (names_go ways names before given found by insisted.0 place within) nowhere (is_dropped (ways.first + place) before) refl
+    (names_go ways names before by insisted.0 given found place within) nowhere (is_dropped (ways.first + place) before) refl
 
 -- If looks cling, the first file stays.
 

@@ -15,10 +15,13 @@ use Rattle.ports_core.specs.{
 }
 use Rattle.watch_core.specs.{Snapshot.{Snapshot, clinging, forgiving, insisting}, Watched.Watched}
 use Rattle.follow_core.specs.{
-  declared.run.Method.{Method, TheVariants.{Descriptor, Name, PresentName, FirstFile}},
-  Followed.{Followed, made_of},
+  declared.{
+    run.{Limits.Limits, Method.{Method, TheVariants.{Descriptor, Name, PresentName, FirstFile}}},
+    start.Start.Start,
+  },
+  Followed.{Followed, made_from, messages_of, text_from},
   FollowState.{Asked, Halted, SawOrNot, is_alive},
-  Look.{Look, Ways, snapshots},
+  Look.{Look, Ways, snapshots, ways_of},
   Reading.AreFound,
   Share.Share,
   Sharing.Wrote,
@@ -32,6 +35,16 @@ is_by_name Descriptor = false
 is_by_name Name = true
 is_by_name PresentName = true
 is_by_name FirstFile = true
+
+-- a request to follow these names so, which are watched from number 0 on; `first` are the outputs before that
+abbrev pub asked_so : Calling → Method → Start → (headers : Bool) → List (List ℕ) → (first : List Slot) → Asked
+asked_so calling method start headers names first = record {
+  calling = calling;
+  ways = ways_of (is_by_name method) start 0;
+  headers = headers;
+  names = names;
+  first = first;
+}
 
 -- What each look of a run shows. `Descriptor` is `-f`, and `Name` is `-F`. Only by its own name `tail` knows the
 -- others: `PresentName` is `--follow=name` without `--retry`, and `FirstFile` is `-f --retry`. If `tail` was called by
@@ -77,7 +90,7 @@ pub record StoppedIn (told_in told : Bool) (asked : Asked) (count : ℕ) (shows 
   pub halted : Halted told_in told asked looks (shows (length looks)) left.watched left.slots why
 
 -- the outputs got all text and all messages, and the status is 1 if anything failed, and 0 otherwise
-pub record Leaves (told : Bool) (calling : Calling) (followed : Followed) (first new : List Slot)
+pub record LeavesFollowed (told : Bool) (calling : Calling) (followed : Followed) (first new : List Slot)
     (status : ℕ) : Type 0 where
   pub wrote : Wrote told calling followed.out followed.messages first new
   pub status_is : status ≡ (if followed.has_failed then 1 else 0)
@@ -114,7 +127,7 @@ pub data FollowEndsAs (told_in told : Bool) (asked : Asked) (count : ℕ) (shows
       → length looks ≤ count → (length looks < count → (0 < length looks)
       × (told_in ≡ true → is_alive asked.ways asked.names looks ≡ false) × NoneGoesOn asked.ways left.watched)
       → AreFound told_in asked.ways asked.names looks shares
-      → Leaves told asked.calling (made_of asked.headers shares) asked.first left.slots status
+      → LeavesFollowed told asked.calling (made_from asked.headers None shares) asked.first left.slots status
       → FollowEndsAs told_in told asked count shows left status
   stopped : (mid : List Slot) (fault : Fault)
       → StoppedIn told_in told asked count shows (record left { slots = mid }) fault
@@ -127,17 +140,14 @@ pub data FollowEndsAs (told_in told : Bool) (asked : Asked) (count : ℕ) (shows
       → Made told_in asked.ways asked.names shows looks → length looks < count
       → (told_in ≡ true → 0 < length looks → is_alive asked.ways asked.names looks ≡ true)
       → AreFound told_in asked.ways asked.names looks shares
-      → Wrote told asked.calling (made_of asked.headers shares).out (made_of asked.headers shares).messages asked.first
-      before
+      → Wrote told asked.calling (text_from asked.headers None shares) (messages_of shares) asked.first before
       → left.slots ≡ with_broken Gone 0 before → status ≡ 141
       → FollowEndsAs told_in told asked count shows left status
   no_room : (why : Reason) → left.seen ≡ [] → left.watched ≡ []
       → SaysOn told (tail_by asked.calling) why (message_of Memory []) asked.first left.slots → status ≡ 1
       → FollowEndsAs told_in told asked count shows left status
 
--- how a run ends if it ends with this process, or if no process is given
-abbrev pub FollowEndsBy : Option ℕ → (told_in told : Bool) → Asked → (count : ℕ) → (ℕ → Snapshot) → Remains
-    → (status : ℕ) → Type 0
-FollowEndsBy None told_in told asked count shows left status = FollowEndsAs told_in told asked count shows left status
-FollowEndsBy (Some process) told_in told asked count shows left status = (most : ℕ)
-    × AreMost told_in (Some process) shows count most × FollowEndsAs told_in told asked most shows left status
+-- how a run ends by these limits
+abbrev pub FollowEndsBy : Limits → (told_in told : Bool) → Asked → (ℕ → Snapshot) → Remains → (status : ℕ) → Type 0
+FollowEndsBy limits told_in told asked shows left status = (most : ℕ)
+    × AreMost told_in limits.process shows limits.looks most × FollowEndsAs told_in told asked most shows left status

@@ -91,17 +91,6 @@ pub record Asked : Type 0 where
   -- the outputs as they were before
   pub first : List Slot
 
--- a request to follow these names, which are watched from number 0 on; `first` are the outputs before that
-abbrev pub asked_so : Calling → (by_name : Bool) → Start → (headers : Bool) → List (List ℕ) → (first : List Slot)
-    → Asked
-asked_so calling by_name start headers names first = record {
-  calling = calling;
-  ways = ways_of 0 by_name start;
-  headers = headers;
-  names = names;
-  first = first;
-}
-
 -- following at one moment, with the names that are watched and the outputs
 pub record Point : Type 0 where
   pub follow : FollowState
@@ -114,7 +103,7 @@ point follow watched slots = record { follow = follow; watched = watched; slots 
 -- These looks were made. The outputs got exactly what the looks give. Even if what looks see isn't visible, they give
 -- what their calls found.
 pub record Holds (told_in told : Bool) (asked : Asked) (looks : List Look) (now : Point) : Type 0 where
-  pub way : asked.ways ≡ ways_of asked.ways.first now.follow.by_name now.follow.start
+  pub way : asked.ways ≡ ways_of now.follow.by_name now.follow.start asked.ways.first
   pub same : texts now.follow.names ≡ asked.names
   pub numbered : now.follow.phase ≡ Looking → 0 < length asked.names → now.follow.first ≡ asked.ways.first
   pub stand : StandsIn told_in asked.ways looks now.follow.names now.watched now.follow.phase

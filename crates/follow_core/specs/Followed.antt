@@ -4,7 +4,7 @@ use Rattle.std.specs.{
   Prelude.{bytes_eq, if◌then◌else◌},
 }
 use Rattle.ports_core.specs.Text.{header_of}
-use Rattle.follow_core.specs.{Look.{Ways, Look}, Share.{Share, bytes_of, remarks_of, shares_of}, Telling.Remark, Title.title}
+use Rattle.follow_core.specs.{Look.{Ways, Look}, Share.{Share, bytes_of, remarks_of, shares_at_look, shares_of}, Telling.Remark, Title.title}
 
 abbrev pub is_empty : List ℕ → Bool
 is_empty [] = true
@@ -63,17 +63,30 @@ pub record Followed : Type 0 where
   -- the status is 1 in place of 0
   pub has_failed : Bool
 
-abbrev pub made_of : Bool → List Share → Followed
-made_of headers shares = record {
-  out = text_from headers None shares;
+abbrev pub made_from : Bool → Option (List ℕ) → List Share → Followed
+made_from headers last shares = record {
+  out = text_from headers last shares;
   messages = messages_of shares;
   has_failed = any_failed shares;
 }
 
 -- what following these names through these looks writes and says
 abbrev pub followed : Ways → Bool → List (List ℕ) → List Look → Followed
-followed ways headers names looks = made_of headers (shares_of ways names looks)
+followed ways headers names looks = made_from headers None (shares_of ways names looks)
 
 -- the name that the last header of these looks is of
 abbrev pub last_header : Ways → Bool → List (List ℕ) → List Look → Option (List ℕ)
 last_header ways headers names looks = last_header_from headers None (shares_of ways names looks)
+
+-- what one look after these writes and says
+abbrev pub followed_at : Ways → Bool → List (List ℕ) → List Look → Look → Followed
+followed_at ways headers names looks look =
+    made_from headers (last_header ways headers names looks) (shares_at_look ways names looks look)
+
+-- both, one after the other
+abbrev pub followed_both : Followed → Followed → Followed
+followed_both one next = record {
+  out = one.out ++ next.out;
+  messages = one.messages ++ next.messages;
+  has_failed = one.has_failed || next.has_failed;
+}

@@ -25,13 +25,13 @@ pub data Fate : Type 0 where
   unread : Option ℕ → ℕ → Fate
 
 -- the call of this fate that failed
-abbrev pub call_of : Fate → Option Broken
-call_of sound = None
-call_of unled = Some broken.Look
-call_of unopened = Some broken.Open
-call_of (unmeasured file) = Some (broken.Len file)
-call_of (unsought file from) = Some (broken.Read file from)
-call_of (unread file from) = Some (broken.Read file from)
+abbrev pub broken_by : Fate → Option Broken
+broken_by sound = None
+broken_by unled = Some broken.Look
+broken_by unopened = Some broken.Open
+broken_by (unmeasured file) = Some (broken.Len file)
+broken_by (unsought file from) = Some (broken.Read file from)
+broken_by (unread file from) = Some (broken.Read file from)
 
 -- how a look at one name ended
 pub record Visit : Type 0 where
@@ -65,7 +65,7 @@ failed_for why call = option_map (λ call. record { call = call; why = why }) ca
 
 -- how a name broke: as this visit says, or if its fate is sound as a later look says
 abbrev pub failed_by : Visit → Option Failed → Option Failed
-failed_by visit later = elim (failed_for visit.why (call_of visit.fate)) [
+failed_by visit later = elim (failed_for visit.why (broken_by visit.fate)) [
   | None ↦ later
   | Some failed ↦ Some failed
 ]
@@ -117,14 +117,14 @@ abbrev pub is_sought : Unit → Bool
 is_sought Lines = true
 is_sought Bytes = false
 
--- how the names are followed, as it was asked for
-abbrev pub ways_of : (first : ℕ) → Bool → Start → Ways
-ways_of first by_name start = record {
-  first = first;
-  by_name = by_name;
-  start = tail_of start.delim start.unit start.from_nth start.count;
-  seeks = is_sought start.unit;
-}
+-- the part of a text that the first look writes
+abbrev pub start_part : Start → List ℕ → List ℕ
+start_part start = tail_of start.delim start.unit start.from_nth start.count
+
+-- how the names are followed, as it was asked for, if the first of them has this number
+abbrev pub ways_of : Bool → Start → (first : ℕ) → Ways
+ways_of by_name start first =
+    record { first = first; by_name = by_name; start = start_part start; seeks = is_sought start.unit }
 
 -- the entries of a name in these looks
 abbrev pub entries_in : Ways → List ℕ → List Look → List Entry

@@ -1,7 +1,7 @@
 -- What is given for a name by what the calls on it found, even if the bytes of files aren't visible.
 use Rattle.std.specs.{
   Prelude.{◌≡◌, ◌⊎◌, ◌<◌, ◌≤◌, ◌+◌, ℕ, Bool, true, false, not, ◌&&◌, List, [], ◌∷◌, ◌++◌, Option, Some, None},
-  Prelude.{drop, is_some, length, take},
+  Prelude.{drop, is_some, length, slice_index_or, take},
 }
 use Rattle.watch_core.specs.Snapshot.{Finding, Snapshot, Found, latest, holds_many, leads_to, opens_as, reads_as}
 use Rattle.follow_core.specs.{
@@ -176,6 +176,11 @@ pub data AreFound (told : Bool) (ways : Ways) (names : List (List ℕ)) : List L
   looks_more : {looks : List Look} {look : Look} {shares more : List Share} → AreFound told ways names looks shares
       → AreAtLook told ways looks look ways.first names more
       → AreFound told ways names (looks ++ look ∷ []) (shares ++ more)
+
+-- whatever looks found of these names, this is true of the number of each name and the name
+abbrev pub OfEachName : (told : Bool) → Ways → List (List ℕ) → List Look → (ℕ → List ℕ → Type 0) → Type 0
+OfEachName told ways names looks Is = (shares : List Share) → AreFound told ways names looks shares
+    → (place : ℕ) → place < length names → Is (ways.first + place) (slice_index_or names place [])
 
 -- in none of these looks a call on this name can fail
 abbrev pub NoneBreaks : List ℕ → List Look → Type 0

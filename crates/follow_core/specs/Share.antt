@@ -10,6 +10,7 @@ use Rattle.follow_core.specs.{
   Event.remarks_in,
   Gain.gains_after,
   Notice.is_missing,
+  Run.name_text,
   Version.{held_at, is_same, open_after, open_after_look},
   Telling.{Failure, Remark, failed},
   Look.{Look, Ways, Fate, Visit, sound, unled, unopened, unmeasured, unsought, unread, is_dropped, is_first},
@@ -103,6 +104,10 @@ given_by due snapshot opened fate = if is_kept opened fate then came_before snap
 abbrev pub given_at : Ways → List ℕ → List Look → Look → Fate → List Event
 given_at ways name before look fate =
     given_by (due_at ways name before look) look.snapshot (opened_in ways name before) fate
+
+-- the text of a name in these looks
+abbrev pub text_in : Ways → List ℕ → List Look → List ℕ
+text_in ways name looks = name_text ways.start (entries_in ways name looks)
 
 -- what a look adds to a name's text
 abbrev pub gain : Ways → List ℕ → List Look → Look → List ℕ

@@ -1,22 +1,5 @@
 //! Laws of the definitions, with no code: each stands on the contract of a function whose body is empty.
-ghost use Rattle.std.specs.Prelude.{
-  ◌≡◌,
-  ◌≤◌,
-  ◌<◌,
-  ◌+◌,
-  ◌++◌,
-  ◌∷◌,
-  [],
-  ◌||◌,
-  ℕ,
-  List,
-  Bool,
-  true,
-  None,
-  Some,
-  length,
-  slice_index_or,
-};
+ghost use Rattle.std.specs.Prelude.{◌≡◌, ◌≤◌, ◌++◌, ◌∷◌, [], ℕ, List, Bool, true, None, Some};
 ghost use Rattle.ports_core.specs.{
   Text.line_of,
   declared.{
@@ -32,9 +15,9 @@ ghost use Rattle.follow_core.specs.{
   Event.Event,
   Gain.gains_after,
   Look.{Fate, Look, Ways, entries_in, failed_in, is_dropped},
-  Reading.{AllInsist, AreAtLook, AreFound, CallsFind, LeadsNowhere, NoneBreaks},
-  Share.{Share, gain, gains_from, given_at, shares_at_look, shares_of},
-  Followed.{any_failed, followed, last_header, messages_of, text_from},
+  Reading.{AllInsist, AreAtLook, AreFound, CallsFind, LeadsNowhere, NoneBreaks, OfEachName},
+  Share.{Share, gain, gains_from, given_at, shares_at_look, shares_of, text_in},
+  Followed.{followed, followed_at, followed_both},
   Placing.Agree,
   Notice.notice_of,
   Telling.{failure_message, tail_by},
@@ -44,16 +27,9 @@ ghost use Rattle.follow_core.specs.{
 /// What one look more gives. The text and the messages are those of the looks before, and then those of this look, in
 /// the order of the names. The status is 1 if it was 1 before or a name fails at this look.
 pub fn one_look_more()
-    ensures out { (ways : Ways) (headers : Bool) (names : List (List ℕ)) (looks : List Look) (look : Look)
-        → (followed ways headers names (looks ++ look ∷ [])).out
-        ≡ (followed ways headers names looks).out ++ text_from headers (last_header ways headers names looks)
-        (shares_at_look ways names looks look) }
-    ensures messages { (ways : Ways) (headers : Bool) (names : List (List ℕ)) (looks : List Look) (look : Look)
-        → (followed ways headers names (looks ++ look ∷ [])).messages
-        ≡ (followed ways headers names looks).messages ++ messages_of (shares_at_look ways names looks look) }
-    ensures failed { (ways : Ways) (headers : Bool) (names : List (List ℕ)) (looks : List Look) (look : Look)
-        → (followed ways headers names (looks ++ look ∷ [])).has_failed
-        ≡ ((followed ways headers names looks).has_failed || any_failed (shares_at_look ways names looks look)) }
+    ensures { (ways : Ways) (headers : Bool) (names : List (List ℕ)) (looks : List Look) (look : Look)
+        → followed ways headers names (looks ++ look ∷ [])
+        ≡ followed_both (followed ways headers names looks) (followed_at ways headers names looks look) }
 {}
 
 /// The text of a name only grows, if files that are appended to keep their bytes. What further entries add stands after
@@ -64,10 +40,9 @@ pub fn text_goes_on()
         → name_text start (before ++ more) ≡ name_text start before ++ gains_after start before more }
     ensures look { (ways : Ways) (name : List ℕ) (before : List Look) (look : Look)
         → AreKept (entries_in ways name (before ++ look ∷ []))
-        → name_text ways.start (entries_in ways name (before ++ look ∷ []))
-        ≡ name_text ways.start (entries_in ways name before) ++ gain ways name before look }
+        → text_in ways name (before ++ look ∷ []) ≡ text_in ways name before ++ gain ways name before look }
     ensures looks { (ways : Ways) (name : List ℕ) (looks : List Look) → AreKept (entries_in ways name looks)
-        → gains_from ways name [] looks ≡ name_text ways.start (entries_in ways name looks) }
+        → gains_from ways name [] looks ≡ text_in ways name looks }
 {}
 
 /// Looks don't matter. Two placings of looks among the same edits give the same text of each name, if the first look
@@ -95,18 +70,15 @@ pub fn calls_find_the_share()
 
 /// A name on which no call can fail isn't dropped: no call on it failed in these looks.
 pub fn forgiven_names_stay()
-    ensures { (told : Bool) (ways : Ways) (names : List (List ℕ)) (looks : List Look) (shares : List Share)
-        → AreFound told ways names looks shares → (place : ℕ) → place < length names
-        → NoneBreaks (slice_index_or names place []) looks → failed_in (ways.first + place) looks ≡ None }
+    ensures { (told : Bool) (ways : Ways) (names : List (List ℕ)) (looks : List Look)
+        → OfEachName told ways names looks (λ number name. NoneBreaks name looks → failed_in number looks ≡ None) }
 {}
 
 /// If names are followed as long as they lead to a file, each look insists. Then a name that leads nowhere at one of
 /// the looks is dropped: a call on it failed.
 pub fn missing_names_are_dropped()
-    ensures { (ways : Ways) (names : List (List ℕ)) (looks : List Look) (shares : List Share)
-        → AreFound true ways names looks shares → ways.by_name ≡ true → AllInsist looks → (place : ℕ)
-        → place < length names → LeadsNowhere (slice_index_or names place []) looks
-        → is_dropped (ways.first + place) looks ≡ true }
+    ensures { (ways : Ways) (names : List (List ℕ)) (looks : List Look) → ways.by_name ≡ true → AllInsist looks
+        → OfEachName true ways names looks (λ number name. LeadsNowhere name looks → is_dropped number looks ≡ true) }
 {}
 
 /// If looks cling, a name that led to a file leads to this file at each later look. A call on the name can still fail;

@@ -1,6 +1,6 @@
 //! Names that are followed.
 ghost use Rattle.std.specs.Prelude.{◌≡◌, ◌<◌, ◌≤◌, ◌+◌, ◌^◌, ◌++◌, ℕ, length, map, string_bytes, IfOk, IfErr, OnOk};
-ghost use Rattle.watch_core.specs.{Snapshot.latest, Watched.{added, watched_at}};
+ghost use Rattle.watch_core.specs.Watched.{added, watched_at};
 ghost use Rattle.follow_core.specs.{
   Sharing.CanPrint,
   inner.{Giving.{CanGoOn, moment, over_in, sight}, Visits.{AddsSome, any_goes_on, goes_on_as, Visits, VisitsAll}},
@@ -92,8 +92,7 @@ impl Name {
     ) -> Result<bool, Fault>
         requires ready { CanVisit self.old (watched_at (W.watched watch.old) place) }
         requires can { CanPrint (O.slots outs.old) }
-        ensures visits { (first : ℕ) → Visits (sight W.told O.told (latest (W.seen watch.old)))
-            (ways_of first by_name start) place self.old
+        ensures visits { Visits (sight W.told O.told (W.seen watch.old)) (ways_of by_name start) place self.old
             (moment (W.watched watch.old) visitor.old (O.slots outs.old)) self.new.standing
             (moment (W.watched watch.new) visitor.new (O.slots outs.new)) result }
         ensures same { self.new.text ≡ self.old.text }
@@ -108,7 +107,18 @@ impl Name {
             }
             Standing::Followed(position) => {
                 let (text, standing) = (self.text.as_str(), &mut self.standing);
-                visitor.again(by_name, watch, place, text, position, standing, outs)
+                let len = match visitor.again(by_name, watch, place, text, position, outs) {
+                    Ok(len) => len,
+                    Err(stop) => return visitor.stop(
+                        stop,
+                        watch.reason(place),
+                        text,
+                        standing,
+                        outs,
+                    ),
+                };
+                *standing = Standing::Followed(len);
+                Ok(false)
             }
             Standing::Left => Ok(false),
         }
@@ -177,8 +187,8 @@ pub(crate) fn visit_all<W: Watch, O: Outs>(
     requires ready { AllReady names.old first (W.watched watch.old) }
     requires fits { first + length names.old ≤ 2 ^ 64 }
     requires can { CanPrint (O.slots outs.old) }
-    ensures visits { VisitsAll (sight W.told O.told (latest (W.seen watch.old))) (λ from. ways_of from by_name start)
-        first names.old (moment (W.watched watch.old) visitor.old (O.slots outs.old)) names.new
+    ensures visits { VisitsAll (sight W.told O.told (W.seen watch.old)) (ways_of by_name start) first
+        names.old (moment (W.watched watch.old) visitor.old (O.slots outs.old)) names.new
         (moment (W.watched watch.new) visitor.new (O.slots outs.new)) result }
     ensures seen { W.seen watch.new ≡ W.seen watch.old }
     ensures shows { W.shows watch.new ≡ W.shows watch.old }

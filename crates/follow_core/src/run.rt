@@ -6,9 +6,9 @@ ghost use Rattle.ports_core.specs.{
 };
 ghost use Rattle.follow_core.specs.{
   Sharing.{CanPrint, HasError},
-  Ending.{FollowEndsBy, is_by_name, is_over, remains, shows_by},
+  Ending.{FollowEndsBy, asked_so, is_by_name, is_over, remains, shows_by},
   inner.Visits.LooksInTurn,
-  FollowState.{CanLook, asked_so, point},
+  FollowState.{CanLook, point},
 };
 
 use crate::follow::Follow;
@@ -96,9 +96,9 @@ pub fn follow_files<W: Watch, O: Outs>(
     requires unseen { W.seen watch.old ≡ [] }
     requires unwatched { W.watched watch.old ≡ [] }
     requires outputs { O.slots outs.old ≡ streams }
-    ensures { FollowEndsBy limits.process W.told O.told
-        (asked_so calling (is_by_name method) start headers (map (λ name. name.now) names.now) (O.slots outs.old))
-        limits.looks (shows_by calling method (W.shows watch.old))
+    ensures { FollowEndsBy limits W.told O.told
+        (asked_so calling method start headers (map (λ name. name.now) names.now) streams)
+        (shows_by calling method (W.shows watch.old))
         (remains (W.seen watch.new) (W.watched watch.new) (O.slots outs.new)) result }
 {
     let speaker = Speaker {

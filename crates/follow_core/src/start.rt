@@ -1,9 +1,8 @@
 //! Where the first look begins to write of a file.
 ghost use Rattle.std.specs.Prelude.{◌≡◌, ◌≤◌, ◌<◌, ◌+◌, ◌^◌, true, length, take, drop, IsTrue, IfOk, IfErr, OnOk};
 ghost use Rattle.seg_core.specs.{Line.after_lines, inner.Lines.last_lines};
-ghost use Rattle.ends_core.specs.Ends.{tail_of};
 ghost use Rattle.watch_core.specs.{Snapshot.latest, Watched.{CanBreak, is_readable, open_contents, watched_at}};
-ghost use Rattle.follow_core.specs.{Look.is_sought, inner.Giving.FailsToRead};
+ghost use Rattle.follow_core.specs.{Look.{start_part, is_sought}, inner.Giving.FailsToRead};
 
 use ends_core::Unit;
 use ports_core::Fault;
@@ -48,10 +47,9 @@ impl Start {
         ensures part { IfOk result (λ from. W.told ≡ true
             → let contents = open_contents (latest (W.seen watch.old))
             (watched_at (W.watched watch.old) place) in drop from contents
-            ≡ tail_of self.delim self.unit self.from_nth self.count contents) }
+            ≡ start_part self contents) }
         ensures same { OnOk result (W.watched watch.new ≡ W.watched watch.old) }
-        ensures err { IfErr result
-            (λ fault. (fault ≡ Fault.Read place) × FailsToRead place (W.watched watch.old) (W.watched watch.new)) }
+        ensures err { IfErr result (FailsToRead place (W.watched watch.old) (W.watched watch.new)) }
         ensures breaks { IfErr result (λ _. CanBreak (W.seen watch.old) (W.watched watch.old) place) }
         ensures sought { IfErr result (λ _. IsTrue (is_sought self.unit)) }
         ensures seen { W.seen watch.new ≡ W.seen watch.old }
@@ -91,8 +89,7 @@ fn find_last_lines<W: Watch>(
         → let contents = open_contents (latest (W.seen watch.old))
         (watched_at (W.watched watch.old) place) in drop from contents ≡ last_lines delim count contents) }
     ensures same { OnOk result (W.watched watch.new ≡ W.watched watch.old) }
-    ensures err { IfErr result
-        (λ fault. (fault ≡ Fault.Read place) × FailsToRead place (W.watched watch.old) (W.watched watch.new)) }
+    ensures err { IfErr result (FailsToRead place (W.watched watch.old) (W.watched watch.new)) }
     ensures breaks { IfErr result (λ _. CanBreak (W.seen watch.old) (W.watched watch.old) place) }
     ensures seen { W.seen watch.new ≡ W.seen watch.old }
     ensures shows { W.shows watch.new ≡ W.shows watch.old }
@@ -134,8 +131,7 @@ fn pass_lines<W: Watch>(
         → let contents = open_contents (latest (W.seen watch.old))
         (watched_at (W.watched watch.old) place) in drop from contents ≡ after_lines delim count contents) }
     ensures same { OnOk result (W.watched watch.new ≡ W.watched watch.old) }
-    ensures err { IfErr result
-        (λ fault. (fault ≡ Fault.Read place) × FailsToRead place (W.watched watch.old) (W.watched watch.new)) }
+    ensures err { IfErr result (FailsToRead place (W.watched watch.old) (W.watched watch.new)) }
     ensures breaks { IfErr result (λ _. CanBreak (W.seen watch.old) (W.watched watch.old) place) }
     ensures seen { W.seen watch.new ≡ W.seen watch.old }
     ensures shows { W.shows watch.new ≡ W.shows watch.old }
@@ -174,8 +170,7 @@ fn read_block<W: Watch>(
         (drop from (open_contents (latest (W.seen watch.old)) (watched_at (W.watched watch.old) place)))) }
     ensures length { length block.new ≡ length block.old }
     ensures same { OnOk result (W.watched watch.new ≡ W.watched watch.old) }
-    ensures err { IfErr result
-        (λ fault. (fault ≡ Fault.Read place) × FailsToRead place (W.watched watch.old) (W.watched watch.new)) }
+    ensures err { IfErr result (FailsToRead place (W.watched watch.old) (W.watched watch.new)) }
     ensures breaks { IfErr result (λ _. CanBreak (W.seen watch.old) (W.watched watch.old) place) }
     ensures seen { W.seen watch.new ≡ W.seen watch.old }
     ensures shows { W.shows watch.new ≡ W.shows watch.old }

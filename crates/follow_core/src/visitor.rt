@@ -3,19 +3,18 @@ ghost use Rattle.std.specs.{
   Prelude.{◌≡◌, ◌≤◌, ◌<◌, ◌∷◌, [], ℕ, List, Bool, true, false, length, nat_lt, option_map, if◌then◌else◌, IsTrue, IfOk},
   Prelude.{IfErr, Some},
 };
-ghost use Rattle.ends_core.specs.Ends.{tail_of};
 ghost use Rattle.ports_core.specs.Slot.{is_open, is_writable, slot_at};
 ghost use Rattle.watch_core.specs.{Snapshot.latest, Watched.{Watched, is_readable, is_watchable, watched_at}};
 ghost use Rattle.follow_core.specs.{
-  declared.name.Standing.TheVariants.{New, Followed},
   Event.{change_between, due_from, notes, notes_past},
   Printing.{PrinterState, fresh_printer},
   inner.{
-    Giving.{Adds, Are, CanGoOn, Copies, Gives, HoldsMany, Leads, Starts, moment, over_in, sight, stop_in},
+    Giving.{Adds, Are, CanGoOn, Copies, Yields, HoldsMany, Leads, LooksAgain, Starts, moment, over_in, sight, stop_in},
     Visits.{SaysFailed, TellsStop, Visits},
   },
   Sharing.CanPrint,
-  Look.{is_sought, sound, ways_of},
+  FollowState.new_state,
+  Look.{start_part, is_sought, sound, ways_of},
 };
 
 use crate::name::Standing;
@@ -89,9 +88,8 @@ impl Visitor {
         requires watchable { IsTrue (is_watchable (W.watched watch.old) place) }
         requires name { (watched_at (W.watched watch.old) place).name ≡ name.now }
         requires can { CanPrint (O.slots outs.old) }
-        ensures visits { (first : ℕ) → Visits (sight W.told O.told (latest (W.seen watch.old)))
-            (ways_of first by_name start) place (record { text = name.now; standing = New })
-            (moment (W.watched watch.old) self.old (O.slots outs.old)) standing.new
+        ensures visits { Visits (sight W.told O.told (W.seen watch.old)) (ways_of by_name start) place
+            (new_state name.now) (moment (W.watched watch.old) self.old (O.slots outs.old)) standing.new
             (moment (W.watched watch.new) self.new (O.slots outs.new)) result }
         ensures can { CanGoOn (over_in result) (O.slots outs.new) }
         ensures seen { W.seen watch.new ≡ W.seen watch.old }
@@ -140,9 +138,8 @@ impl Visitor {
     ) -> Result<u64, Stop>
         requires readable { IsTrue (is_readable (W.watched watch.old) place) }
         requires can { CanPrint (O.slots outs.old) }
-        ensures starts { Starts (sight W.told O.told (latest (W.seen watch.old))) (is_sought start.unit)
-            (tail_of start.delim start.unit start.from_nth start.count) place name.now
-            (moment (W.watched watch.old) self.old (O.slots outs.old))
+        ensures starts { Starts (sight W.told O.told (W.seen watch.old)) (is_sought start.unit) (start_part start)
+            place name.now (moment (W.watched watch.old) self.old (O.slots outs.old))
             (moment (W.watched watch.new) self.new (O.slots outs.new)) (stop_in result) }
         ensures long { IfOk result
             (HoldsMany W.told (latest (W.seen watch.old)) (watched_at (W.watched watch.old) place)) }
@@ -171,12 +168,11 @@ impl Visitor {
     }
 
     /// Looks again at a name of whose open file `position` bytes were seen: writes what came to the file, and follows the name to where
-    /// it leads, if names are followed. Tells where a call on it fails; a message that can't be written is passed over. Keeps how the
-    /// name stands then, and returns whether a call on it failed.
+    /// it leads, if names are followed. Returns how much of the file that is open then was seen.
     ///
     /// # Errors
     ///
-    /// `Write(0)` where standard output broke, `Memory` where there was none for a header or a line that tells what changed.
+    /// `Broke` where a call on the name failed, `Over` where standard output broke or memory was wanting.
     pub(crate) fn again<W: Watch, O: Outs>(
         &mut self,
         by_name: bool,
@@ -184,37 +180,26 @@ impl Visitor {
         place: usize,
         name: &str,
         position: u64,
-        standing: &mut Standing,
         outs: &mut O,
-    ) -> Result<bool, Fault>
+    ) -> Result<u64, Stop>
         requires watchable { IsTrue (is_watchable (W.watched watch.old) place) }
         requires name { (watched_at (W.watched watch.old) place).name ≡ name.now }
         requires can { CanPrint (O.slots outs.old) }
-        ensures visits { (first : ℕ) (start : List ℕ → List ℕ) (seeks : Bool)
-            → Visits (sight W.told O.told (latest (W.seen watch.old)))
-            (record { first = first; by_name = by_name; start = start; seeks = seeks }) place
-            (record { text = name.now; standing = Followed position })
-            (moment (W.watched watch.old) self.old (O.slots outs.old)) standing.new
+        ensures looks { LooksAgain (sight W.told O.told (W.seen watch.old)) by_name place name.now position
+            (moment (W.watched watch.old) self.old (O.slots outs.old))
             (moment (W.watched watch.new) self.new (O.slots outs.new)) result }
-        ensures can { CanGoOn (over_in result) (O.slots outs.new) }
+        ensures can { CanGoOn (stop_in result) (O.slots outs.new) }
         ensures seen { W.seen watch.new ≡ W.seen watch.old }
         ensures shows { W.shows watch.new ≡ W.shows watch.old }
     {
         let len = match self.catch_up(watch, place, name, position, outs) {
             Ok(len) => len,
-            Err(stop) => return self.stop(stop, watch.reason(place), name, standing, outs),
+            Err(stop) => return Err(stop),
         };
         if !by_name {
-            *standing = Standing::Followed(len);
-            return Ok(false);
+            return Ok(len);
         }
-        match self.follow_name(watch, place, name, len, outs) {
-            Ok(now) => {
-                *standing = Standing::Followed(now);
-                Ok(false)
-            }
-            Err(stop) => self.stop(stop, watch.reason(place), name, standing, outs),
-        }
+        self.follow_name(watch, place, name, len, outs)
     }
 
     /// Follows a name to where it leads: where that is another file than the open one, tells so, opens it and writes all of it.
@@ -234,7 +219,7 @@ impl Visitor {
         requires watchable { IsTrue (is_watchable (W.watched watch.old) place) }
         requires name { (watched_at (W.watched watch.old) place).name ≡ name.now }
         requires can { CanPrint (O.slots outs.old) }
-        ensures leads { Leads (sight W.told O.told (latest (W.seen watch.old))) true place name.now position
+        ensures leads { Leads (sight W.told O.told (W.seen watch.old)) true place name.now position
             (moment (W.watched watch.old) self.old (O.slots outs.old))
             (moment (W.watched watch.new) self.new (O.slots outs.new)) result }
         ensures can { CanGoOn (stop_in result) (O.slots outs.new) }
@@ -273,7 +258,7 @@ impl Visitor {
     ) -> Result<u64, Stop>
         requires watchable { IsTrue (is_watchable (W.watched watch.old) place) }
         requires can { CanPrint (O.slots outs.old) }
-        ensures adds { Adds (sight W.told O.told (latest (W.seen watch.old))) place name.now position
+        ensures adds { Adds (sight W.told O.told (W.seen watch.old)) place name.now position
             (moment (W.watched watch.old) self.old (O.slots outs.old))
             (moment (W.watched watch.new) self.new (O.slots outs.new)) result }
         ensures can { CanGoOn (stop_in result) (O.slots outs.new) }
@@ -308,7 +293,7 @@ impl Visitor {
     /// # Errors
     ///
     /// The fault that ends following, which is handed on.
-    fn stop<O: Outs>(
+    pub(crate) fn stop<O: Outs>(
         &self,
         stop: Stop,
         why: Reason,
@@ -363,7 +348,7 @@ fn copy<W: Watch, O: Outs>(
     requires writable { IsTrue (is_writable (O.slots outs.old) 0) }
     requires within { from ≤ len }
     requires room { 0 < length buffer.old }
-    ensures copies { Copies (sight W.told O.told (latest (W.seen watch.old))) from place name.now len
+    ensures copies { Copies (sight W.told O.told (W.seen watch.old)) from place name.now len
         (moment (W.watched watch.old) printer.old (O.slots outs.old))
         (moment (W.watched watch.new) printer.new (O.slots outs.new)) (stop_in result) }
     ensures len { IfOk result (λ n. n ≡ len) }
@@ -402,7 +387,7 @@ fn begin_at<O: Outs>(
 ) -> Result<u64, Fault>
     requires can { CanPrint (O.slots outs.old) }
     ensures ends { (watched : List Watched) (printer : PrinterState)
-        → Gives O.told (Are (notes_past position len)) sound false name.now (moment watched printer (O.slots outs.old))
+        → Yields O.told (Are (notes_past position len)) sound false name.now (moment watched printer (O.slots outs.old))
         (moment watched printer (O.slots outs.new)) (over_in result) }
     ensures from { IfOk result (λ from. from ≡ due_from position len) }
     ensures can { CanGoOn (over_in result) (O.slots outs.new) }
@@ -424,7 +409,7 @@ fn begin_at<O: Outs>(
 fn tell<O: Outs>(alloc: Global, found: Notice, name: &str, outs: &mut O) -> Result<(), Fault>
     requires can { CanPrint (O.slots outs.old) }
     ensures ends { (watched : List Watched) (printer : PrinterState)
-        → Gives O.told (Are (notes found ∷ [])) sound false name.now (moment watched printer (O.slots outs.old))
+        → Yields O.told (Are (notes found ∷ [])) sound false name.now (moment watched printer (O.slots outs.old))
         (moment watched printer (O.slots outs.new)) (over_in result) }
     ensures can { CanGoOn (over_in result) (O.slots outs.new) }
 {

@@ -20,8 +20,8 @@ use Rattle.ports_core.specs.{
 use Rattle.ports_core.proofs.InputsLemmas.{HasRead, changed_source}
 use Rattle.run_core.specs.{
   declared.feeding.Fed.{Fed, TheVariants.{Whole, Enough, Broken}},
-  Feeding.{is_enough, Step, Stops, ToldEnd, HasAll, IsCall, to_end, enough, call_of, close_of, closes, FedAs},
-  Feeding.{BeginsAt, whole, had_enough, broke_off, judged, stopped, IsUnread, Uses},
+  Feeding.{is_enough, Step, Stops, SawEnd, HasAll, IsCall, to_end, enough, call_of, close_of, closes, FedAs},
+  Feeding.{BeginsAt, FedNothing, whole, had_enough, broke_off, judged, stopped, IsUntaken, Uses},
   inner.RunSteps.{EndsSo, finished, fell_short},
 }
 use Rattle.ports_core.specs.declared.fault.Fault.TheVariants as fault_is
@@ -151,14 +151,14 @@ module _ {S : Type 0} (terms : Terms S) where
     pub same : terms.work now.stage ≡ terms.work start.stage
     pub holds : HoldsIn terms.Holds now x
     pub owns : KeepsOwn terms start.stage now.stage old slots
-    pub outputs : (before : List Slot) → BeginsAt terms told start.stage before old
+    pub outputs : (before : List Slot) → BeginsAt terms told start.stage old before
         → OutputsAt told before ((terms.work now.stage).settled x) slots
     pub bound : now.fed < 2 ^ 63
 
 module _ {S : Type 0} {terms : Terms S} {told : Bool} {start now : GuardState S} {x : List ℕ} {old mid : List Slot}
     (so_far : Feeds terms told start now x old mid) where
   -- the engine and its outputs stand at what it was fed
-  pub stands : {before : List Slot} → BeginsAt terms told start.stage before old
+  pub stands : {before : List Slot} → BeginsAt terms told start.stage old before
       → StandsAt terms now.stage told before x mid
   stands {before} begun = record { holds = so_far.holds.within; owns = so_far.owns (length before) begun.0; outputs = so_far.outputs before begun }
 
@@ -177,7 +177,7 @@ module _ {S : Type 0} {terms : Terms S} {told : Bool} {start now : GuardState S}
   -- the loop ended at a fault of the engine, within the input
   pub stopped_feeding : (laws : (s : S) (x : List ℕ) → terms.Holds s x → IsLawful (terms.work s))
       (next : GuardState S) {content : Content} (IsStep : Step → Type 0) (piece rest : List ℕ)
-      {reached new before : List Slot} {fault : Fault} → BeginsAt terms told start.stage before old
+      {reached new before : List Slot} {fault : Fault} → BeginsAt terms told start.stage old before
       → content.bytes ≡ (x ++ piece) ++ rest
       → IsStep
       (call_of (terms.work now.stage) (terms.work now.stage).means.feeding (x ++ piece)
@@ -200,7 +200,7 @@ module _ {S : Type 0} {terms : Terms S} {told : Bool} {start now : GuardState S}
   -- the loop ended with the input, or as nothing more can follow
   pub ended : (laws : (s : S) (x : List ℕ) → terms.Holds s x → IsLawful (terms.work s))
       {content : Content} (IsStep : Step → Type 0) {z : List ℕ} {new before : List Slot} {fed : Fed}
-      {result : Result Fed Fault} → BeginsAt terms told start.stage before old
+      {result : Result Fed Fault} → BeginsAt terms told start.stage old before
       → HasGot (terms.work now.stage) content x fed → MadeAlike (terms.work now.stage) x z
       → IsStep (close_of (terms.work now.stage) z) → EndsSo terms told now fed mid new result
       → FedAs told before (terms.work start.stage) content IsStep new result
@@ -223,13 +223,11 @@ module _ {S : Type 0} {terms : Terms S} {told : Bool} {start now : GuardState S}
 module _ {S : Type 0} (terms : Terms S) where
   -- an input without bytes: the engine is closed at once
   pub closed_at_start : (laws : (s : S) (x : List ℕ) → terms.Holds s x → IsLawful (terms.work s))
-      (told : Bool) (opening : Needs) (most : ℕ)
-      {start : GuardState S} {old new before : List Slot} {fed : Fed} {result : Result Fed Fault}
-      → HoldsIn terms.Holds start [] → start.fed < 2 ^ 63 → BeginsAt terms told start.stage before old
-      → HasGot (terms.work start.stage) empty [] fed
+      (told : Bool) {start : GuardState S} {old new : List Slot} {fed : Fed} {result : Result Fed Fault}
+      → HoldsIn terms.Holds start [] → start.fed < 2 ^ 63 → HasGot (terms.work start.stage) empty [] fed
       → EndsSo terms told start fed old new result
-      → FedAs told before (terms.work start.stage) empty (IsCall (terms.work start.stage) opening most empty) new result
-  closed_at_start laws told opening most {start} {old = old} {fed = fed} holds bound begun got ends =
+      → FedNothing told (terms.work start.stage) (BeginsAt terms told start.stage old) new result
+  closed_at_start laws told {start} {old = old} {fed = fed} holds bound got ends before opening most begun =
       let begins : Feeds terms told start start [] old old = record
       { same = refl; holds = holds; owns = λ first own. own; outputs = λ before begun. begun.1; bound = bound } in
       ended begins laws (IsCall (terms.work start.stage) opening most empty) begun got (alike_itself)
@@ -281,7 +279,7 @@ of_more false there x rest source P all came holds =
 
 -- if the output was complete, no read had to report the end
 pub told_by_complete : {work : Work} (content : Content) (source : Source) {x : List ℕ} (rest : List ℕ) → IsLawful work
-    → work.is_complete x ≡ true → content.bytes ≡ x ++ rest → ToldEnd work content source
+    → work.is_complete x ≡ true → content.bytes ≡ x ++ rest → SawEnd work content source
 told_by_complete content source {x} rest lawful complete is ends going =
     absurd (cc (lawful.stays x rest complete).still)
 
@@ -314,7 +312,7 @@ needed_front (inr going) = grind (arith, common_steps)
 -- What was taken of an input since `start`: x. If nothing was taken before, reads gave no more.
 pub record HasTaken (x : List ℕ) (slot : ℕ) (start sources : List Source) : Type 0 where
   pub taken : (source_at sources slot).taken ≡ (source_at start slot).taken ++ x
-  pub far : IsUnread (source_at start slot) → (source_at sources slot).reached ≤ length x
+  pub far : IsUntaken (source_at start slot) → (source_at sources slot).reached ≤ length x
 
 taken_next : {x buffer old_buffer : List ℕ} {slot : ℕ} (size : ℕ) {n : ℕ} {start sources new : List Source}
     → HasTaken x slot start sources → IsTrue (is_readable sources slot)
@@ -371,7 +369,7 @@ uses_judged joined needed settled few = grind (arith, common_steps)
 
 -- what was given back is no more than may be
 pub read_to_used : {work : Work} {x : List ℕ} {slot n : ℕ} {start sources new : List Source} (spare : IsSpare work x n)
-    → (slot ≡ 0 → n ≤ work.ahead) → HasTaken x slot start sources → IsUnread (source_at start slot)
+    → (slot ≡ 0 → n ≤ work.ahead) → HasTaken x slot start sources → IsUntaken (source_at start slot)
     → IsTrue (is_readable sources slot) → new ≡ changed_at slot (gets_back n) sources → slot ≡ 0
     → (source_at new slot).reached ≤ length spare.used + work.ahead
 read_to_used {slot} {n} {sources} {new} spare few took unread can is standard =
@@ -387,7 +385,7 @@ read_to_used {slot} {n} {sources} {new} spare few took unread can is standard =
 pub uses_part : {work : Work} {most slot n : ℕ} {there : Content} {x : List ℕ} {start sources new : List Source}
     (spare : IsSpare work x n) → there.bytes ≡ spare.used ++ (source_at new slot).left.bytes → 0 < most
     → work.is_complete spare.used ≡ true → (slot ≡ 0 → n ≤ work.ahead) → HasTaken x slot start sources
-    → IsUnread (source_at start slot) → IsTrue (is_readable sources slot) → new ≡ changed_at slot (gets_back n) sources
+    → IsUntaken (source_at start slot) → IsTrue (is_readable sources slot) → new ≡ changed_at slot (gets_back n) sources
     → Uses work most slot there (source_at new slot)
 uses_part spare joined room complete few took unread can is = record {
   read = spare.used;

@@ -37,12 +37,12 @@ use Rattle.ports_core.proofs.{
   MessageLemmas.{all_said_state, says_after},
 }
 use Rattle.run_core.specs.{
-  Feeding.{IsCall, IsUnread, Step, ToldEnd, Uses, is_enough, FedAs, whole, had_enough, broke_off, judged, stopped},
+  Feeding.{IsCall, IsUntaken, Step, SawEnd, Uses, is_enough, FedAs, whole, had_enough, broke_off, judged, stopped},
   Input.{Input, World, IsFor, shown_of, showing, is_dash, input_of, inputs_from, next_slot, has_dash, AreFrom},
   Input.{inputs_at, file_input, standard_input, read_before},
-  Reading.{AreDone, AreUntouched, IsDone, IsUntouched, Leaves, count_after, reason_of},
+  Reading.{AreDone, AreUntouched, IsDone, IsUntouched, LeavesAt, count_after, reason_of},
   inner.RunSteps.{TakesOne, OfSource, HeaderFails, no_room, broke, TookInput, took, cut_off, input_from, TookAll},
-  inner.RunSteps.{all, stopped_at, not_begun, HasStreams, OfName, Start, TookName, TookSource, standard_source, start_at},
+  inner.RunSteps.{all, stopped_at, not_begun, HasStreams, OfName, RunStart, TookName, TookSource, standard_source, start_at},
   declared.{inputs.RunProgress.RunProgress, feeding.Fed.{Fed, TheVariants.{Whole, Enough, Broken}}},
   RunEnds.{unheaded, heading, calling, step_after, EndsAs, as_defined, stopped as run_stopped, no_room as run_unmade},
   RunEnds.{RunsOver, StoppedAt, unopened, SaysFrom, SaysOf},
@@ -66,9 +66,9 @@ last_source sources = grind (arith, common_steps)
 -- an input of which nothing was read, before a step that needs none of it
 
 left_unread : (told : Bool) {content : Content} (slot : ℕ) (sources : List Source) → IsTrue (is_readable sources slot)
-    → IsUnread (source_at sources slot) → (told ≡ true → content.bytes ≡ (source_at sources slot).left.bytes)
+    → IsUntaken (source_at sources slot) → (told ≡ true → content.bytes ≡ (source_at sources slot).left.bytes)
     → (told ≡ false → content.breaks_off ≡ false)
-    → (step : Step) → step.read ≡ [] → step.ended ≡ false → Leaves told content (Some slot) sources step
+    → (step : Step) → step.read ≡ [] → step.ended ≡ false → LeavesAt told content (Some slot) sources step
 left_unread told slot sources can unread there sound step none going = (
   record {
     came = came_sound told sources slot can sound;
@@ -81,9 +81,9 @@ left_unread told slot sources can unread there sound step none going = (
 
 pub unread_source : (told : Bool) (source : Option ℕ) (sources : List Source) (Q : Content → Type 0)
     → IfSome source (λ slot. IsTrue (is_readable sources slot))
-    → IfSome source (λ slot. IsUnread (source_at sources slot))
+    → IfSome source (λ slot. IsUntaken (source_at sources slot))
     → ((content : Content)
-    → ((step : Step) → step.read ≡ [] → step.ended ≡ false → Leaves told content source sources step) → Q content)
+    → ((step : Step) → step.read ≡ [] → step.ended ≡ false → LeavesAt told content source sources step) → Q content)
     → OfSource told source sources Q
 unread_source told None sources Q can unread holds = holds empty (λ step none going. tt)
 unread_source true (Some slot) sources Q can unread holds = (
@@ -107,7 +107,7 @@ looked_can most None old new looked can = tt
 looked_can most (Some _) old new looked can = looked_readable looked can
 
 pub looked_unread : (most : ℕ) (source : Option ℕ) (old new : List Source) → OnlyLooked most source old new
-    → IfSome source (λ slot. IsUnread (source_at old slot)) → IfSome source (λ slot. IsUnread (source_at new slot))
+    → IfSome source (λ slot. IsUntaken (source_at old slot)) → IfSome source (λ slot. IsUntaken (source_at new slot))
 looked_unread most None old new looked unread = tt
 looked_unread most (Some _) old new looked unread = rw looked.looked unread
 
@@ -126,7 +126,7 @@ still_within is can keeps = grind (arith, common_steps)
 pub left_of : {told : Bool} {work : Work} {most slot : ℕ} {there : Content} (sources : List Source)
     (P Q : Content → Type 0) {stops : Bool} → slot < length sources → ((content : Content) → P content → Q content)
     → (told ≡ true → stops ≡ false → Uses work most slot there (source_at sources slot))
-    → OfContent told there (λ content. (P content × (stops ≡ false → ToldEnd work content (source_at sources slot)))
+    → OfContent told there (λ content. (P content × (stops ≡ false → SawEnd work content (source_at sources slot)))
     × CameFrom told content (source_at sources slot))
     → OfContent told there (λ content. Q content
     × (stops ≡ false → IsDone told work most (Some slot) (Some content) sources))
@@ -362,7 +362,7 @@ made_well task work is_first name content enough well = search rules
 pub stopped_in_header : {told_in told : Bool} {task : Task} {most : ℕ} {progress : RunProgress} {name : List ℕ}
     {source : Option ℕ} {shown : Option (List ℕ)} {content : Content} {found sources : List Source}
     {old new : List Slot} {fault : Fault} (had : HasStreams told old) → task.with_header ≡ true
-    → ((step : Step) → step.read ≡ [] → step.ended ≡ false → Leaves told_in content source sources step)
+    → ((step : Step) → step.read ≡ [] → step.ended ≡ false → LeavesAt told_in content source sources step)
     → HeaderFails told (header_text task.with_header progress.is_first name) old new fault
     → TookInput told_in task (input_from name source shown content) (start_at had progress most found) sources new
     (Err fault)
@@ -389,7 +389,7 @@ stopped_in_header {told} {task} {progress = progress} {name} {content = content}
     })
 
 -- one input was done, by what is made of it
-took_as : {told : Bool} {task : Task} {input : Input} {start : Start} {sources : List Source} {new : List Slot}
+took_as : {told : Bool} {task : Task} {input : Input} {start : RunStart} {sources : List Source} {new : List Slot}
     {made : Outcome} → made ≡ of_input task start.progress.is_first input
     → (next : RunProgress) (after : Slot) (reached : List Slot)
     → next ≡ record start.progress {
@@ -428,7 +428,7 @@ module _ (told_in : Bool) {told : Bool} (task : Task) (most : ℕ) (progress : R
 
   abbrev WasFed : Content → List Slot → Result Fed Fault → Type 0
   WasFed content = FedAs told mid work content (λ call. IsCall work (task.opening shown) most content call
-      × Leaves told_in content source sources call)
+      × LeavesAt told_in content source sources call)
 
   abbrev pub TookSo : Content → List Slot → Result RunProgress Fault → Type 0
   TookSo content new result = TookInput told_in task (input_from name source shown content)
@@ -582,7 +582,7 @@ none_left (word ∷ words) none = absurd (omega arith)
 -- which input a name stands for
 
 -- as much of an input, whichever sources there were before it
-elsewhere : {told : Bool} {task : Task} {input : Input} {start : Start} (found : List Source) {sources : List Source}
+elsewhere : {told : Bool} {task : Task} {input : Input} {start : RunStart} (found : List Source) {sources : List Source}
     {new : List Slot} {result : Result RunProgress Fault} → TookInput told task input start sources new result
     → TookInput told task input (record start { sources = found }) sources new result
 elsewhere found (took next after reached is done says at swept) = took next after reached is done says at swept

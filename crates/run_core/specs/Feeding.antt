@@ -10,7 +10,7 @@ use Rattle.ports_core.specs.{
   Swept.Swept,
   Work.{Work, Needs, Judges, IsNeeded},
   Engine.{Terms, is_verdict},
-  Inputs.{CameFrom, OfContent},
+  Inputs.{CameFrom, OfContent, empty},
   declared.{fault.Fault.{Fault, TheVariants.{Memory, Write, Open, TooLong}}, verdict.Verdict.Verdict},
 }
 use Rattle.run_core.specs.declared.feeding.Fed.{Fed, TheVariants.{Whole, Enough, Broken}}
@@ -21,8 +21,8 @@ abbrev pub is_enough : Work → Content → Bool
 is_enough work content = not content.breaks_off || work.is_complete content.bytes
 
 -- what the engine makes of an input
-abbrev pub made_of : Work → Content → Part
-made_of work content = if is_enough work content then work.whole content.bytes else work.settled content.bytes
+abbrev pub fed_part : Work → Content → Part
+fed_part work content = if is_enough work content then work.whole content.bytes else work.settled content.bytes
 
 -- One step of a run at an input.
 pub record Step : Type 0 where
@@ -59,8 +59,8 @@ pub data HasAll (work : Work) (content : Content) (x : List ℕ) : Type 0 where
   enough : (rest : List ℕ) → content.bytes ≡ x ++ rest → work.is_complete x ≡ true → HasAll work content x
 
 -- a step between these parts, before which no byte was given back; the input hasn't ended by it
-abbrev pub step_of : Output → (files : Bool) → Needs → (read : List ℕ) → (low high : Part) → Step
-step_of output files needs read low high = record {
+abbrev pub step_from : Output → (files : Bool) → Needs → (read : List ℕ) → (low high : Part) → Step
+step_from output files needs read low high = record {
   low = low;
   high = high;
   output = output;
@@ -73,7 +73,7 @@ step_of output files needs read low high = record {
 
 -- the step of an engine's call that may need this
 abbrev pub call_of : Work → Needs → List ℕ → Part → Part → Step
-call_of work needs read low high = step_of work.means.output work.means.files needs read low high
+call_of work needs read low high = step_from work.means.output work.means.files needs read low high
 
 -- the call that closes an engine, at the end of the input or once the output is complete with what came in
 abbrev pub close_of : Work → List ℕ → Step
@@ -142,8 +142,8 @@ abbrev pub IsReadTo : ℕ → Source → Step → Type 0
 IsReadTo slot source step = slot ≡ 0 → source.reached ≤ length step.read + step.ahead
 
 -- if an input ended before the output was complete, a read reported the end
-abbrev pub ToldEnd : Work → Content → Source → Type 0
-ToldEnd work content source = content.breaks_off ≡ false → work.is_complete content.bytes ≡ false
+abbrev pub SawEnd : Work → Content → Source → Type 0
+SawEnd work content source = content.breaks_off ≡ false → work.is_complete content.bytes ≡ false
     → source.ended ≡ true
 
 -- whether a fault stops the run: it is no verdict
@@ -152,34 +152,39 @@ is_stop (Ok fed) = false
 is_stop (Err fault) = not (is_verdict fault)
 
 -- nothing was taken from the source
-abbrev pub IsUnread : Source → Type 0
-IsUnread source = (source.taken ≡ []) × (source.reached ≡ 0)
+abbrev pub IsUntaken : Source → Type 0
+IsUntaken source = (source.taken ≡ []) × (source.reached ≡ 0)
 
 -- an engine was opened: since `before` the outputs have what is settled at first
-abbrev pub BeginsAt : {S : Type 0} → Terms S → (told : Bool) → S → (before old : List Slot) → Type 0
-BeginsAt terms told stage before old = terms.Owns stage (length before) old
+abbrev pub BeginsAt : {S : Type 0} → Terms S → (told : Bool) → S → (old before : List Slot) → Type 0
+BeginsAt terms told stage old before = terms.Owns stage (length before) old
     × OutputsAt told before ((terms.work stage).settled []) old
 
 -- what an engine of this work is fed: the input of this number, by pieces of at most `most` bytes
 pub record Feed : Type 0 where
   pub work : Work
-  pub opening : Needs
   pub most : ℕ
   pub slot : ℕ
 
-abbrev pub feed_of : Work → Needs → ℕ → ℕ → Feed
-feed_of work opening most slot = record { work = work; opening = opening; most = most; slot = slot }
+abbrev pub feed_of : Work → ℕ → ℕ → Feed
+feed_of work most slot = record { work = work; most = most; slot = slot }
 
 -- How feeding an input ended, and what it left of the input: `old` and `new` are the sources before and after it,
--- `before` and `slots` the outputs.
-abbrev pub FedFrom : (told_in told : Bool) → Feed → (old new : List Source) → (before slots : List Slot)
-    → Result Fed Fault → Type 0
-FedFrom told_in told feed old new before slots result = let source = source_at new feed.slot in
-    OfContent told_in (source_at old feed.slot).left (λ content.
-    (FedAs told before feed.work content (λ call. IsCall feed.work feed.opening feed.most content call
+-- `slots` the outputs. `Begins` is true of the outputs before the engine was opened, which may have needed `opening`.
+abbrev pub FedFrom : (told_in told : Bool) → Feed → (old new : List Source) → (Begins : List Slot → Type 0)
+    → (slots : List Slot) → Result Fed Fault → Type 0
+FedFrom told_in told feed old new Begins slots result = (before : List Slot) (opening : Needs) → Begins before
+    → let source = source_at new feed.slot in OfContent told_in (source_at old feed.slot).left (λ content.
+    (FedAs told before feed.work content (λ call. IsCall feed.work opening feed.most content call
     × LeavesOf told_in content source call
-    × (told_in ≡ true → IsUnread (source_at old feed.slot) → IsReadTo feed.slot source call)) slots result
-    × (is_stop result ≡ false → ToldEnd feed.work content source)) × CameFrom told_in content source)
+    × (told_in ≡ true → IsUntaken (source_at old feed.slot) → IsReadTo feed.slot source call)) slots result
+    × (is_stop result ≡ false → SawEnd feed.work content source)) × CameFrom told_in content source)
+
+-- how feeding an engine of this work an input without bytes ended
+abbrev pub FedNothing : (told : Bool) → Work → (Begins : List Slot → Type 0) → (slots : List Slot) → Result Fed Fault
+    → Type 0
+FedNothing told work Begins slots result = (before : List Slot) (opening : Needs) (most : ℕ) → Begins before
+    → FedAs told before work empty (IsCall work opening most empty) slots result
 
 -- What a tool that is done with an input took of it, and what it left: it took enough, and no more than it needed.
 pub record Uses (work : Work) (most slot : ℕ) (there : Content) (source : Source) : Type 0 where

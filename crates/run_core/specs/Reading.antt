@@ -6,14 +6,14 @@ use Rattle.ports_core.specs.{
   Inputs.CameFrom,
   declared.reason.Reason.{Reason, TheVariants.Other},
 }
-use Rattle.run_core.specs.{Feeding.{IsReadTo, LeavesOf, Step, ToldEnd, Uses}, Input.{Input, next_slot}}
+use Rattle.run_core.specs.{Feeding.{IsReadTo, LeavesOf, Step, SawEnd, Uses}, Input.{Input, next_slot}}
 
 -- What is left of an input that was done, by its source. If bytes are visible, all is left except what was used. If the
 -- input ended, a read reported that, or the output was complete. An input that couldn't be opened isn't open.
 abbrev pub IsLeft : Bool → Work → ℕ → ℕ → Option Content → Source → Type 0
 IsLeft told work most slot None source = source.is_open ≡ false
 IsLeft told work most slot (Some content) source = (told ≡ true → Uses work most slot content source)
-    × CameFrom told content source × ToldEnd work content source
+    × CameFrom told content source × SawEnd work content source
 
 -- what is left of an input that was done, by its number; a later `-` has none
 abbrev pub IsDone : Bool → Work → ℕ → Option ℕ → Option Content → List Source → Type 0
@@ -32,9 +32,9 @@ reason_of None sources = Other
 reason_of (Some slot) sources = (source_at sources slot).reason
 
 -- what is left of an input by its number, if a fault stopped this step
-abbrev pub Leaves : Bool → Content → Option ℕ → List Source → Step → Type 0
-Leaves told content None sources = λ step. Unit {0}
-Leaves told content (Some slot) sources = λ step. LeavesOf told content (source_at sources slot) step
+abbrev pub LeavesAt : Bool → Content → Option ℕ → List Source → Step → Type 0
+LeavesAt told content None sources = λ step. Unit {0}
+LeavesAt told content (Some slot) sources = λ step. LeavesOf told content (source_at sources slot) step
     × (told ≡ true → IsReadTo slot (source_at sources slot) step)
 
 -- an input to which a run didn't come: it wasn't opened, or nothing was asked of it

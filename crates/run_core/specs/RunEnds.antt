@@ -13,9 +13,9 @@ use Rattle.ports_core.specs.{
   declared.{calling.Speaker.Speaker, fault.Fault.{Fault, TheVariants.Memory}, reason.Reason.Reason},
 }
 use Rattle.run_core.specs.{
-  Feeding.{IsCall, Step, StoppedStep, step_of},
+  Feeding.{IsCall, Step, StoppedStep, step_from},
   Input.{Input, World, Finds},
-  Reading.{AreDone, AreUntouched, Leaves, reason_of},
+  Reading.{AreDone, AreUntouched, LeavesAt, reason_of},
   Task.{Task, made_by, of_input, after_part, header_text, are_missing, status_of},
 }
 
@@ -25,13 +25,13 @@ step_after first step = record step { low = after_part first step.low; high = af
 
 -- a step that writes nothing, and may need memory
 abbrev pub memory_step : Part → Step
-memory_step so_far = step_of gets_none false (record { memory = true; files = false }) [] so_far so_far
+memory_step so_far = step_from gets_none false (record { memory = true; files = false }) [] so_far so_far
 
 -- what was written before an input, with the header of this input
 abbrev pub headed : Task → Part → Bool → Input → Part
 headed task so_far is_first input = after_part so_far (only_out (header_text task.with_header is_first input.name))
 
--- one step at an input, after what was written before; `Leaves` says what is left of an input that was opened
+-- one step at an input, after what was written before; `LeavesAt` says what is left of an input that was opened
 pub data RunStep (told : Bool) (task : Task) (most : ℕ) (so_far : Part) (is_first : Bool) (input : Input)
     (sources : List Source) : Step → Type 0 where
   -- there is no memory to open the input
@@ -39,18 +39,18 @@ pub data RunStep (told : Bool) (task : Task) (most : ℕ) (so_far : Part) (is_fi
       → RunStep told task most so_far is_first input sources (memory_step so_far)
   -- there is no memory for the header
   unheaded : (content : Content) → input.content ≡ Some content → task.with_header ≡ true
-      → Leaves told content input.slot sources (memory_step so_far)
+      → LeavesAt told content input.slot sources (memory_step so_far)
       → RunStep told task most so_far is_first input sources (memory_step so_far)
   -- the header is written
   heading : (content : Content) → input.content ≡ Some content → task.with_header ≡ true
-      → Leaves told content input.slot sources
-      (step_of gets_bytes false no_needs [] so_far (headed task so_far is_first input))
+      → LeavesAt told content input.slot sources
+      (step_from gets_bytes false no_needs [] so_far (headed task so_far is_first input))
       → RunStep told task most so_far is_first input sources
-      (step_of gets_bytes false no_needs [] so_far (headed task so_far is_first input))
+      (step_from gets_bytes false no_needs [] so_far (headed task so_far is_first input))
   -- the engine is called
   calling : (content : Content) (call : Step) → input.content ≡ Some content
       → IsCall (task.work input.shown) (task.opening input.shown) most content call
-      → Leaves told content input.slot sources call
+      → LeavesAt told content input.slot sources call
       → RunStep told task most so_far is_first input sources (step_after (headed task so_far is_first input) call)
 
 -- an output got these messages, one after another, all with this reason

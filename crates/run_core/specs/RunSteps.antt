@@ -1,5 +1,5 @@
 -- What each step of a run over its inputs leaves.
-use Rattle.std.specs.Prelude.{◌≡◌, ℕ, ◌<◌, ◌^◌, Bool, true, false, List, [], length, Option, Some, None}
+use Rattle.std.specs.Prelude.{◌≡◌, ℕ, ◌<◌, ◌^◌, Bool, true, false, List, [], length, Option, Some, None, Result, IfOk, IfErr}
 use Rattle.ports_core.specs.{
   Slot.Slot,
   Source.{Content, Source, source_at},
@@ -11,7 +11,7 @@ use Rattle.ports_core.specs.{
   Engine.{Terms, is_verdict},
   declared.fault.Fault.Fault,
 }
-use Rattle.run_core.specs.{Feeding.{Stops, call_of}, Input.World}
+use Rattle.run_core.specs.{Feeding.{Stops, call_of}, Input.World, Task.Task}
 
 -- a tool's engine was opened from these outputs
 pub record Opens {S : Type 0} (terms : Terms S) (asked : Work) (told : Bool) (old new : List Slot)
@@ -32,6 +32,12 @@ pub record OpensShort (asked : Work) (opening : Needs) (told : Bool) (old new : 
   pub why : Stops (call_of asked opening [] nothing (asked.settled [])) reached fault
   pub stop : StoppedBetween asked.means.output told old nothing (asked.settled []) fault reached
   pub swept : Swept asked.clears (length old) reached new
+
+-- how opening an engine for this task ended, if the input shows this text or none
+abbrev pub OpenedFor : {S : Type 0} → Terms S → Task → (shown : Option (List ℕ)) → (told : Bool)
+    → (old new : List Slot) → Result (GuardState S) Fault → Type 0
+OpenedFor terms task shown told old new result = IfOk result (Opens terms (task.work shown) told old new)
+    × IfErr result (OpensShort (task.work shown) (task.opening shown) told old new)
 
 -- what a source shows, if bytes are visible; without a source nothing is shown
 abbrev pub IsShown : Bool → Option ℕ → List Source → Option (List ℕ) → Type 0

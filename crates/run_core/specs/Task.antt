@@ -9,7 +9,7 @@ use Rattle.ports_core.specs.{
   Text.{Message, message_of, header_of},
   declared.{calling.Speaker.Speaker, fault.Fault.TheVariants.{Read, Open}, verdict.Verdict.Verdict},
 }
-use Rattle.run_core.specs.{Feeding.{is_enough, made_of}, Input.Input}
+use Rattle.run_core.specs.{Feeding.{is_enough, fed_part}, Input.Input}
 use Rattle.ports_core.specs.declared.fault.Fault.TheVariants as fault_is
 
 -- what a run does with each of its inputs
@@ -73,7 +73,7 @@ abbrev pub of_content : Task → Work → Bool → List ℕ → Option Content �
 of_content task work is_first name None =
     record no_outcome { messages = message_of (Open 0) name ∷ []; failed = true }
 of_content task work is_first name (Some content) = record {
-  part = after_part (only_out (header_text task.with_header is_first name)) (made_of work content);
+  part = after_part (only_out (header_text task.with_header is_first name)) (fed_part work content);
   messages = if is_enough work content then verdict_messages task name (work.verdict content.bytes)
       else message_of (Read 0) name ∷ [];
   failed = ends_badly work content;

@@ -1,6 +1,6 @@
-ghost use Rattle.std.specs.Prelude.{◌≡◌, ◌≤◌, ◌<◌, ℕ, List, Option, length, IfOk, IfErr, IfSome, IsTrue};
+ghost use Rattle.std.specs.Prelude.{◌≡◌, ◌≤◌, ◌<◌, ℕ, List, Option, length, IfSome, IsTrue};
 ghost use Rattle.ports_core.specs.{Source.is_readable, Slot.is_writable};
-ghost use Rattle.run_core.specs.{Task.Task, RunSteps.{IsShown, OnlyLooked, Opens, OpensShort}};
+ghost use Rattle.run_core.specs.{Task.Task, RunSteps.{IsShown, OnlyLooked, OpenedFor}};
 
 use ports_core::{Fault, Guarded, Inputs, Outs, Speaker, Stage, Verdict};
 use std::alloc::Global;
@@ -45,10 +45,7 @@ pub trait Adapter {
         requires streams { 2 ≤ length (O.slots outs.old) }
         requires output { IsTrue (is_writable (O.slots outs.old) 0) }
         ensures opens { (shown : Option (List ℕ)) × IsShown I.told source (I.sources inputs.old) shown
-            × IfOk result (Opens Self.Driven.terms ((task self.now).work shown) O.told (O.slots outs.old)
-            (O.slots outs.new))
-            × IfErr result (OpensShort ((task self.now).work shown) ((task self.now).opening shown) O.told
-            (O.slots outs.old) (O.slots outs.new)) }
+            × OpenedFor Self.Driven.terms (task self.now) shown O.told (O.slots outs.old) (O.slots outs.new) result }
         ensures looked { OnlyLooked (length buffer.old) source (I.sources inputs.old) (I.sources inputs.new) }
         ensures laid { I.laid inputs.new ≡ I.laid inputs.old };
 }

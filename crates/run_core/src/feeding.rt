@@ -1,15 +1,14 @@
 //! Feeding an engine one input, piece by piece.
-ghost use Rattle.std.specs.Prelude.{◌≡◌, ◌^◌, ◌<◌, ◌≤◌, ℕ, List, [], true, false, length, IsTrue, IfOk, IfErr};
+ghost use Rattle.std.specs.Prelude.{◌≡◌, ◌^◌, ◌<◌, ◌≤◌, ℕ, [], true, false, length, IsTrue, IfOk, IfErr};
 ghost use Rattle.ports_core.specs.{
-  Slot.{Slot, changed_at},
+  Slot.changed_at,
   Source.{ReadFails, source_at, is_readable, gives, Gave, BrokeOff},
-  Work.Needs,
   Guard.HoldsIn,
   Engine.{Clears, is_verdict},
-  Inputs.{empty, KeepsOthers},
+  Inputs.KeepsOthers,
 };
 ghost use Rattle.run_core.specs.{
-  Feeding.{BeginsAt, FedAs, FedFrom, IsCall, IsUnread, ReadsFor, Uses, feed_of, is_stop},
+  Feeding.{BeginsAt, FedFrom, FedNothing, IsUntaken, ReadsFor, Uses, feed_of, is_stop},
   inner.RunSteps.EndsSo,
 };
 
@@ -29,7 +28,7 @@ pub enum Fed {
 /// Feeds an engine all of an input until the engine is done with it: first what it takes in without a read, and then pieces of at most the
 /// buffer's length; of standard input pieces of no more than it wants at once. What it doesn't use of the last piece is given back. Then,
 /// or at the end of the input, the engine is closed. If the input breaks off before that, and after a fault, the engine gives its files up.
-/// The engine was opened before, which may have needed what the caller says (`opening` in the clause).
+/// The engine was opened before, which may have needed what the caller says (`opening` in `FedFrom`).
 ///
 /// # Errors
 ///
@@ -47,14 +46,13 @@ pub fn feed_input<S: Stage, I: Inputs, O: Outs>(
     requires input { IsTrue (is_readable (I.sources inputs.old) slot) }
     requires output { S.terms.Ready engine.old.stage (O.slots outs.old) }
     requires owns { (first : ℕ) × S.terms.Owns engine.old.stage first (O.slots outs.old) }
-    ensures ends { (before : List Slot) (opening : Needs)
-        → BeginsAt S.terms O.told engine.old.stage before (O.slots outs.old)
-        → FedFrom I.told O.told (feed_of (S.terms.work engine.old.stage) opening (length buffer.old) slot)
-        (I.sources inputs.old) (I.sources inputs.new) before (O.slots outs.new) result }
+    ensures ends { FedFrom I.told O.told (feed_of (S.terms.work engine.old.stage) (length buffer.old) slot)
+        (I.sources inputs.old) (I.sources inputs.new)
+        (BeginsAt S.terms O.told engine.old.stage (O.slots outs.old)) (O.slots outs.new) result }
     ensures reads { I.told ≡ true
         → ReadsFor (S.terms.work engine.old.stage).is_complete (length buffer.old)
         (source_at (I.sources inputs.old) slot).left (source_at (I.sources inputs.new) slot).left }
-    ensures used { I.told ≡ true → is_stop result ≡ false → IsUnread (source_at (I.sources inputs.old) slot)
+    ensures used { I.told ≡ true → is_stop result ≡ false → IsUntaken (source_at (I.sources inputs.old) slot)
         → Uses (S.terms.work engine.old.stage) (length buffer.old) slot (source_at (I.sources inputs.old) slot).left
         (source_at (I.sources inputs.new) slot) }
     ensures asked { (source_at (I.sources inputs.old) slot).asked ≤ length buffer.old
@@ -143,10 +141,8 @@ pub fn feed_nothing<S: Stage, O: Outs>(engine: &mut Guarded<S>, outs: &mut O) ->
     requires bound { engine.old.fed < 2 ^ 63 }
     requires output { S.terms.Ready engine.old.stage (O.slots outs.old) }
     requires owns { (first : ℕ) × S.terms.Owns engine.old.stage first (O.slots outs.old) }
-    ensures ends { (before : List Slot) (opening : Needs) (most : ℕ)
-        → BeginsAt S.terms O.told engine.old.stage before (O.slots outs.old)
-        → let work = S.terms.work engine.old.stage in
-        FedAs O.told before work empty (IsCall work opening most empty) (O.slots outs.new) result }
+    ensures ends { FedNothing O.told (S.terms.work engine.old.stage)
+        (BeginsAt S.terms O.told engine.old.stage (O.slots outs.old)) (O.slots outs.new) result }
 {
     if engine.done() {
         return end(engine, Fed::Enough, outs);

@@ -10,7 +10,7 @@ ghost use Rattle.ports_core.specs.{
   Text.message_of,
 };
 ghost use Rattle.run_core.specs.{
-  Feeding.IsUnread,
+  Feeding.IsUntaken,
   Input.{has_dash, is_dash, next_slot},
   Reading.{count_after, reason_of},
   inner.RunSteps.{FedSource, HasStreams, HeaderFails, KeepsOther, TakesOne, TookAll, TookName, TookSource, moment_of},
@@ -134,7 +134,7 @@ fn take_name<A: Adapter, I: Inputs, O: Outs>(
     requires room { 0 < length buffer.old }
     requires some { 0 < length (I.sources inputs.old) }
     requires standard { progress.was_read ≡ false → IsTrue (is_readable (I.sources inputs.old) 0) }
-    requires unread { progress.was_read ≡ false → IsUnread (source_at (I.sources inputs.old) 0) }
+    requires unread { progress.was_read ≡ false → IsUntaken (source_at (I.sources inputs.old) 0) }
     requires outputs { HasStreams O.told (O.slots outs.old) }
     ensures took { (had : HasStreams O.told (O.slots outs.old))
         → TookName I.told (I.laid inputs.old) (A.task job.now.adapter.now) name.now
@@ -207,7 +207,7 @@ fn take_input<A: Adapter, I: Inputs, O: Outs>(
 ) -> Result<RunProgress, Fault>
     requires room { 0 < length buffer.old }
     requires input { IfSome source (λ slot. IsTrue (is_readable (I.sources inputs.old) slot)) }
-    requires unread { IfSome source (λ slot. IsUnread (source_at (I.sources inputs.old) slot)) }
+    requires unread { IfSome source (λ slot. IsUntaken (source_at (I.sources inputs.old) slot)) }
     requires outputs { HasStreams O.told (O.slots outs.old) }
     ensures took { (had : HasStreams O.told (O.slots outs.old))
         → TookSource I.told (A.task job.now.adapter.now) name.now source
@@ -315,7 +315,7 @@ fn feed_source<A: Adapter, I: Inputs, O: Outs>(
 ) -> Result<Fed, Fault>
     requires room { 0 < length buffer.old }
     requires input { IfSome source (λ slot. IsTrue (is_readable (I.sources inputs.old) slot)) }
-    requires unread { IfSome source (λ slot. IsUnread (source_at (I.sources inputs.old) slot)) }
+    requires unread { IfSome source (λ slot. IsUntaken (source_at (I.sources inputs.old) slot)) }
     requires streams { 2 ≤ length (O.slots outs.old) }
     requires output { IsTrue (is_writable (O.slots outs.old) 0) }
     ensures fed { FedSource I.told O.told (A.task job.now.adapter.now) (length buffer.old) source

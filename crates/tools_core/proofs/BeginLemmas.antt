@@ -34,7 +34,7 @@ use Rattle.tools_core.{
   proofs.LeftLemmas.{Kept, slots_at, swept_kept, outputs_of, slots_of, text_made},
 }
 use Rattle.run_core.specs.{
-  Feeding.{HasAll, IsCall, Step, enough, is_enough, made_of, to_end, opens, feeds, closes},
+  Feeding.{HasAll, IsCall, Step, enough, is_enough, fed_part, to_end, opens, feeds, closes},
   Input.Input,
   RunEnds.{EndsAs, RunStep, as_defined, calling as call_step, heading, no_room, stopped, unheaded},
   RunEnds.unopened as unopened_step,
@@ -131,11 +131,11 @@ part_of task name bytes = after_part (only_out (header_text task.with_header tru
 -- What a step has written is a beginning of what is made of its input.
 
 pub record IsGrowing (work : Work) (content : Content) : Type 0 where
-  pub settled : (x rest : List ℕ) → content.bytes ≡ x ++ rest → Begins (work.settled x) (made_of work content)
-  pub closed : (x : List ℕ) → HasAll work content x → Begins (work.whole x) (made_of work content)
+  pub settled : (x rest : List ℕ) → content.bytes ≡ x ++ rest → Begins (work.settled x) (fed_part work content)
+  pub closed : (x : List ℕ) → HasAll work content x → Begins (work.whole x) (fed_part work content)
 
 call_begins : {work : Work} {opening : Needs} {content : Content} {call : Step} → IsGrowing work content
-    → IsCall work opening largest_piece content call → Begins call.high (made_of work content)
+    → IsCall work opening largest_piece content call → Begins call.high (fed_part work content)
 call_begins {content = content} grows opens = grows.settled [] content.bytes refl
 call_begins grows (feeds x piece rest is few going) = search rules
 call_begins grows (closes x has needed) = grows.closed x has
@@ -198,7 +198,7 @@ begins_whole {place} grows differs (no_room error says slots untouched count sta
 -- Lawful works only grow.
 
 closed_made : {work : Work} (content : Content) → IsLawful work → (x : List ℕ) → HasAll work content x
-    → Begins (work.whole x) (made_of work content)
+    → Begins (work.whole x) (fed_part work content)
 closed_made {work} content law x (to_end ends is) = rw (ends, is) (part_begins_itself (work.whole x))
 closed_made {work} content law x (enough rest is complete) =
     let here = law.stays x [] complete in
@@ -208,7 +208,7 @@ closed_made {work} content law x (enough rest is complete) =
 
 settled_made : (work : Work) (content : Content) → ((x y : List ℕ) → Begins (work.settled x) (work.settled (x ++ y)))
     → ((x : List ℕ) → Begins (work.settled x) (work.whole x)) → (x rest : List ℕ) → content.bytes ≡ x ++ rest
-    → Begins (work.settled x) (made_of work content)
+    → Begins (work.settled x) (fed_part work content)
 settled_made work content grows ends x rest is = cond_both (is_enough work content) (work.whole content.bytes)
     (work.settled content.bytes) (Begins (work.settled x))
     (λ enough. rw is (part_trans (work.settled x) (work.settled (x ++ rest)) (work.whole (x ++ rest)) (grows x rest) (ends (x ++ rest))))
@@ -247,7 +247,7 @@ is_way asked can = by asked.way can.way where
 dealt_closed : (delim n : ℕ) (elide : Bool) (filing : Filing) (content : Content) → are_named filing.names n ≡ true
     → (x : List ℕ) → HasAll (split_work (round_plan delim n elide filing)) content x
     → Begins (whole_by (round_plan delim n elide filing) x)
-    (made_of (split_work (round_plan delim n elide filing)) content)
+    (fed_part (split_work (round_plan delim n elide filing)) content)
 dealt_closed delim n elide filing content all x (to_end ends is) = rw (ends, is) (part_begins_itself _)
 dealt_closed delim n elide filing content all x (enough rest is complete) = absurd (false≢true (not_short delim filing elide n x all ∙ complete))
 

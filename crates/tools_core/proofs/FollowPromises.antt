@@ -16,7 +16,12 @@ use Rattle.follow_core.specs.{
   Share.{bytes_of, gain, gains_from, no_share, share_by, share_of, shares_from},
   FollowState.is_alive,
 }
-use Rattle.follow_core.proofs.{AgreeLemmas.grown, RunLemmas.{found_are, text_is_gains}, LookLemmas.{failed_later, failed_sound, looks_give_text}}
+use Rattle.follow_core.proofs.{
+  AgreeLemmas.grown,
+  RunLemmas.{found_are, text_is_gains},
+  LookLemmas.{failed_later, failed_sound, looks_give_text},
+  LookedLemmas.as_many,
+}
 use Rattle.tools_core.{
   specs.Promises.{AsksToFollow, OnlyGrows, Follows, IsBare, IsOfProgram, showing},
   specs.Following.{is_name, pause_by, start_of},
@@ -201,13 +206,13 @@ pub follows_text : {run : Run} {count : ℕ} {options : EndsAsked} {followed : F
     → options.names ≡ name ∷ []
     → (run.seen ≡ seen_first (paused run followed follows.read.0) (length run.seen)
     → AreKept (entries_of (is_name followed) name run.seen))
-    → WroteText (ways_of 0 (is_name followed) (start_of options)) name
+    → WroteText (ways_of (is_name followed) (start_of options) 0) name
     (paused run followed follows.read.0) count run.seen run.outputs
 follows_text {run} {count} {options} {followed} {name} follows bare named keeps_bytes =
-    let ways = ways_of 0 (is_name followed) (start_of options) in
+    let ways = ways_of (is_name followed) (start_of options) 0 in
     let shows = paused run followed follows.read.0 in
-    wrote_text ways name shows count (remains run.seen run.watched run.outputs) keeps_bytes
-    (rw (bare, named, follows.well) at (rw (follows.read.1, follows.read.2) at follows.ends))
+    let (most, are, ends) = rw (bare, named, follows.well) at (rw (follows.read.1, follows.read.2) at follows.ends) in
+    wrote_text ways name shows count (remains run.seen run.watched run.outputs) keeps_bytes (rw (as_many are) at ends)
 
 pub tells_all : (run : Run) (options : EndsAsked) (followed : Followed) (name came : List ℕ) (file n : ℕ)
     → Follows run (n + 1) options followed → IsBare options → options.names ≡ name ∷ []
@@ -216,7 +221,7 @@ pub tells_all : (run : Run) (options : EndsAsked) (followed : Followed) (name ca
     → (slot_at run.outputs 0).written ≡ tail_of options.delim options.unit
     (is_plus options.count.sign) options.count.amount ((showing run followed 0).holds file) ++ came
 tells_all run options followed name came file n follows bare named grows is =
-    let ways = ways_of 0 (is_name followed) (start_of options) in
+    let ways = ways_of (is_name followed) (start_of options) 0 in
     let shows = paused run followed follows.read.0 in
     let wrote = follows_text follows bare named (λ saw.
     rw (saw, seen_are shows (length run.seen), entries_are (is_name followed) shows (length run.seen) (omega arith) grows)

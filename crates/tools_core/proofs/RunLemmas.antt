@@ -40,15 +40,16 @@ use Rattle.words_core.specs.{
 }
 use Rattle.words_core.proofs.{CallingLemmas.row_named-tool, LimitLemmas.read-can}
 use Rattle.follow_core.{
-  proofs.LookedLemmas.{ends_by, most_made},
+  proofs.LookedLemmas.most_made,
   specs.{
     Ending.{no_room as no_room_yet, shows_by},
     declared.run.Method.{Method, TheVariants.{Descriptor, Name, PresentName, FirstFile}},
   },
 }
 use Rattle.tools_core.specs.{
-  Outcome.{DoesAsked, Refuses, RefusesFor, RunEnds, RunEndsAt, refusal, refuser, speaker},
+  Outcome.{Refuses, RefusesFor, RunEnds, RunEndsAt, refusal, refuser, speaker},
   Run.{IsUnread, Run, Visible},
+  inner.Asked.RunsAsked,
   Tasks.{by, names_of, speaker_of, tool_of},
   About.{TellsText, no_text, text_cut},
   Following.{FollowingEnds, FollowingEndsAt, FollowsTail, IsUnseen, method_of, pause_by},
@@ -268,8 +269,7 @@ module _ (told : Visible) (run : Run) (fresh : IsUnread run) where
 
 -- a run did what its words ask for
 pub ends_as_asked : (told : Visible) (run : Run) (settings : Settings) → settings_of run.calling run.words ≡ Ok settings
-    → RunsOver told.inputs run.world (names_of settings) (λ found. DoesAsked told run found settings)
-    → RunEnds told run
+    → RunsAsked told run settings → RunEnds told run
 ends_as_asked told run settings read (found, finds, does) = rw read (found, finds, inl does)
 
 -- How a run that follows ends, by its words.
@@ -296,13 +296,16 @@ module _ (told : Visible) (run : Run) (looks : ℕ) (unseen : IsUnseen run) wher
   unread_tail asked (Some followed) speaks refuses =
       let (most, are, above) = most_made told.watch asked.process
       (λ n. waiting (max (pause_by run.calling asked.pause) 1) (shows_by run.calling (method_of followed) run.shows n)) looks 0 (omega arith) (λ t. omega arith) in
-      let (why, says) = worded_by run.calling speaks refuses.says in
-      ends_by asked.process most are (no_room_yet why unseen.0 unseen.1
-      (λ output error since are. let is_error : standard_error ≡ error = ap (λ (slots : List Slot). slot_at slots 1) are in (
-        refuses.error,
-        subst (λ first. SaysFor told.outputs (by run.calling tool.Tail) why (message_of Memory []) first refuses.error) is_error says,
-        refuses.slots ∙ ap (changed_at 1 (λ _. refuses.error)) are,
-      )) refuses.failed)
+      let (why, says) = worded_by run.calling speaks refuses.says in (
+        most,
+        are,
+        no_room_yet why unseen.0 unseen.1
+            (λ output error since are. let is_error : standard_error ≡ error = ap (λ (slots : List Slot). slot_at slots 1) are in (
+              refuses.error,
+              subst (λ first. SaysFor told.outputs (by run.calling tool.Tail) why (message_of Memory []) first refuses.error) is_error says,
+              refuses.slots ∙ ap (changed_at 1 (λ _. refuses.error)) are,
+            )) refuses.failed,
+      )
 
   unread_files : (meant : Result Settings Fault) → settings_of run.calling run.words ≡ meant → Refuses told run Memory
       → FollowingEndsAt told run looks meant
@@ -382,8 +385,7 @@ module _ (told : Visible) (run : Run) where
   -- what a run leaves whose words ask to follow nothing
   pub program_runs : {is_fed : Bool} (settings : Settings) → settings_of run.calling run.words ≡ Ok settings
       → is_fed ≡ (asks_input run.calling settings && run.fed) → follows run.calling is_fed settings ≡ false
-      → IsUnseen run → RunsOver told.inputs run.world (names_of settings) (λ found. DoesAsked told run found settings)
-      → ProgramEnds told run
+      → IsUnseen run → RunsAsked told run settings → ProgramEnds told run
   program_runs settings read is cannot unseen ran =
       rw (looks_as run.calling run.fed run.words settings read is cannot)
       (unseen.0, unseen.1, ends_as_asked told run settings read ran)

@@ -8,8 +8,7 @@ use Rattle.ports_core.specs.{
 use Rattle.watch_core.specs.Snapshot.{waiting}
 use Rattle.follow_core.specs.{
   declared.{run.Method.Method, start.Start.Start},
-  Ending.{FollowEndsBy, is_by_name, remains, shows_by},
-  FollowState.asked_so,
+  Ending.{FollowEndsBy, asked_so, is_by_name, remains, shows_by},
 }
 use Rattle.words_core.specs.{
   declared.{
@@ -58,9 +57,9 @@ pause_by Cutters pause = pause
 -- before it, or 1 ms if that is 0. Looks show names as `shows_by` says.
 abbrev pub FollowsAs : Visible → Run → (looks : ℕ) → TailSettings → Followed → Type 0
 FollowsAs told run looks asked followed = let ends = asked.ends in
-    FollowEndsBy asked.process told.watch told.outputs
-    (asked_so run.calling (is_name followed) (start_of ends) (has_headers ends.headers ends.names) ends.names streams)
-    looks (λ n. waiting (max (pause_by run.calling asked.pause) 1)
+    FollowEndsBy (record { looks = looks; process = asked.process }) told.watch told.outputs
+    (asked_so run.calling (method_of followed) (start_of ends) (has_headers ends.headers ends.names) ends.names streams)
+    (λ n. waiting (max (pause_by run.calling asked.pause) 1)
     (shows_by run.calling (method_of followed) run.shows n)) (remains run.seen run.watched run.outputs) run.status
 
 -- no name was watched and no look made

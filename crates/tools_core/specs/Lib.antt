@@ -5,4 +5,5 @@ pub mod Promises
 pub mod About
 pub mod Following
 pub mod Program
+pub mod inner
 pub mod laws

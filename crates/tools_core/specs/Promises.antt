@@ -3,7 +3,7 @@
 use Rattle.std.specs.{
   Prelude.{◌≡◌, ℕ, ◌+◌, ◌^◌, ◌/◌, ◌%◌, ◌<◌, ◌≤◌, ◌==◌, nat_lt, suc, Bool, true, false, not, List, [], ◌∷◌},
   Prelude.{◌++◌, length, map, take, drop, All, slice_index_or, ◌⊎◌, Option, Some, None, Ok, if◌then◌else◌},
-  List.{concat, flat_map},
+  List.{concat, flat_map, range_with_len},
   declared.cmp.Ordering.TheVariants.Less,
   Ordering.nat_cmp,
   Cmp.Lexicographic.slice_cmp,
@@ -179,6 +179,10 @@ FindAlike asked one other = AllAlike asked (inputs_at one.world (names_read one.
 abbrev pub output_of : Run → List ℕ
 output_of run = (slot_at run.outputs 0).written
 
+-- what the first n of these runs wrote there, one after another
+abbrev pub output_of_all : (ℕ → Run) → (n : ℕ) → List ℕ
+output_of_all runs n = flat_map (λ place. output_of (runs place)) (range_with_len 0 n)
+
 -- these options, and this count in place of theirs
 abbrev pub counted : EndsAsked → Sign → ℕ → EndsAsked
 counted options sign n = record options { count = record { sign = sign; amount = n } }
@@ -239,6 +243,10 @@ AreInOrder (name ∷ next ∷ names) = (slice_cmp nat_cmp name next ≡ Less) ×
 -- the text at a place; there is an empty one at any other
 abbrev pub text_at : List (List ℕ) → ℕ → List ℕ
 text_at texts place = slice_index_or texts place []
+
+-- what was written to the file at a place
+abbrev pub content_at : Run → ℕ → List ℕ
+content_at run place = text_at (contents_of run) place
 
 -- The file at a place has the name of this place: the prefix, letters or digits, and the ending. The files come in the
 -- order of their names, byte by byte, as a shell's `*` gives them where it sorts so. Each was made anew, and is sound.

@@ -1,10 +1,10 @@
 //! One whole run of `tail` that follows files (POSIX.1-2017, XCU tail, `-f`; names that are followed are GNU's).
-ghost use Rattle.std.specs.Prelude.{◌≡◌, Bool, [], Ok, false, map};
+ghost use Rattle.std.specs.Prelude.{◌≡◌, Bool, [], Ok, false};
 ghost use Rattle.ports_core.specs.Slot.{streams};
 ghost use Rattle.words_core.specs.Words.{HasOperands};
 ghost use Rattle.tools_core.specs.{
   Following.{FollowingEnds, FollowingEndsAt, FollowsAs, method_of, pause_by, start_of},
-  Run.{Run, visible},
+  Run.{OfInputs, visible, whole_run},
 };
 
 use crate::ends::{has_headers, is_plus};
@@ -36,16 +36,9 @@ pub fn run_follow<W: Watch, O: Outs>(
     requires unseen { W.seen watch.old ≡ [] }
     requires unwatched { W.watched watch.old ≡ [] }
     requires outputs { O.slots outs.old ≡ streams }
-    ensures { (told_in : Bool) (rest : Run) → FollowingEnds (visible told_in W.told O.told) (record rest {
-      calling = Calling.Cutters;
-      words = map (λ word. word.now) words.now;
-      fed = false;
-      shows = W.shows watch.old;
-      seen = W.seen watch.new;
-      watched = W.watched watch.new;
-      outputs = O.slots outs.new;
-      status = result;
-    }) looks }
+    ensures { (told_in : Bool) (inputs : OfInputs) → FollowingEnds (visible told_in W.told O.told)
+        (whole_run Calling.Cutters words.now inputs (false, W.shows watch.old, W.seen watch.new, W.watched watch.new)
+        (O.slots outs.new) result) looks }
 {
     match read_words(alloc, words) {
         Ok(settings) => follow_asked(
@@ -78,16 +71,9 @@ pub(crate) fn follow_asked<W: Watch, O: Outs>(
     requires unwatched { W.watched watch.old ≡ [] }
     requires outputs { O.slots outs.old ≡ streams }
     requires operands { HasOperands settings.now }
-    ensures { (told_in : Bool) (rest : Run) → FollowingEndsAt (visible told_in W.told O.told) (record rest {
-      calling = calling;
-      words = map (λ word. word.now) words.now;
-      fed = fed;
-      shows = W.shows watch.old;
-      seen = W.seen watch.new;
-      watched = W.watched watch.new;
-      outputs = O.slots outs.new;
-      status = result;
-    }) looks (Ok settings.now) }
+    ensures { (told_in : Bool) (inputs : OfInputs) → FollowingEndsAt (visible told_in W.told O.told)
+        (whole_run calling words.now inputs (fed, W.shows watch.old, W.seen watch.new, W.watched watch.new)
+        (O.slots outs.new) result) looks (Ok settings.now) }
 {
     match settings {
         Settings::Tail(tail) => match tail.followed_by(calling, fed) {
@@ -111,14 +97,9 @@ fn follow_tail<W: Watch, O: Outs>(
     requires unseen { W.seen watch.old ≡ [] }
     requires unwatched { W.watched watch.old ≡ [] }
     requires outputs { O.slots outs.old ≡ streams }
-    ensures { (told_in : Bool) (rest : Run) → FollowsAs (visible told_in W.told O.told) (record rest {
-      calling = calling;
-      shows = W.shows watch.old;
-      seen = W.seen watch.new;
-      watched = W.watched watch.new;
-      outputs = O.slots outs.new;
-      status = result;
-    }) looks settings.now followed }
+    ensures { (told_in : Bool) (inputs : OfInputs) → FollowsAs (visible told_in W.told O.told)
+        (whole_run calling [] inputs (false, W.shows watch.old, W.seen watch.new, W.watched watch.new)
+        (O.slots outs.new) result) looks settings.now followed }
 {
     watch.wait_at_most(pause_by(calling, settings.pause));
     let limits = Limits {

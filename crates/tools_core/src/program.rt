@@ -1,8 +1,8 @@
 //! The whole program: which of both runs its words ask for.
 ghost use Rattle.std.specs.Prelude.{◌≡◌, ◌≤◌, ◌&&◌, [], false, length, map};
 ghost use Rattle.ports_core.specs.{Slot.streams, Source.{source_at, IsFresh}, Inputs.{AsksAtMost, largest_piece}};
-ghost use Rattle.run_core.specs.{Input.has_dash, Reading.count_after, RunSteps.world_of};
-ghost use Rattle.tools_core.specs.{Outcome.names_read, Program.ProgramEnds, Run.visible};
+ghost use Rattle.run_core.specs.{Input.has_dash, Reading.count_after};
+ghost use Rattle.tools_core.specs.{Outcome.names_read, Program.ProgramEnds, Run.{visible, whole_run}};
 ghost use Rattle.words_core.specs.Words.{asks_input};
 
 use crate::follow::follow_asked;
@@ -27,18 +27,9 @@ pub fn run_words<I: Inputs, W: Watch, O: Outs>(
     requires unseen { W.seen watch.old ≡ [] }
     requires unwatched { W.watched watch.old ≡ [] }
     requires outputs { O.slots outs.old ≡ streams }
-    ensures ends { ProgramEnds (visible I.told W.told O.told) (record {
-      calling = calling;
-      words = map (λ word. word.now) words.now;
-      world = world_of (I.laid inputs.old) (I.sources inputs.old);
-      fed = W.fed watch.old;
-      shows = W.shows watch.old;
-      inputs = I.sources inputs.new;
-      seen = W.seen watch.new;
-      watched = W.watched watch.new;
-      outputs = O.slots outs.new;
-      status = result;
-    }) }
+    ensures ends { ProgramEnds (visible I.told W.told O.told) (whole_run calling words.now
+        (I.laid inputs.old, I.sources inputs.old, I.sources inputs.new)
+        (W.fed watch.old, W.shows watch.old, W.seen watch.new, W.watched watch.new) (O.slots outs.new) result) }
     ensures opened { length (I.sources inputs.new) ≤ count_after 1
         (names_read calling (map (λ word. word.now) words.now)) }
     ensures asked { AsksAtMost largest_piece (I.sources inputs.new) }

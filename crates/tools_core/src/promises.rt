@@ -4,7 +4,7 @@
 //! `program_makes_these_runs` says of which runs of the program they speak.
 ghost use Rattle.std.specs.{
   Prelude.{◌≡◌, ◌<◌, ◌^◌, ◌⊎◌, ◌+◌, ◌*◌, ◌++◌, ◌∷◌, [], ℕ, List, Ok, true, false, length, map, if◌then◌else◌},
-  List.{flat_map, range_with_len},
+  List.range_with_len,
 };
 ghost use Rattle.follow_core.specs.Run.{AreKept, name_text};
 ghost use Rattle.ports_core.specs.Slot.{slot_at};
@@ -28,7 +28,8 @@ ghost use Rattle.tools_core.specs.{
   Promises.{AreUncut, BeginsEach, Completes, CountAlike, Does, AsksToFollow, EndsWithBreak, FindAlike},
   Promises.{Follows, FollowsOne, HasInput, HasLong, IsBare, IsChunkAsShown, IsCutAsShown, IsHead, IsOfProgram},
   Promises.{IsSilent, IsStopped, IsTold, IsTail, SaysWhy, LeaveAlike, IsGrowing, Ran, SkipNothing, Splits, SplitsOther},
-  Promises.{contents_of, files_of, lines_telling, held, makes_files, output_of, tail_part, text_at, versions_of},
+  Promises.{content_at, contents_of, files_of, lines_telling, held, makes_files, output_of, output_of_all, tail_part},
+  Promises.{text_at, versions_of},
   Run.{IsUnread, Run},
 };
 ghost use Rattle.words_core.specs.{
@@ -155,16 +156,16 @@ pub fn split_loses_nothing()
         → makes_files asked.way ≡ false → files_of one ≡ [] }
     ensures chunk { (one : Run) (asked : SplitAsked) (place : ℕ) (chunks : Chunks) (input : List ℕ)
         → Splits one asked (way.Chunk place chunks) input → output_of one ≡ text_at (chunks_in chunks input) place }
-    ensures turn { (one split : Run) (alone asked : SplitAsked) (place n delim : ℕ) (input : List ℕ)
-        → Splits one alone (way.Turn place n delim) input → Splits split asked (Cut (Round n delim)) input
-        → asked.elide ≡ false → output_of one ≡ text_at (contents_of split) place }
+    ensures turn { (one all : Run) (alone asked : SplitAsked) (place n delim : ℕ) (input : List ℕ)
+        → Splits one alone (way.Turn place n delim) input → Splits all asked (Cut (Round n delim)) input
+        → asked.elide ≡ false → output_of one ≡ content_at all place }
     ensures turn_lines { (one : Run) (asked : SplitAsked) (place n delim k : ℕ) (input : List ℕ)
         → Splits one asked (way.Turn place n delim) input
         → text_at (lines_of delim (output_of one)) k ≡ text_at (lines_of delim input) (place + k * n) }
     ensures together { (runs : ℕ → Run) (asked : ℕ → SplitAsked) (chunks : Chunks) (input : List ℕ)
         → 0 < chunks.count
         → AllSplit runs asked chunks.count (λ place. way.Chunk place chunks) input
-        → flat_map (λ place. output_of (runs place)) (range_with_len 0 chunks.count) ≡ input }
+        → output_of_all runs chunks.count ≡ input }
     ensures turns { (runs : ℕ → Run) (asked : ℕ → SplitAsked) (n delim : ℕ) (input : List ℕ) → 0 < n
         → AllSplit runs asked n (λ place. way.Turn place n delim) input
         → AreDealt delim n false input (map (λ place. output_of (runs place)) (range_with_len 0 n)) }

@@ -1,16 +1,18 @@
 //! One whole run: from words and inputs to outputs and a status.
-ghost use Rattle.std.specs.Prelude.{◌≡◌, ◌≤◌, Bool, [], false, length, map, IfOk};
+ghost use Rattle.std.specs.Prelude.{◌≡◌, ◌≤◌, ℕ, Bool, List, [], false, length, map, IfOk};
+ghost use denote.Ref.{Bor};
 ghost use Rattle.ports_core.specs.{
   Slot.streams,
   Source.{source_at, IsFresh},
   Inputs.{AsksAtMost, largest_piece},
   Text.{line_of, refusal_of},
 };
-ghost use Rattle.run_core.specs.{Input.has_dash, Reading.count_after, RunEnds.RunsOver, RunSteps.world_of};
+ghost use Rattle.run_core.specs.{Input.has_dash, Reading.count_after};
 ghost use Rattle.tools_core.specs.{
-  Outcome.{DoesAsked, RefusesFor, RunEnds, names_read, refuser, speaker},
-  Run.{Run, visible},
+  Outcome.{RefusesFor, RunEnds, names_read, refuser, speaker},
+  Run.{OfWatch, visible, whole_run},
   Tasks.{by, names_of},
+  inner.Asked.RunsAsked,
 };
 ghost use Rattle.words_core.specs.{Refusal.{detail_of, word_at}, Words.CanRun};
 
@@ -37,14 +39,9 @@ use words_core::{Settings, detail_of, find_tool, read_words};
 pub fn run<I: Inputs, O: Outs>(alloc: Global, words: &[&str], inputs: &mut I, outs: &mut O) -> u8
     requires inputs { IsFresh (I.sources inputs.old) }
     requires outputs { O.slots outs.old ≡ streams }
-    ensures ends { (told_watched : Bool) (rest : Run) → RunEnds (visible I.told told_watched O.told) (record rest {
-      calling = Calling.Cutters;
-      words = map (λ word. word.now) words.now;
-      world = world_of (I.laid inputs.old) (I.sources inputs.old);
-      inputs = I.sources inputs.new;
-      outputs = O.slots outs.new;
-      status = result;
-    }) }
+    ensures ends { (told_watched : Bool) (watch : OfWatch) → RunEnds (visible I.told told_watched O.told)
+        (whole_run Calling.Cutters words.now (I.laid inputs.old, I.sources inputs.old, I.sources inputs.new) watch
+        (O.slots outs.new) result) }
     ensures opened { length (I.sources inputs.new) ≤ count_after 1
         (names_read Calling.Cutters (map (λ word. word.now) words.now)) }
     ensures asked { AsksAtMost largest_piece (I.sources inputs.new) }
@@ -113,14 +110,9 @@ pub(crate) fn run_tool<I: Inputs, O: Outs>(
     requires inputs { IsFresh (I.sources inputs.old) }
     requires outputs { O.slots outs.old ≡ streams }
     requires can { CanRun settings.now }
-    ensures ends { (told_watched : Bool) (rest : Run)
-        → RunsOver I.told (world_of (I.laid inputs.old) (I.sources inputs.old)) (names_of settings.now)
-        (λ found. DoesAsked (visible I.told told_watched O.told) (record rest {
-          calling = calling;
-          inputs = I.sources inputs.new;
-          outputs = O.slots outs.new;
-          status = result;
-        }) found settings.now) }
+    ensures ends { (told : Bool) (words : List (Bor (List ℕ))) (watch : OfWatch)
+        → RunsAsked (visible I.told told O.told) (whole_run calling words
+        (I.laid inputs.old, I.sources inputs.old, I.sources inputs.new) watch (O.slots outs.new) result) settings.now }
     ensures opened { length (I.sources inputs.new) ≤ count_after 1 (names_of settings.now) }
     ensures asked { AsksAtMost largest_piece (I.sources inputs.new) }
     ensures untouched { has_dash (names_of settings.now) ≡ false

@@ -3,7 +3,7 @@ use Rattle.std.specs.Prelude.{◌≡◌, ℕ, ◌+◌, ◌-◌, ◌^◌, max, na
 use Rattle.std.specs.Prelude.{length, ◌⊎◌}
 use Rattle.seg_core.specs.declared.unit.Unit.{Unit as Counted, TheVariants.{Lines, Bytes}}
 use Rattle.ends_core.specs.{
-  declared.ends.Ends.{Ends, TheVariants.{First, ButLast, FromNth, Last, Between}},
+  declared.{front.Front.Front, ends.Ends.{Ends, TheVariants.{First, ButLast, FromNth, Last, Between}}},
   Ends.{first_of, after_of, last_of, but_last_of, measure},
   Kept.{held_of, most_of, delim_of as kept_delim, unit_of as kept_unit},
   Shown.bytes_between,
@@ -32,11 +32,13 @@ WritesNothing (Between span) x = (length x ≤ span.from) × ((x ≡ []) ⊎ (le
 WritesNothing (FromNth count front) x = after_of front.delim front.unit front.left x ≡ []
 WritesNothing ends x = x ≡ []
 
+-- the first lines or bytes once these bytes came in: fewer are still to come
+abbrev pub front_after : Front → List ℕ → Front
+front_after front x = record front { left = front.left - measure front.delim front.unit x }
+
 -- the stage after these bytes, if they write nothing
 abbrev pub passed : Ends → List ℕ → Ends
-passed (FromNth count front) x = FromNth count (record front {
-  left = front.left - measure front.delim front.unit x;
-})
+passed (FromNth count front) x = FromNth count (front_after front x)
 passed (Between span) x = Between (record span { came = span.came + length x })
 passed ends x = ends
 

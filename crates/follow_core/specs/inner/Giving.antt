@@ -5,14 +5,14 @@ use Rattle.std.specs.{
   Prelude.{◌++◌, if◌then◌else◌, IfOk, is_some},
 }
 use Rattle.ports_core.specs.{declared.{reason.Reason.Reason, fault.Fault.Fault}, Slot.{Slot, changed_at, slot_at}}
-use Rattle.watch_core.specs.{Snapshot.Snapshot, Watched.{NameBreaks, Watched, opens, watched_at}}
+use Rattle.watch_core.specs.{Snapshot.{Snapshot, latest}, Watched.{NameBreaks, Watched, opens, watched_at}}
 use Rattle.follow_core.specs.{
   declared.visitor.Stop.{Stop, TheVariants.{Broke, Over}},
   Event.{Begins, Event, bytes_in, remarks_in},
   Followed.{last_with, text_with},
-  Look.{Fate, call_of, sound, unmeasured, unsought, unread},
+  Look.{Fate, broken_by, sound, unmeasured, unsought, unread},
   Printing.PrinterState,
-  Reading.{Caught, First, IsLong, LedTo, ReadOn},
+  Reading.{Caught, First, IsLong, Later, LedTo, ReadOn},
   Share.{Share, bytes_of, remarks_of},
   Telling.Remark,
   Sharing.{WroteBy, CanPrint, HasError},
@@ -105,15 +105,16 @@ fault_by place fate = if is_read fate then fault.Read place else fault.Open plac
 
 -- a call on the name of this number failed with this fate, and the name broke
 pub record BrokeAt (place : ℕ) (old new : List Watched) (fate : Fate) (why : Fault) : Type 0 where
-  pub broke : is_some (call_of fate) ≡ true
+  pub broke : is_some (broken_by fate) ≡ true
   pub fault_is : why ≡ fault_by place fate
   pub reason : Reason
   pub names : new ≡ changed_at place
-      (λ watched. record watched { opened = None; failed = call_of fate; reason = reason }) old
+      (λ watched. record watched { opened = None; failed = broken_by fate; reason = reason }) old
 
 -- the name of this number broke by a read of its open file, from some place on
-abbrev pub FailsToRead : ℕ → List Watched → List Watched → Type 0
-FailsToRead place old new = (from : ℕ) × NameBreaks (λ file. broken.Read file from) place old new
+abbrev pub FailsToRead : ℕ → List Watched → List Watched → Fault → Type 0
+FailsToRead place old new why = (why ≡ fault.Read place)
+    × ((from : ℕ) × NameBreaks (λ file. broken.Read file from) place old new)
 
 -- the call changed no name; but if a call on the open file failed, this name broke
 abbrev pub Keeps : ℕ → List Watched → List Watched → Fate → Option Stop → Type 0
@@ -134,8 +135,9 @@ pub record Sight : Type 0 where
   pub told : Bool
   pub snapshot : Snapshot
 
-abbrev pub sight : (told_in told : Bool) → Snapshot → Sight
-sight told_in told snapshot = record { told_in = told_in; told = told; snapshot = snapshot }
+-- what the last of these looks sees
+abbrev pub sight : (told_in told : Bool) → List Snapshot → Sight
+sight told_in told seen = record { told_in = told_in; told = told; snapshot = latest seen }
 
 -- the watched names, the printer and the outputs between two calls
 pub record Moment : Type 0 where
@@ -153,7 +155,7 @@ ByStop Is fate (Some (Broke why)) events = Is (Some fate) events
 ByStop Is fate (Some (Over why)) events = (all : List Event) × Is None all × Begins events all
 
 -- the outputs got events of a name
-pub record Gives (told : Bool) (Is : Option Fate → List Event → Type 0) (fate : Fate) (is_opened : Bool)
+pub record Yields (told : Bool) (Is : Option Fate → List Event → Type 0) (fate : Fate) (is_opened : Bool)
     (name : List ℕ) (old new : Moment) (stop : Option Stop) : Type 0 where
   pub events : List Event
   pub given : ByStop Is fate stop events
@@ -168,7 +170,7 @@ pub record Copies (see : Sight) (from place : ℕ) (name : List ℕ) (len : ℕ)
     : Type 0 where
   pub fate : Fate
   pub ends : let known = watched_at old.watched place in
-      Gives see.told (ReadOn see.told_in see.snapshot known.name known.opened from len) fate false name old new stop
+      Yields see.told (ReadOn see.told_in see.snapshot known.name known.opened from len) fate false name old new stop
   pub keeps : Keeps place old.watched new.watched fate stop
 
 -- The first look wrote its part of the open file. Before that it sought where this part begins, if `seeks` says so.
@@ -176,7 +178,7 @@ pub record Starts (see : Sight) (seeks : Bool) (start : List ℕ → List ℕ) (
     (old new : Moment) (stop : Option Stop) : Type 0 where
   pub fate : Fate
   pub ends : let known = watched_at old.watched place in
-      Gives see.told (First see.told_in see.snapshot known.name known.opened seeks start) fate false name old new stop
+      Yields see.told (First see.told_in see.snapshot known.name known.opened seeks start) fate false name old new stop
   pub keeps : Keeps place old.watched new.watched fate stop
 
 -- A call gave what the open file adds to a name. Before the call `position` bytes of it were seen, and after it all.
@@ -184,7 +186,7 @@ pub record Adds (see : Sight) (place : ℕ) (name : List ℕ) (position : ℕ) (
     (result : Result ℕ Stop) : Type 0 where
   pub fate : Fate
   pub ends : let known = watched_at old.watched place in
-      Gives see.told (Caught see.told_in see.snapshot known.name known.opened position) fate false name old new
+      Yields see.told (Caught see.told_in see.snapshot known.name known.opened position) fate false name old new
       (stop_in result)
   pub long : IfOk result (HoldsMany see.told_in see.snapshot (watched_at old.watched place))
   pub keeps : Keeps place old.watched new.watched fate (stop_in result)
@@ -194,10 +196,23 @@ pub record Leads (see : Sight) (by_name : Bool) (place : ℕ) (name : List ℕ) 
     (result : Result ℕ Stop) : Type 0 where
   pub fate : Fate
   pub ends : let known = watched_at old.watched place in
-      Gives see.told (LedTo see.told_in by_name see.snapshot known.name known.opened) fate false name old new
+      Yields see.told (LedTo see.told_in by_name see.snapshot known.name known.opened) fate false name old new
       (stop_in result)
   pub long : HoldsMany see.told_in see.snapshot (watched_at old.watched place) position
       → let now = watched_at new.watched place in IfOk result
       (IsLong see.told_in by_name see.snapshot now.name now.opened)
+  pub follows : Follows see.told_in (open_after_look by_name name (watched_at old.watched place).opened see.snapshot)
+      place old.watched new.watched fate (stop_in result)
+
+-- What a later look at a name gives, without the message about a call that failed. Before the look `position` bytes of
+-- the open file were seen.
+pub record LooksAgain (see : Sight) (by_name : Bool) (place : ℕ) (name : List ℕ) (position : ℕ) (old new : Moment)
+    (result : Result ℕ Stop) : Type 0 where
+  pub fate : Fate
+  pub ends : let known = watched_at old.watched place in
+      Yields see.told (Later see.told_in by_name see.snapshot known.name known.opened position) fate false name old new
+      (stop_in result)
+  pub long : let now = watched_at new.watched place in
+      IfOk result (IsLong see.told_in by_name see.snapshot now.name now.opened)
   pub follows : Follows see.told_in (open_after_look by_name name (watched_at old.watched place).opened see.snapshot)
       place old.watched new.watched fate (stop_in result)

@@ -83,20 +83,29 @@ pub record Visited (see : Sight) (ways : Ways) (looks : List Look) (place : ℕ)
       → Stands see.told_in ways (looks ++ record { snapshot = see.snapshot; visits = visits } ∷ []) place now.text
       (watched_at new.watched place) now.standing
 
+-- the name stands so before a look, after these looks
+abbrev pub StandsBefore : Sight → Ways → List Look → ℕ → NameState → Moment → Type 0
+StandsBefore see ways looks place one old =
+    Stands see.told_in ways looks place one.text (watched_at old.watched place) one.standing
+
 -- What a look leaves at one name, by how the name stood, whatever looks were made before. The outputs have what the
 -- look gives for the name; or the look was stopped. If it wasn't, the name can be looked at again, or is looked at no
 -- more.
-pub record Visits (see : Sight) (ways : Ways) (place : ℕ) (one : NameState) (old : Moment) (standing : Standing)
+pub record VisitsBy (see : Sight) (ways : Ways) (place : ℕ) (one : NameState) (old : Moment) (standing : Standing)
     (new : Moment) (result : Result Bool Fault) : Type 0 where
-  pub visited : IfOk result (λ failed. (looks : List Look)
-      → Stands see.told_in ways looks place one.text (watched_at old.watched place) one.standing
+  pub visited : IfOk result (λ failed. (looks : List Look) → StandsBefore see ways looks place one old
       → Visited see ways looks place (record one { standing = standing }) old new failed)
-  pub stopped : IfErr result (λ why. (looks : List Look)
-      → Stands see.told_in ways looks place one.text (watched_at old.watched place) one.standing
+  pub stopped : IfErr result (λ why. (looks : List Look) → StandsBefore see ways looks place one old
       → (is_dropped place looks ≡ false) × Stopped see ways looks one.text old new why)
   pub ready : OnOk result (CanVisit (record one { standing = standing }) (watched_at new.watched place))
   pub others : OnOk result (KeepsOthers place old.watched new.watched)
   pub halts : IfErr result (λ why. Opened place old.watched new.watched)
+
+-- the same, whatever number the first name has
+abbrev pub Visits : Sight → (ℕ → Ways) → (place : ℕ) → NameState → (old : Moment) → Standing → (new : Moment)
+    → Result Bool Fault → Type 0
+Visits see ways place one old standing new result =
+    (first : ℕ) → VisitsBy see (ways first) place one old standing new result
 
 -- The outputs have what the look gives for the names before this place, whatever visits the other names have. The names
 -- before this place stand as after that look, and the others as before it.

@@ -20,7 +20,7 @@ use Rattle.run_core.specs.{
   declared.{feeding.Fed.Fed, inputs.RunProgress.RunProgress},
   Feeding.{FedAs, IsCall, StoppedStep, is_stop},
   Input.{Input, IsFor, World, is_dash, input_of, next_slot},
-  Reading.{AreUntouched, IsDone, Leaves, reason_of},
+  Reading.{AreUntouched, IsDone, LeavesAt, reason_of},
   RunEnds.{AllDone, RunStep, SaysFrom, StoppedAt},
   RunSteps.{IsShown, world_of},
   Task.{Task, made_by, after_part, is_missing, of_input},
@@ -80,11 +80,11 @@ FedSource told_in told task most source old new result =
     × OfSource told_in source old.sources (λ content.
     FedAs told old.slots (task.work shown) content
     (λ call. IsCall (task.work shown) (task.opening shown) most content call
-    × Leaves told_in content source new.sources call) new.slots result
+    × LeavesAt told_in content source new.sources call) new.slots result
     × (is_stop result ≡ false → IsDone told_in (task.work shown) most source (Some content) new.sources))
 
 -- where a run stands before an input
-pub record Start : Type 0 where
+pub record RunStart : Type 0 where
   -- whether no header was written yet, whether a fault was met, and whether standard input was read
   pub progress : RunProgress
   pub sources : List Source
@@ -97,7 +97,8 @@ pub record Start : Type 0 where
   -- how many outputs there are; the files after these may be removed
   pub count : ℕ
 
-abbrev pub start_at : {told : Bool} {slots : List Slot} → HasStreams told slots → RunProgress → ℕ → List Source → Start
+abbrev pub start_at : {told : Bool} {slots : List Slot} → HasStreams told slots → RunProgress → ℕ → List Source
+    → RunStart
 start_at {told} {slots} had progress most sources = record {
   progress = progress;
   sources = sources;
@@ -116,7 +117,7 @@ progress_past task input progress = record progress {
 }
 
 -- one input was done, or a fault stopped the run there
-pub data TookInput (told : Bool) (task : Task) (input : Input) (start : Start) (sources : List Source)
+pub data TookInput (told : Bool) (task : Task) (input : Input) (start : RunStart) (sources : List Source)
     (new : List Slot) : Result RunProgress Fault → Type 0 where
   took : (next : RunProgress) (after : Slot) (reached : List Slot) → next ≡ progress_past task input start.progress
       → IsDone told (task.work input.shown) start.most input.slot input.content sources
@@ -132,14 +133,14 @@ pub data TookInput (told : Bool) (task : Task) (input : Input) (start : Start) (
       → TookInput told task input start sources new (Err fault)
 
 -- the same of the input of this source, which has this name
-abbrev pub TookSource : (told : Bool) → Task → List ℕ → Option ℕ → Start → List Source → List Slot
+abbrev pub TookSource : (told : Bool) → Task → List ℕ → Option ℕ → RunStart → List Source → List Slot
     → Result RunProgress Fault → Type 0
 TookSource told task name source start sources new result =
     (shown : Option (List ℕ)) × IsShown told source start.sources shown × OfSource told source start.sources
     (λ content. TookInput told task (input_from name source shown content) start sources new result)
 
 -- the same of the input for this name
-abbrev pub TookName : (told : Bool) → (ℕ → List ℕ → Option Content) → Task → List ℕ → Start → List Source → List Slot
+abbrev pub TookName : (told : Bool) → (ℕ → List ℕ → Option Content) → Task → List ℕ → RunStart → List Source → List Slot
     → Result RunProgress Fault → Type 0
 TookName told laid task name start sources new result =
     OfName told (world_of laid start.sources) start.progress.was_read (length start.sources) name

@@ -3,4 +3,4 @@ use Rattle.follow_core.proofs.RunLemmas.{failed-append, messages-append, shares_
 use Rattle.follow_core.proofs.laws.one_look_more.Goals as goal
 
 pub returns : goal.returns
-returns c = grind (arith, common_steps, shares_more, text-append, messages-append, failed-append)
+returns c ways headers names looks look = grind (arith, common_steps, shares_more, text-append, messages-append, failed-append)

@@ -6,19 +6,19 @@ use Rattle.follow_core.specs.{
   FollowState.AllReady,
   Standing.texts,
 }
-use Rattle.watch_core.specs.{Snapshot.latest, Watched.watched_at}
+use Rattle.watch_core.specs.Watched.{watched_at}
 use Rattle.follow_core.proofs.name.visit_all.Given as goal
 
 abbrev pub invariant-loop-place : goal.invariant-loop-place
-invariant-loop-place g l = let snapshot = latest (g.W.Watch.seen l.fn.watch) in record {
+invariant-loop-place g l = record {
   within : l.place ≤ length l.names;
   same : texts l.names ≡ texts l.fn.names;
   ready : AllReady l.names l.fn.first (g.W.Watch.watched l.watch);
   visited : (from : ℕ) (looks : List Look)
-      → StandFrom g.W.Watch.told (ways_of from l.fn.by_name l.fn.start) looks l.fn.first l.fn.names
+      → StandFrom g.W.Watch.told (ways_of l.fn.by_name l.fn.start from) looks l.fn.first l.fn.names
       (g.W.Watch.watched l.fn.watch)
-      → VisitedTo (sight g.W.Watch.told g.O.Outs.told snapshot) (ways_of from l.fn.by_name l.fn.start) looks l.place
-      l.names
+      → VisitedTo (sight g.W.Watch.told g.O.Outs.told (g.W.Watch.seen l.fn.watch))
+      (ways_of l.fn.by_name l.fn.start from) looks l.place l.names
       (moment (g.W.Watch.watched l.fn.watch) l.fn.visitor (g.O.Outs.slots l.fn.outs))
       (moment (g.W.Watch.watched l.watch) l.visitor (g.O.Outs.slots l.outs)) l.has_failed;
   count : length (g.W.Watch.watched l.watch) ≡ length (g.W.Watch.watched l.fn.watch);

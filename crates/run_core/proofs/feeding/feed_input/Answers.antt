@@ -12,7 +12,7 @@ use Rattle.ports_core.{
   specs.{Source.{gets_back, Source, source_at}, Work.{Work, IsSettled}, Engine.{EndsWith, is_verdict}},
 }
 use Rattle.run_core.{
-  specs.Feeding.{IsUnread, broke_off, closes, enough, feeds, is_stop, to_end},
+  specs.Feeding.{IsUntaken, broke_off, closes, enough, feeds, is_stop, to_end},
   proofs.FeedingLemmas.{OfVerdict, of_more, of_read, read_to_used, told_by_complete, alike_after, alike_itself},
   proofs.FeedingLemmas.{judges, goes_on, stopped_feeding, ended, needed_more, piece_within, ends_sound},
   proofs.FeedingLemmas.{needed_within, read_used, takes_more, uses_all, uses_judged, uses_part, needed_front},
@@ -89,14 +89,15 @@ returns-in-Err g c =
 pub returns-then-n-eq0 : goal.returns-then-n-eq0
 returns-then-n-eq0 g c =
     let so_far = c.pieces.invariant in
+    let now = g.I.Inputs.sources c.read_part.new.inputs in
     let going = sym (c.done.ensures.complete so_far.fed so_far.feeds.holds) ∙ c.pieces-test.true in
     let can = still_readable _ _ _ _ c.in-Ok.n c.in-Ok.ensures.rest so_far.readable in
     let left = λ (told : g.I.Inputs.told ≡ true).
     read_none_more _ _ _ _ _ _ c.in-Ok.n (so_far.read told) so_far.readable c.if-n-eq0.true c.in-Ok.ensures.rest in
     let nothing = ap (λ k. take k c.read_part.new.buffer) c.if-n-eq0.true in
     let at_end = ended_now _ _ c.in-Ok.n _ _ so_far.readable c.in-Ok.ensures.rest c.if-n-eq0.true c.piece_size-size.ensures.some in
-    let far : g.I.Inputs.told ≡ true → IsUnread (source_at (g.I.Inputs.sources c.args.inputs.now) c.args.slot) →
-    (source_at (g.I.Inputs.sources c.read_part.new.inputs) c.args.slot).reached ≤ length so_far.fed
+    let far : g.I.Inputs.told ≡ true → IsUntaken (source_at (g.I.Inputs.sources c.args.inputs.now) c.args.slot) →
+    (source_at now c.args.slot).reached ≤ length so_far.fed
     = λ told unread. rw (ap (λ more. so_far.fed ++ more) nothing ∙ append-nil so_far.fed) at
     ((takes_more _ (so_far.took told) so_far.readable (c.in-Ok.ensures.bytes told) c.in-Ok.ensures.rest).far unread) in record {
       ends = λ before opening begun.
@@ -105,18 +106,16 @@ returns-then-n-eq0 g c =
           read_to_end _ _ _ _ (so_far.read told) at_end.0 at_end.1 in (all.1, all.0))
           (λ content. came_sound g.I.Inputs.told _ c.args.slot can)
           (λ content is bytes sound came. (
-            ended so_far.feeds g.met.S.Stage.lawful _ begun (sound, going, bytes) (alike_itself) (
+            ended so_far.feeds g.met.S.Stage.lawful _ begun (sound, going, bytes) alike_itself (
               rw (← so_far.feeds.same) (closes so_far.fed (to_end sound bytes) (rw so_far.feeds.same so_far.needed)),
               record {
                 came = came;
-                sound = sound_at (g.I.Inputs.sources c.read_part.new.inputs) c.args.slot
-                    can;
+                sound = sound_at now c.args.slot can;
                 ended = λ _. at_end;
                 joined = λ told. is told ∙ left told;
               },
               λ told unread standard. rw going (omega (arith, far told unread)),
-            )
-                c.end.ensures,
+            ) c.end.ensures,
             λ ends sound going. at_end,
           ));
       others = keeps_again _ _ _ _ so_far.others (keeps_others _ _ _ _ c.in-Ok.ensures.rest);
@@ -139,33 +138,30 @@ returns-then-n-eq0 g c =
 pub pieces-preserved : goal.pieces-preserved
 pieces-preserved g c =
     let so_far = c.pieces.invariant in
+    let piece = take c.in-Ok.n c.read_part.new.buffer in
     let going = sym (c.done.ensures.complete so_far.fed so_far.feeds.holds) ∙ c.pieces-test.true in
     let from_start = ap (λ (work : Work). work.is_complete so_far.fed) (sym so_far.feeds.same) ∙ going in record {
-      fed = so_far.fed ++ take c.in-Ok.n c.read_part.new.buffer;
-      feeds = goes_on so_far.feeds (take c.in-Ok.n c.read_part.new.buffer) c.in-Ok-feed.ensures.passes c.in-Ok-feed.ensures.holds c.in-Ok-feed.ensures.bound;
+      fed = so_far.fed ++ piece;
+      feeds = goes_on so_far.feeds piece c.in-Ok-feed.ensures.passes c.in-Ok-feed.ensures.holds c.in-Ok-feed.ensures.bound;
       readable = still_readable _ _ _ _ c.in-Ok.n c.in-Ok.ensures.rest so_far.readable;
       others = keeps_again _ _ _ _ so_far.others (keeps_others _ _ _ _ c.in-Ok.ensures.rest);
       read = λ told. read_more _ _ _ _ _ _ _ _ _ (so_far.read told) so_far.readable (c.in-Ok.ensures.bytes told) c.in-Ok.ensures.rest;
       took = λ told. takes_more _ (so_far.took told) so_far.readable (c.in-Ok.ensures.bytes told) c.in-Ok.ensures.rest;
-      last = λ told. needed_more so_far.fed c.read_part.new.buffer
-          from_start
-          (omega (
-            arith,
-            ap (λ (source : Source). source.last)
-                (changed_source _ _ _ _ so_far.readable c.in-Ok.ensures.rest),
-            length-take-le c.in-Ok.n _
-                (c.in-Ok.ensures.bytes told).within,
-          ));
+      last = λ told. needed_more so_far.fed c.read_part.new.buffer from_start (omega (
+        arith,
+        ap (λ (source : Source). source.last)
+            (changed_source _ _ _ _ so_far.readable c.in-Ok.ensures.rest),
+        length-take-le c.in-Ok.n _
+            (c.in-Ok.ensures.bytes told).within,
+      ));
       few = λ standard n spare. rw (← so_far.feeds.same)
-          (c.wanted.ensures.few so_far.fed (take c.in-Ok.n c.read_part.new.buffer) c.feed.new.self.stage n so_far.feeds.holds.within
+          (c.wanted.ensures.few so_far.fed piece c.feed.new.self.stage n so_far.feeds.holds.within
           going
           (omega (arith, piece_within c.read_part.new.buffer c.in-Ok.ensures.bound, c.piece_size-size.ensures.few standard))
           c.in-Ok-feed.ensures.passes.same (c.in-Ok-feed.ensures.holds so_far.fed so_far.feeds.holds).within
           (rw so_far.feeds.same spare));
       room = c.read_part.ensures.room ∙ so_far.room;
-      needed = needed_more so_far.fed c.read_part.new.buffer
-          from_start
-          (omega (arith, c.in-Ok.ensures.bound, c.piece_size-size.ensures.within, c.pieces.invariant.room));
+      needed = needed_more so_far.fed c.read_part.new.buffer from_start (omega (arith, c.in-Ok.ensures.bound, c.piece_size-size.ensures.within, c.pieces.invariant.room));
       asked = λ within. asked_again _ _ _ _ _ _ so_far.readable c.in-Ok.ensures.rest (omega arith) (so_far.asked within);
       laid = c.read_part.ensures.kept ∙ so_far.laid;
       ready = c.in-Ok-feed.ensures.passes.ready;
@@ -176,6 +172,8 @@ pieces-preserved g c =
 pub returns-in-Err-feed : goal.returns-in-Err-feed
 returns-in-Err-feed g c =
     let so_far = c.pieces.invariant in
+    let now = g.I.Inputs.sources c.read_part.new.inputs in
+    let piece = take c.in-Ok.n c.read_part.new.buffer in
     let work = g.S.Stage.terms.work c.pieces.engine.stage in
     let going = sym (c.done.ensures.complete so_far.fed so_far.feeds.holds) ∙ c.pieces-test.true in
     let needed = needed_more so_far.fed c.read_part.new.buffer going
@@ -186,45 +184,41 @@ returns-in-Err-feed g c =
     let far = λ (told : g.I.Inputs.told ≡ true).
     (takes_more _ (so_far.took told) so_far.readable (c.in-Ok.ensures.bytes told) c.in-Ok.ensures.rest).far in
     let settles : is_stop (Err c.given_up.result) ≡ false → OfVerdict c.in-Err-feed.fault
-    (IsSettled work (so_far.fed ++ take c.in-Ok.n c.read_part.new.buffer))
+    (IsSettled work (so_far.fed ++ piece))
     = λ ends. let (verdict, is, settled) = judges work.means _
-    (EndsWith g.S.Stage.terms (take c.in-Ok.n c.read_part.new.buffer) c.pieces.engine.stage)
+    (EndsWith g.S.Stage.terms piece c.pieces.engine.stage)
     (ap is_verdict (sym c.given_up.ensures.same) ∙ not-false (is_verdict c.given_up.result) ends) c.in-Err-feed.ensures.passes.met in
     (verdict, is, settled so_far.fed so_far.feeds.holds.within) in record {
       ends = λ before opening begun.
-          let within : length (take c.in-Ok.n c.read_part.new.buffer) ≤ length c.args.buffer.now = piece_within c.read_part.new.buffer
+          let within : length piece ≤ length c.args.buffer.now = piece_within c.read_part.new.buffer
           (omega (arith, c.in-Ok.ensures.bound, c.piece_size-size.ensures.within, so_far.room)) in
-          of_more g.I.Inputs.told _ (so_far.fed ++ take c.in-Ok.n c.read_part.new.buffer) _ _ _ more
+          of_more g.I.Inputs.told _ (so_far.fed ++ piece) _ _ _ more
           (λ content. came_sound g.I.Inputs.told _ c.args.slot can)
           (λ content is rest bytes came. (
             rw c.given_up.ensures.same (stopped_feeding so_far.feeds g.met.S.Stage.lawful c.feed.new.self _
-                (take c.in-Ok.n c.read_part.new.buffer) rest begun bytes (
-                  rw (← so_far.feeds.same) (feeds so_far.fed (take c.in-Ok.n c.read_part.new.buffer) rest bytes within going),
+                piece rest begun bytes (
+                  rw (← so_far.feeds.same) (feeds so_far.fed piece rest bytes within going),
                   record {
                     came = came;
-                    sound = sound_at (g.I.Inputs.sources c.read_part.new.inputs) c.args.slot
-                        can;
+                    sound = sound_at now c.args.slot can;
                     ended = λ ends. absurd (cc);
                     joined = λ told. is told ∙ more told;
                   },
                   λ told unread standard. omega (arith, far told unread),
                 )
                 c.in-Err-feed.ensures.passes c.given_up.ensures.judged c.given_up.ensures.swept),
-            λ ends. rw (← so_far.feeds.same) (told_by_complete content (source_at (g.I.Inputs.sources c.read_part.new.inputs) c.args.slot) rest
+            λ ends. rw (← so_far.feeds.same) (told_by_complete content (source_at now c.args.slot) rest
                 (g.met.S.Stage.lawful _ _ so_far.feeds.holds.within) (settles ends).2.0 bytes),
           ));
       others = keeps_again _ _ _ _ so_far.others (keeps_others _ _ _ _ c.in-Ok.ensures.rest);
       reads = λ told. (
-        so_far.fed ++ take c.in-Ok.n c.read_part.new.buffer,
+        so_far.fed ++ piece,
         rw (← so_far.feeds.same) needed,
         more told,
       );
       used = λ told ends unread.
           rw (← so_far.feeds.same)
-          (uses_judged
-          (more told)
-          needed
-          (settles ends).2 (far told unread));
+          (uses_judged (more told) needed (settles ends).2 (far told unread));
       asked = λ within. asked_again _ _ _ _ _ _ so_far.readable c.in-Ok.ensures.rest (omega arith) (so_far.asked within);
       broke = tt;
       laid = c.read_part.ensures.kept ∙ so_far.laid;
@@ -241,6 +235,7 @@ give_back-requires-clause-within g c told =
 pub returns : goal.returns
 returns g c =
     let so_far = c.pieces.invariant in
+    let now = g.I.Inputs.sources c.give_back.new.self in
     let work = g.S.Stage.terms.work c.pieces.engine.stage in
     let done = sym (c.done.ensures.complete so_far.fed so_far.feeds.holds) ∙ c.pieces-test.false in
     let spare = c.unused-unused.ensures so_far.fed so_far.feeds.holds in
@@ -253,7 +248,7 @@ returns g c =
           let readable = ap (λ (source : Source). source.is_open && not source.is_broken) (changed_source _ (gets_back _) _ _ so_far.readable back)
           ∙ so_far.readable in
           of_more g.I.Inputs.told _ so_far.fed _ _ _ (λ told. (so_far.read told).bytes)
-          (λ content. came_sound g.I.Inputs.told (g.I.Inputs.sources c.give_back.new.self) c.args.slot readable)
+          (λ content. came_sound g.I.Inputs.told now c.args.slot readable)
           (λ content is rest bytes came. (
             ended so_far.feeds g.met.S.Stage.lawful _ begun (done, (rest, bytes))
                 (alike_after spare.rest (g.met.S.Stage.lawful _ _ so_far.feeds.holds.within) used spare.joined) (
@@ -261,13 +256,13 @@ returns g c =
                       (needed_within c.requires.room spare.needed)),
                   record {
                     came = came;
-                    sound = sound_at (g.I.Inputs.sources c.give_back.new.self) c.args.slot readable;
+                    sound = sound_at now c.args.slot readable;
                     ended = λ ends. absurd (false≢true (sym (ap not used) ∙ ends));
                     joined = λ told. is told ∙ read_used spare (so_far.read told) (so_far.took told) so_far.readable back;
                   },
                   λ told unread. rw used (read_to_used spare few (so_far.took told) unread so_far.readable back),
                 ) c.end-2.ensures,
-            λ ends. rw (← so_far.feeds.same) (told_by_complete content (source_at (g.I.Inputs.sources c.give_back.new.self) c.args.slot) rest
+            λ ends. rw (← so_far.feeds.same) (told_by_complete content (source_at now c.args.slot) rest
                 (g.met.S.Stage.lawful _ _ so_far.feeds.holds.within) done bytes),
           ));
       reads = λ told. (

@@ -12,7 +12,7 @@ use Rattle.run_core.proofs.inputs.feed_source.Goals as goal
 pub returns-in_err-engine-clause-fed : goal.returns-in_err-engine-clause-fed
 returns-in_err-engine-clause-fed g c =
     let looked = c.in_err-engine.ensures.looked in
-    let (shown, says, opened, short) = c.in_err-engine.ensures.opens in
+    let (shown, says, (opened, short)) = c.in_err-engine.ensures.opens in
     rw (handed_on _ _ c.from_residual.ensures.1) (
       shown,
       says,
@@ -33,7 +33,7 @@ returns-in_err-engine-clause-fed g c =
 pub returns-in-Some-clause-fed : goal.returns-in-Some-clause-fed
 returns-in-Some-clause-fed g c =
     let looked = c.in_ok-engine.ensures.looked in
-    let (shown, says, had, short) = c.in_ok-engine.ensures.opens in
+    let (shown, says, (had, short)) = c.in_ok-engine.ensures.opens in
     let can = looked_can _ _ _ _ looked c.requires.input in
     let unread = looked_unread _ _ _ _ looked c.requires.unread in (
       shown,
@@ -48,7 +48,7 @@ returns-in-Some-clause-fed g c =
 pub returns-clause-fed : goal.returns-clause-fed
 returns-clause-fed g c =
     let looked = c.in_ok-engine.ensures.looked in
-    let (shown, says, had, short) = c.in_ok-engine.ensures.opens in (
+    let (shown, says, (had, short)) = c.in_ok-engine.ensures.opens in (
       shown,
       says,
       of_looked _ _ _ _ _ _ looked (rw (c.in-None.is, ← had.does) (

@@ -1,21 +1,14 @@
-use Rattle.std.proofs.Common.{false, map}
+use Rattle.std.proofs.Common.{false}
 use Rattle.ports_core.specs.declared.calling.Calling.TheVariants.{Cutters}
-use Rattle.tools_core.{specs.Run.{Run, visible}, proofs.RunLemmas.refused_words}
+use Rattle.tools_core.{specs.Run.{whole_run, visible}, proofs.RunLemmas.refused_words}
 use Rattle.tools_core.proofs.follow.run_follow.Goals as goal
 
 pub returns-in-Ok : goal.returns-in-Ok
-returns-in-Ok g c told rest = rw c.in-Ok.ensures.ok (c.follow_asked.ensures told rest)
+returns-in-Ok g c told inputs = rw c.in-Ok.ensures.ok (c.follow_asked.ensures told inputs)
 
 pub returns-in-Err : goal.returns-in-Err
-returns-in-Err g c told rest =
-    let run : Run = record rest {
-      calling = Cutters;
-      words = map (λ word. word.now) c.args.words.now;
-      fed = false;
-      shows = g.W.Watch.shows c.args.watch.now;
-      seen = g.W.Watch.seen c.args.watch.now;
-      watched = g.W.Watch.watched c.args.watch.now;
-      outputs = g.O.Outs.slots c.refuse_words.new.outs;
-      status = c.refuse_words.result;
-    } in
-    refused_words (visible told _ _) run c.args.looks (c.requires.unseen, c.requires.unwatched) c.in-Err.ensures.err c.refuse_words.ensures
+returns-in-Err g c told inputs =
+    let watch = c.args.watch.now in
+    refused_words (visible told _ _) (whole_run Cutters c.args.words.now inputs
+    (false, g.W.Watch.shows watch, g.W.Watch.seen watch, g.W.Watch.watched watch)
+    (g.O.Outs.slots c.refuse_words.new.outs) c.refuse_words.result) c.args.looks (c.requires.unseen, c.requires.unwatched) c.in-Err.ensures.err c.refuse_words.ensures

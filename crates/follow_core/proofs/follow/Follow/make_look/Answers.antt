@@ -17,7 +17,7 @@ invariant_of-self g c = grind (arith, common_steps)
 pub returns-clause-makes : goal.returns-clause-makes
 returns-clause-makes g c =
     let names = sym (with_items_is c.self.inside.names c.visit_all.new.names (c.visit_all.auto.names ∙ c.deref_mut.ensures.len)) in
-    makes_look c.requires.live c.requires.can (rw c.self.view_is c.in_default.ensures.begins)
+    makes_look c.requires.live c.requires.can (rw c.self.view_is c.in_default.ensures.begins) _
     (c.visit_all.ensures.seen ∙ rw (c.begin.ensures.shows, c.begin.ensures.seen) at c.in_default-turn.ensures.ok)
     (rw (
       c.in_default-turn.ensures.ok,

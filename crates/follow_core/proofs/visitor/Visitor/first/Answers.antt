@@ -1,8 +1,8 @@
-use Rattle.std.proofs.{lemmas.Grind.common_steps, Common.{◌≡◌, ◌∙◌, ap, arith, refl, None, Some, if◌then◌else◌}}
+use Rattle.std.proofs.{lemmas.Grind.common_steps, Common.{◌∙◌, ap, arith, refl, None, Some}}
 use Rattle.watch_core.specs.Snapshot.{latest}
 use Rattle.follow_core.{
   specs.{
-    declared.{name.Standing.TheVariants.{Followed, Left}, visitor.Stop.TheVariants.Over},
+    declared.visitor.Stop.TheVariants.Over,
     Look.sound,
     Reading.not_begun,
   },
@@ -14,13 +14,11 @@ use Rattle.follow_core.proofs.visitor.Visitor.first.Goals as goal
 
 pub returns-then-by_name-clause-visits : goal.returns-then-by_name-clause-visits
 returns-then-by_name-clause-visits g c first =
-    let now : Followed 0 ≡ (if c.args.by_name then Followed 0 else Left) = rw c.if-by_name.true refl in
-    rw now (first_missing c.in-Ok-false.ensures.ok c.in-Ok-false.field-0-test c.requires.name c.requires.watchable c.say_failure.ensures)
+    first_missing (rw c.if-by_name.true refl) c.in-Ok-false.ensures.ok c.in-Ok-false.field-0-test c.requires.name c.requires.watchable c.say_failure.ensures
 
 pub returns-else-by_name-clause-visits : goal.returns-else-by_name-clause-visits
 returns-else-by_name-clause-visits g c first =
-    let now : Left ≡ (if c.args.by_name then Followed 0 else Left) = rw c.if-by_name.false refl in
-    rw now (first_missing c.in-Ok-false.ensures.ok c.in-Ok-false.field-0-test c.requires.name c.requires.watchable c.say_failure.ensures)
+    first_missing (rw c.if-by_name.false refl) c.in-Ok-false.ensures.ok c.in-Ok-false.field-0-test c.requires.name c.requires.watchable c.say_failure.ensures
 
 pub returns-in-Err-clause-visits : goal.returns-in-Err-clause-visits
 returns-in-Err-clause-visits g c first = first_unopened c.requires.name c.requires.watchable c.in-Err.ensures.err.0 c.in-Err.ensures.err.1

@@ -11,8 +11,10 @@ returns-in_err-naming-clause-opens g c =
     let (shown, says, alike) = c.said_by-said.ensures.said in (
       shown,
       says,
-      none_opened _ c.from_residual.result c.from_residual.ensures.0,
-      fault_is _ _ _ c.from_residual.ensures.1 (no_memory refl c.requires.streams c.in_err-naming.ensures.err),
+      (
+        none_opened _ c.from_residual.result c.from_residual.ensures.0,
+        fault_is _ _ _ c.from_residual.ensures.1 (no_memory refl c.requires.streams c.in_err-naming.ensures.err),
+      ),
     )
 
 pub returns-clause-opens : goal.returns-clause-opens
@@ -22,11 +24,13 @@ returns-clause-opens g c =
     c.settings.view_is c.in_ok-naming.ensures.ok c.tells_for-tells.ensures alike in (
       shown,
       says,
-      opened_of _ _ _ _ c.open.result is c.open.ensures.holds c.open.ensures.does c.open.ensures.bound
-          c.open.ensures.ready c.open.ensures.owns
-          (on_ok_weaker c.open.result (λ at. at _ (nothing_out _ _ (some_there _ c.requires.streams))) c.open.ensures.outputs),
-      opened_short _ _ _ c.open.result _ (λ fault. ⊤) is c.requires.streams
-          (λ fault why all. split_halts _ _ _ _ _ _ _ fault why) c.open.ensures.cut c.open.ensures.refused (whatever _ c.open.result (λ fault. tt)),
+      (
+        opened_of _ _ _ _ c.open.result is c.open.ensures.holds c.open.ensures.does c.open.ensures.bound
+            c.open.ensures.ready c.open.ensures.owns
+            (on_ok_weaker c.open.result (λ at. at _ (nothing_out _ _ (some_there _ c.requires.streams))) c.open.ensures.outputs),
+        opened_short _ _ _ c.open.result _ (λ fault. ⊤) is c.requires.streams
+            (λ fault why all. split_halts _ _ _ _ _ _ _ fault why) c.open.ensures.cut c.open.ensures.refused (whatever _ c.open.result (λ fault. tt)),
+      ),
     )
 
 pub returns-clause-looked : goal.returns-clause-looked
