@@ -10,7 +10,7 @@ pub returns-in-Err-clause-visits : goal.returns-in-Err-clause-visits
 returns-in-Err-clause-visits g c first start seeks =
     let again = stopped_looks c.args.by_name c.in-Err.ensures.adds in
     gave_fails again.fate c.in-Err.stop c.requires.name c.requires.watchable again.follows (later_gave again)
-    c.reason.ensures c.stop.ensures.tells
+    c.reason.ensures.broke c.stop.ensures.tells
 
 pub returns-then-not-by_name-clause-visits : goal.returns-then-not-by_name-clause-visits
 returns-then-not-by_name-clause-visits g c first start seeks =
@@ -26,4 +26,4 @@ pub returns-in-Err-follow_name-clause-visits : goal.returns-in-Err-follow_name-c
 returns-in-Err-follow_name-clause-visits g c first start seeks =
     let again = led_looks c.if-not-by_name.false (ap latest c.catch_up.ensures.seen) c.in-Ok.ensures.adds c.in-Err-follow_name.ensures.leads in
     gave_fails again.fate c.in-Err-follow_name.stop c.requires.name c.requires.watchable again.follows
-    (later_gave again) c.reason-in-Err-follow_name.ensures c.stop-in-Err-follow_name.ensures.tells
+    (later_gave again) c.reason-in-Err-follow_name.ensures.broke c.stop-in-Err-follow_name.ensures.tells
