@@ -383,9 +383,11 @@ pub first_missing : {see : Sight} {ways : Ways} {place : ℕ} {name : List ℕ} 
     → now ≡ (if ways.by_name then Followed 0 else Left)
     → Reopens see.told_in see.snapshot old.watched watched place is_there → is_there ≡ false
     → (watched_at old.watched place).name ≡ name → IsTrue (is_watchable old.watched place)
+    → (see.told_in ≡ true → IsTrue (is_watchable watched place)
+    → reason ≡ see.snapshot.missing (watched_at watched place).name)
     → SaysOn see.told (tail_by old.pen.printer.calling) reason (failure_message (Open place) name) old.pen.slots slots
     → VisitsBy see ways place (new_state name) old now (moment watched old.pen.printer slots) (Ok true)
-first_missing {see} {ways} {place} {name} {old} {watched} {slots} {reason = reason} is reopens gone named can says =
+first_missing {see} {ways} {place} {name} {old} {watched} {slots} {reason = reason} is reopens gone named can why says =
     rw is (visits_by _ (opens None) (rw none at reopens.names) can (ready ways.by_name) (λ there looks fresh. rw fresh.0
     (looked_visited _ refl looked (λ visits at. rw there (stands visits at ways.by_name refl))))) where
       none : reopens.file ≡ None
@@ -397,10 +399,16 @@ first_missing {see} {ways} {place} {name} {old} {watched} {slots} {reason = reas
       lost : Saw see.told_in see.snapshot name (opens_as None)
       lost = (rw (none, named) at reopens.opens, λ t. sym (nowhere t))
 
+      left : watched_at watched place ≡ opens None (watched_at old.watched place)
+      left = rw (reopens.names, none) (changed_there no_name place (opens None) old.watched (watchable_within old.watched place can))
+
+      told : see.told_in ≡ true → reason ≡ see.snapshot.missing name
+      told t = why t (rw left can) ∙ ap see.snapshot.missing (ap (λ (w : Watched). w.name) left ∙ named)
+
       looked : Looked see ways [] name old (moment watched old.pen.printer slots) true (record { fate = sound; why = reason })
       looked = record {
         share = missing_share name reason;
-        is_share = λ is visits. grind (arith, common_steps, entries_first);
+        is_share = λ is visits. rw (told is) (grind (arith, common_steps, entries_first));
         found = inr (record { first = refl; kept = refl; nowhere = lost; is = refl });
         failed = refl;
         shared = said_after _ came_none (failure_said false place name says);

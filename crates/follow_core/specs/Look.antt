@@ -36,7 +36,7 @@ broken_by (unread file from) = Some (broken.Read file from)
 -- how a look at one name ended
 pub record Visit : Type 0 where
   pub fate : Fate
-  -- if a call failed, the system's reason for that; if the name is missing at the first look, some reason
+  -- if a call failed, or the name is missing at the first look, the system's reason for that
   pub why : Reason
 
 abbrev pub sound_visit : Visit

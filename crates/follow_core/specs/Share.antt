@@ -153,7 +153,7 @@ is_unopened fate = false
 abbrev pub share_by : Ways → List ℕ → List Look → Look → Visit → Share
 share_by ways name before look visit =
     if not (is_some (failure_of visit)) && is_first before && is_missing (entries_in ways name (before ++ look ∷ []))
-    then missing_share name visit.why
+    then missing_share name (look.snapshot.missing name)
     else record {
       name = name;
       is_opened = not (is_unopened visit.fate) && is_first before;

@@ -7,14 +7,14 @@ use Rattle.std.proofs.{
 }
 use Rattle.watch_core.{
   specs.Snapshot.{Snapshot, clinging, first_led, forgiving, insisting, is_nowhere, latest, leads_to, opens_as, or_else, waiting, Finding, Found},
-  specs.Edits.{World, empty_world, held_in, is_one, led_to, seen_in, shown},
+  specs.Edits.{World, empty_world, held_in, is_barred_in, is_one, led_to, seen_in, shown},
   specs.Watched.{Watched, Reopens, file_seen, open_contents, opens, watched_at},
   specs.declared.watch.Seen.Seen,
   proofs.NameLemmas.{latest-last, name_changes, name_there},
 }
-use Rattle.ports_core.specs.declared.reason.Reason.{Reason}
+use Rattle.ports_core.specs.declared.reason.Reason.{Reason, TheVariants.Missing}
 use Rattle.mem_core.specs.{
-  MemWatchState.{MemWatchState, is_fed, world_at, seen_by, seen, shown_by, shown_in, shows},
+  MemWatchState.{MemWatchState, is_fed, missing_in, world_at, seen_by, seen, shown_by, shown_in, shows},
   declared.mem_watch.{Leading.{Leading, TheVariants.{Plain, Forgiving, Clinging, Keeping}}, Manner.Manner},
   inner.Leading.{CanFail, forgiven, led_at},
 }
@@ -60,7 +60,8 @@ SameWorlds new old = (n : ℕ) → world_at new n ≡ world_at old n
 -- each look sees the same of these
 shown_same : (manner : Manner) (new old : List World) (n : ℕ) → SameWorlds new old
     → shown_in manner new n ≡ shown_in manner old n
-shown_same manner new old n same = λ i. let shown = shown_by manner.leading (λ look. same (suc look) i) n in
+shown_same manner new old n same = λ i. let shown = record (shown_by manner.leading (λ look. same (suc look) i) n)
+    { missing = missing_in manner.why (same (suc n) i) } in
     if manner.insists then insisting shown else shown
 
 seen_same : (manner : Manner) (within : ℕ) (new old : List World) (n : ℕ) → SameWorlds new old
@@ -101,23 +102,24 @@ turns_on watch worlds same =
 abbrev look_of : Manner → List World → ℕ → Snapshot
 look_of manner worlds n = record (seen_in (world_at worlds (suc n))) {
   leads = led_at manner.leading worlds (suc n);
+  missing = missing_in manner.why (world_at worlds (suc n));
   barred = (shown_in manner worlds n).barred;
   breaks = (shown_in manner worlds n).breaks;
   insists = manner.insists;
 }
 
 shown_is : (manner : Manner) (worlds : List World) (n : ℕ) → shown_in manner worlds n ≡ look_of manner worlds n
-shown_is manner worlds n = by manner.leading manner.insists where
-  by : (leading : Leading) (insists : Bool) → shown_in (record { leading = leading; insists = insists }) worlds n
-      ≡ look_of (record { leading = leading; insists = insists }) worlds n
-  by Plain false = refl
-  by Plain true = refl
-  by Forgiving false = refl
-  by Forgiving true = refl
-  by Clinging false = refl
-  by Clinging true = refl
-  by Keeping false = refl
-  by Keeping true = refl
+shown_is manner worlds n = by manner.leading manner.insists manner.why where
+  by : (leading : Leading) (insists : Bool) (why : Reason) → shown_in (record { leading = leading; insists = insists; why = why }) worlds n
+      ≡ look_of (record { leading = leading; insists = insists; why = why }) worlds n
+  by Plain false why = refl
+  by Plain true why = refl
+  by Forgiving false why = refl
+  by Forgiving true why = refl
+  by Clinging false why = refl
+  by Clinging true why = refl
+  by Keeping false why = refl
+  by Keeping true why = refl
 
 shown_holds : (manner : Manner) (worlds : List World) (n file : ℕ)
     → (shown_in manner worlds n).holds file ≡ held_in (world_at worlds (suc n)).files file
@@ -180,19 +182,27 @@ latest_leads manner within worlds zero name is = by manner.leading where
 latest_leads manner within worlds (suc n) name is = shown_leads manner worlds n name
     ∙ ap (λ (shown : Snapshot). shown.leads name) (sym (latest-last (seen_by manner within worlds n) _))
 
+latest_missing : (manner : Manner) (within : ℕ) (worlds : List World) (n : ℕ) (name : List ℕ)
+    → world_at worlds 0 ≡ empty_world
+    → missing_in manner.why (world_at worlds n) name ≡ (latest (seen_by manner within worlds n)).missing name
+latest_missing manner within worlds zero name is = ap (λ world. missing_in manner.why world name) is
+latest_missing manner within worlds (suc n) name is =
+    sym (ap (λ (shown : Snapshot). shown.missing name) (shown_is manner worlds n))
+    ∙ ap (λ (shown : Snapshot). shown.missing name) (sym (latest-last (seen_by manner within worlds n) _))
+
 -- where nothing is forgiven, or a missing name fails, a call may have failed
 shown_breaks : (manner : Manner) (worlds : List World) (n : ℕ) (name : List ℕ) → CanFail manner
     → (shown_in manner worlds n).breaks name ≡ true
-shown_breaks manner worlds n name = by manner.leading manner.insists where
-  by : (leading : Leading) (insists : Bool) → CanFail (record { leading = leading; insists = insists })
-      → (shown_in (record { leading = leading; insists = insists }) worlds n).breaks name ≡ true
-  by leading true is = refl
-  by Plain false is = refl
-  by Forgiving false (inl is) = absurd (cc)
-  by Forgiving false (inr is) = absurd (cc)
-  by Clinging false is = refl
-  by Keeping false (inl is) = absurd (cc)
-  by Keeping false (inr is) = absurd (cc)
+shown_breaks manner worlds n name = by manner.leading manner.insists manner.why where
+  by : (leading : Leading) (insists : Bool) (why : Reason) → CanFail (record { leading = leading; insists = insists; why = why })
+      → (shown_in (record { leading = leading; insists = insists; why = why }) worlds n).breaks name ≡ true
+  by leading true why is = refl
+  by Plain false why is = refl
+  by Forgiving false why (inl is) = absurd (cc)
+  by Forgiving false why (inr is) = absurd (cc)
+  by Clinging false why is = refl
+  by Keeping false why (inl is) = absurd (cc)
+  by Keeping false why (inr is) = absurd (cc)
 
 latest_breaks : (manner : Manner) (within : ℕ) (worlds : List World) (n : ℕ) (name : List ℕ) → CanFail manner
     → (latest (seen_by manner within worlds n)).breaks name ≡ true
@@ -213,8 +223,8 @@ forgiven_twice false led = refl
 
 -- from now on all looks show so
 pub shows_now : {watch : MemWatchState} {worlds : List World} {turns : ℕ} {names : List Watched} {manner : Manner}
-    {within : ℕ} {why : Reason} (now : Manner) (change : (ℕ → Snapshot) → ℕ → Snapshot)
-    → record { worlds = worlds; turns = turns; watched = names; manner = manner; within = within; why = why }
+    {within : ℕ} (now : Manner) (change : (ℕ → Snapshot) → ℕ → Snapshot)
+    → record { worlds = worlds; turns = turns; watched = names; manner = manner; within = within }
     ≡ watch
     → ◌≡◌ {A = ℕ → Snapshot} (λ n. waiting within (shown_in now worlds n))
     (change (λ n. waiting within (shown_in manner worlds n)))
@@ -223,37 +233,40 @@ shows_now now change is same = same ∙ ap (λ those. change (shows those)) is
 
 pub forgives_all : (manner : Manner) (within : ℕ) (worlds : List World)
     → ◌≡◌ {A = ℕ → Snapshot}
-    (λ n. waiting within (shown_in (record { leading = forgiven manner.leading; insists = false }) worlds n))
+    (λ n. waiting within
+    (shown_in (record { leading = forgiven manner.leading; insists = false; why = manner.why }) worlds n))
     (λ n. forgiving (waiting within (shown_in manner worlds n)))
-forgives_all manner within worlds = by manner.leading manner.insists where
-  by : (leading : Leading) (insists : Bool)
+forgives_all manner within worlds = by manner.leading manner.insists manner.why where
+  by : (leading : Leading) (insists : Bool) (why : Reason)
       → ◌≡◌ {A = ℕ → Snapshot}
-      (λ n. waiting within (shown_in (record { leading = forgiven leading; insists = false }) worlds n))
-      (λ n. forgiving (waiting within (shown_in (record { leading = leading; insists = insists }) worlds n)))
-  by Plain false = refl
-  by Plain true = refl
-  by Forgiving false = λ i. λ n. waiting within (record (forgiving (seen_in (world_at worlds (suc n)))) {
+      (λ n. waiting within (shown_in (record { leading = forgiven leading; insists = false; why = why }) worlds n))
+      (λ n. forgiving (waiting within (shown_in (record { leading = leading; insists = insists; why = why }) worlds n)))
+  by Plain false why = refl
+  by Plain true why = refl
+  by Forgiving false why = λ i. λ n. waiting within (record (forgiving (seen_in (world_at worlds (suc n)))) {
+    missing = missing_in why (world_at worlds (suc n));
     leads = λ name. forgiven_twice ((seen_in (world_at worlds (suc n))).barred name) ((seen_in (world_at worlds (suc n))).leads name) i;
   })
-  by Forgiving true = λ i. λ n. waiting within (record (forgiving (seen_in (world_at worlds (suc n)))) {
+  by Forgiving true why = λ i. λ n. waiting within (record (forgiving (seen_in (world_at worlds (suc n)))) {
+    missing = missing_in why (world_at worlds (suc n));
     leads = λ name. forgiven_twice ((seen_in (world_at worlds (suc n))).barred name) ((seen_in (world_at worlds (suc n))).leads name) i;
   })
-  by Clinging false = refl
-  by Clinging true = refl
-  by Keeping false = refl
-  by Keeping true = refl
+  by Clinging false why = refl
+  by Clinging true why = refl
+  by Keeping false why = refl
+  by Keeping true why = refl
 
 pub insists_all : (manner : Manner) (within : ℕ) (worlds : List World)
     → ◌≡◌ {A = ℕ → Snapshot}
-    (λ n. waiting within (shown_in (record { leading = manner.leading; insists = true }) worlds n))
+    (λ n. waiting within (shown_in (record { leading = manner.leading; insists = true; why = manner.why }) worlds n))
     (λ n. insisting (waiting within (shown_in manner worlds n)))
-insists_all manner within worlds = by manner.leading manner.insists where
-  by : (leading : Leading) (insists : Bool)
+insists_all manner within worlds = by manner.leading manner.insists manner.why where
+  by : (leading : Leading) (insists : Bool) (why : Reason)
       → ◌≡◌ {A = ℕ → Snapshot}
-      (λ n. waiting within (shown_in (record { leading = leading; insists = true }) worlds n))
-      (λ n. insisting (waiting within (shown_in (record { leading = leading; insists = insists }) worlds n)))
-  by leading false = refl
-  by leading true = refl
+      (λ n. waiting within (shown_in (record { leading = leading; insists = true; why = why }) worlds n))
+      (λ n. insisting (waiting within (shown_in (record { leading = leading; insists = insists; why = why }) worlds n)))
+  by leading false why = refl
+  by leading true why = refl
 
 -- the first of the files to which a name led first is the first
 or_twice : (led later : Option ℕ) → or_else led later ≡ or_else led (or_else led later)
@@ -267,40 +280,46 @@ first_first leads (suc n) = or_twice (first_led leads n) (leads n)
 
 pub clings_all : (manner : Manner) (within : ℕ) (worlds : List World)
     → ◌≡◌ {A = ℕ → Snapshot}
-    (λ n. waiting within (shown_in (record { leading = Clinging; insists = false }) worlds n))
+    (λ n. waiting within (shown_in (record { leading = Clinging; insists = false; why = manner.why }) worlds n))
     (clinging (λ n. waiting within (shown_in manner worlds n)))
-clings_all manner within worlds = by manner.leading manner.insists where
-  by : (leading : Leading) (insists : Bool)
+clings_all manner within worlds = by manner.leading manner.insists manner.why where
+  by : (leading : Leading) (insists : Bool) (why : Reason)
       → ◌≡◌ {A = ℕ → Snapshot}
-      (λ n. waiting within (shown_in (record { leading = Clinging; insists = false }) worlds n))
-      (clinging (λ n. waiting within (shown_in (record { leading = leading; insists = insists }) worlds n)))
-  by Plain false = refl
-  by Plain true = refl
-  by Forgiving false = λ i. λ n. record (waiting within (clinging (λ look. seen_in (world_at worlds (suc look))) n)) {
+      (λ n. waiting within (shown_in (record { leading = Clinging; insists = false; why = why }) worlds n))
+      (clinging (λ n. waiting within (shown_in (record { leading = leading; insists = insists; why = why }) worlds n)))
+  by Plain false why = refl
+  by Plain true why = refl
+  by Forgiving false why = λ i. λ n. record (waiting within (clinging (λ look. seen_in (world_at worlds (suc look))) n)) {
+    missing = missing_in why (world_at worlds (suc n));
     leads = λ name. first_led (λ look. forgiven_twice ((seen_in (world_at worlds (suc look))).barred name)
         ((seen_in (world_at worlds (suc look))).leads name) i) (suc n);
   }
-  by Forgiving true = λ i. λ n. record (waiting within (clinging (λ look. seen_in (world_at worlds (suc look))) n)) {
+  by Forgiving true why = λ i. λ n. record (waiting within (clinging (λ look. seen_in (world_at worlds (suc look))) n)) {
+    missing = missing_in why (world_at worlds (suc n));
     leads = λ name. first_led (λ look. forgiven_twice ((seen_in (world_at worlds (suc look))).barred name)
         ((seen_in (world_at worlds (suc look))).leads name) i) (suc n);
   }
-  by Clinging false = λ i. λ n. record (waiting within (clinging (λ look. seen_in (world_at worlds (suc look))) n)) {
+  by Clinging false why = λ i. λ n. record (waiting within (clinging (λ look. seen_in (world_at worlds (suc look))) n)) {
+    missing = missing_in why (world_at worlds (suc n));
     leads = λ name. first_first (λ look. (forgiving (seen_in (world_at worlds (suc look)))).leads name) (suc n) i;
   }
-  by Clinging true = λ i. λ n. record (waiting within (clinging (λ look. seen_in (world_at worlds (suc look))) n)) {
+  by Clinging true why = λ i. λ n. record (waiting within (clinging (λ look. seen_in (world_at worlds (suc look))) n)) {
+    missing = missing_in why (world_at worlds (suc n));
     leads = λ name. first_first (λ look. (forgiving (seen_in (world_at worlds (suc look)))).leads name) (suc n) i;
   }
-  by Keeping false = λ i. λ n. record (waiting within (clinging (λ look. seen_in (world_at worlds (suc look))) n)) {
+  by Keeping false why = λ i. λ n. record (waiting within (clinging (λ look. seen_in (world_at worlds (suc look))) n)) {
+    missing = missing_in why (world_at worlds (suc n));
     leads = λ name. first_first (λ look. (forgiving (seen_in (world_at worlds (suc look)))).leads name) (suc n) i;
   }
-  by Keeping true = λ i. λ n. record (waiting within (clinging (λ look. seen_in (world_at worlds (suc look))) n)) {
+  by Keeping true why = λ i. λ n. record (waiting within (clinging (λ look. seen_in (world_at worlds (suc look))) n)) {
+    missing = missing_in why (world_at worlds (suc n));
     leads = λ name. first_first (λ look. (forgiving (seen_in (world_at worlds (suc look)))).leads name) (suc n) i;
   }
 
 -- before the first look nothing was seen, in whatever manner
 pub none_seen : {watch : MemWatchState} {worlds : List World} (turns : ℕ) {names : List Watched} {manner : Manner}
-    {within : ℕ} {why : Reason} (now : Manner)
-    → record { worlds = worlds; turns = turns; watched = names; manner = manner; within = within; why = why }
+    {within : ℕ} (now : Manner)
+    → record { worlds = worlds; turns = turns; watched = names; manner = manner; within = within }
     ≡ watch
     → seen watch ≡ [] → seen_by now within worlds turns ≡ seen watch
 none_seen zero now is unseen = sym unseen
@@ -310,8 +329,8 @@ none_seen {watch} {worlds} (suc turns) {manner} {within} now is unseen = absurd
 
 -- what is so of the files of the last turn is so of the last look
 module _ {watch : MemWatchState} {worlds : List World} (turns : ℕ) {names : List Watched}
-    {manner : Manner} {within : ℕ} {why : Reason}
-    (is : record { worlds = worlds; turns = turns; watched = names; manner = manner; within = within; why = why }
+    {manner : Manner} {within : ℕ}
+    (is : record { worlds = worlds; turns = turns; watched = names; manner = manner; within = within }
     ≡ watch) (empty : world_at worlds 0 ≡ empty_world) where
   item_is : (place : ℕ) {item : Watched} → place < length names → item ≡ get_or names place item
       → item ≡ watched_at watch.watched place
@@ -333,6 +352,16 @@ module _ {watch : MemWatchState} {worlds : List World} (turns : ℕ) {names : Li
   led_now place {item} within_names at leads = leads ∙ latest_leads manner within worlds turns item.name empty
       ∙ ap (λ (those : MemWatchState). (latest (seen those)).leads item.name) is
       ∙ ap (λ (those : Watched). (latest (seen watch)).leads those.name) (item_is place within_names at)
+
+  pub missing_now : (place : ℕ) {item : Watched} {why : Reason} {world : World} (is_barred : Bool)
+      → place < length names → item ≡ get_or names place item → world ≡ world_at worlds turns
+      → is_barred ≡ is_barred_in world.bars item.name → why ≡ (if is_barred then manner.why else Missing)
+      → why ≡ (latest (seen watch)).missing (watched_at watch.watched place).name
+  missing_now place {item} is_barred within_names at now barred said = said
+      ∙ ap (λ is. if is then manner.why else Missing) (barred ∙ ap (λ (those : World). is_barred_in those.bars item.name) now)
+      ∙ latest_missing manner within worlds turns item.name empty
+      ∙ ap (λ (those : MemWatchState). (latest (seen those)).missing item.name) is
+      ∙ ap (λ (those : Watched). (latest (seen watch)).missing those.name) (item_is place within_names at)
 
   pub reopens_now : (place : ℕ) {item new : Watched} {file : Option ℕ} {is_there : Bool} → place < length names
       → item ≡ get_or names place item → file ≡ (latest (seen watch)).leads (watched_at watch.watched place).name
@@ -365,8 +394,8 @@ at_last worlds n m some is = by (cases_lt n (length worlds)) where
 
 -- the processes that are gone before the next look
 pub gone_next : {watch : MemWatchState} {worlds : List World} {turns next : ℕ} {names : List Watched} {world : World}
-    {manner : Manner} {within : ℕ} {why : Reason} (process : ℕ) {gone : Bool}
-    → record { worlds = worlds; turns = turns; watched = names; manner = manner; within = within; why = why }
+    {manner : Manner} {within : ℕ} (process : ℕ) {gone : Bool}
+    → record { worlds = worlds; turns = turns; watched = names; manner = manner; within = within }
     ≡ watch → turns < length worlds → next ≡ min (turns + 1) (length worlds - 1)
     → world ≡ world_at worlds next → gone ≡ is_one process world.ended
     → gone ≡ (shows watch (length (seen watch))).lacks process
@@ -378,22 +407,22 @@ gone_next {worlds} {turns} {next} {manner} {within} process is inside at there g
 
 -- standard input is a file where its name leads to one in the files of the first look
 pub fed_now : {watch : MemWatchState} {worlds : List World} {turns first : ℕ} {names : List Watched} {world : World}
-    {manner : Manner} {within : ℕ} {why : Reason} {file : Option ℕ} {fed : Bool}
-    → record { worlds = worlds; turns = turns; watched = names; manner = manner; within = within; why = why }
+    {manner : Manner} {within : ℕ} {file : Option ℕ} {fed : Bool}
+    → record { worlds = worlds; turns = turns; watched = names; manner = manner; within = within }
     ≡ watch → 0 < length worlds → first ≡ min 1 (length worlds - 1) → world ≡ world_at worlds first
     → file ≡ led_to world.links (codes "-") → fed ≡ is_some file → fed ≡ is_fed watch
 fed_now {worlds} {first} is some at there leads fed = fed ∙ ap is_some (leads ∙ ap (λ (those : World). led_to those.links (codes "-"))
     (there ∙ at_last worlds 1 first some at)) ∙ ap is_fed is
 
 pub turned : {watch : MemWatchState} {worlds : List World} (new : List World) (turns : ℕ) {n : ℕ} {names : List Watched}
-    {manner : Manner} {within : ℕ} {why : Reason}
-    → record { worlds = worlds; turns = turns; watched = names; manner = manner; within = within; why = why }
+    {manner : Manner} {within : ℕ}
+    → record { worlds = worlds; turns = turns; watched = names; manner = manner; within = within }
     ≡ watch → SameWorlds new worlds → n ≡ turns + 1
     → seen_by manner within new n ≡ seen watch ++ shows watch (length (seen watch)) ∷ []
-turned {worlds} new turns {n} {names} {manner} {within} {why} is same next =
+turned {worlds} new turns {n} {names} {manner} {within} is same next =
     subst (λ (those : MemWatchState). seen_by manner within new n ≡ seen those ++ shows those (length (seen those)) ∷ []) is
     (ap (seen_by manner within new) next
-    ∙ turns_on (record { worlds = worlds; turns = turns; watched = names; manner = manner; within = within; why = why }) new same)
+    ∙ turns_on (record { worlds = worlds; turns = turns; watched = names; manner = manner; within = within }) new same)
 
 -- if nothing more was planned, the last files are added once more
 pub same_again : (worlds : List World) {new : List World} {world : World} → world ≡ world_at worlds (length worlds)
@@ -401,11 +430,11 @@ pub same_again : (worlds : List World) {new : List World} {world : World} → wo
 same_again worlds last is n = ap (λ those. world_at those n) (is ∙ ap (λ those. worlds ++ those ∷ []) last) ∙ world_again worlds n
 
 pub still_shows : {watch : MemWatchState} (new : MemWatchState) {worlds : List World} (turns : ℕ) {names : List Watched}
-    {manner : Manner} {within : ℕ} {why : Reason} → new.manner ≡ manner → new.within ≡ within
-    → record { worlds = worlds; turns = turns; watched = names; manner = manner; within = within; why = why }
+    {manner : Manner} {within : ℕ} → new.manner ≡ manner → new.within ≡ within
+    → record { worlds = worlds; turns = turns; watched = names; manner = manner; within = within }
     ≡ watch → SameWorlds new.worlds worlds → shows new ≡ shows watch
-still_shows new {worlds} turns {names} {manner} {within} {why} also waits is same = shows_same new
-    (record { worlds = worlds; turns = turns; watched = names; manner = manner; within = within; why = why }) also waits same ∙ ap shows is
+still_shows new {worlds} turns {names} {manner} {within} also waits is same = shows_same new
+    (record { worlds = worlds; turns = turns; watched = names; manner = manner; within = within }) also waits same ∙ ap shows is
 
 -- one more look is planned: the watch is still at a planned look, and begins with no file
 pub holds_more : (worlds : List World) {new : List World} (world : World) (turns n : ℕ) → turns < length worlds

@@ -2,10 +2,10 @@
 use Rattle.std.specs.Prelude.{ℕ, zero, suc, Bool, false, List, [], ◌∷◌, ◌++◌, codes, is_some, length, if◌then◌else◌}
 use Rattle.watch_core.specs.{
   Snapshot.{Snapshot, clinging, forgiving, insisting, waiting},
-  Edits.{Edit, append, bar, truncate, replace, remove, end, World, empty_world, edited_by, led_to, seen_in},
+  Edits.{Edit, append, bar, truncate, replace, remove, end, World, empty_world, edited_by, is_barred_in, led_to, seen_in},
   Watched.Watched,
 }
-use Rattle.ports_core.specs.declared.reason.Reason.{Reason, TheVariants.Other}
+use Rattle.ports_core.specs.declared.reason.Reason.{Reason, TheVariants.{Missing, Other}}
 use Rattle.mem_core.specs.declared.{
   edit.Edit.{Edit as Change},
   mem_watch.{Leading.{Leading, TheVariants.{Plain, Forgiving, Clinging, Keeping}}, Manner.Manner},
@@ -18,12 +18,11 @@ pub record MemWatchState : Type 0 where
   -- how many looks began
   pub turns : ℕ
   pub watched : List Watched
-  -- where names lead that can't be read or led elsewhere before, and whether missing names fail
+  -- where names lead that can't be read or led elsewhere before, whether missing names fail, and for which reason calls
+  -- fail or a name that can't be read is missing
   pub manner : Manner
   -- within how many milliseconds a look begins
   pub within : ℕ
-  -- the reason for which calls fail
-  pub why : Reason
 
 abbrev pub edit_of : Change → Edit
 edit_of (change.Append name bytes) = append name.now bytes.now
@@ -47,9 +46,14 @@ shown_by Forgiving worlds n = forgiving (seen_in (worlds n))
 shown_by Clinging worlds n = clinging (λ look. seen_in (worlds look)) n
 shown_by Keeping worlds n = forgiving (clinging (λ look. seen_in (worlds look)) n)
 
+-- why a name is missing in these files, if one that can't be read is so for this reason
+abbrev pub missing_in : Reason → World → List ℕ → Reason
+missing_in why world name = if is_barred_in world.bars name then why else Missing
+
 abbrev pub shown_in : Manner → List World → ℕ → Snapshot
 shown_in manner worlds n =
-    let shown = shown_by manner.leading (λ look. world_at worlds (suc look)) n in
+    let shown = record (shown_by manner.leading (λ look. world_at worlds (suc look)) n)
+    { missing = missing_in manner.why (world_at worlds (suc n)) } in
     if manner.insists then insisting shown else shown
 
 -- what the first n looks see
@@ -77,7 +81,7 @@ with_look edits watch = record watch {
 
 -- names lead where the files say, and one that leads nowhere is missing
 abbrev pub plain_manner : Manner
-plain_manner = record { leading = Plain; insists = false }
+plain_manner = record { leading = Plain; insists = false; why = Other }
 
 -- no name, no file and no look
 abbrev pub no_looks : MemWatchState
@@ -87,5 +91,4 @@ no_looks = record {
   watched = [];
   manner = plain_manner;
   within = 1000;
-  why = Other;
 }

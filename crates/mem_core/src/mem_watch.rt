@@ -70,6 +70,8 @@ struct Manner {
     leading: Leading,
     /// A call on a name that leads nowhere fails.
     insists: bool,
+    /// Why calls fail that do, and why a name is missing that can't be read.
+    why: Reason,
 }
 
 /// A name that is watched in memory.
@@ -151,8 +153,6 @@ pub struct MemWatch {
     manner: Manner,
     /// Within how many milliseconds a look begins, as it was asked for.
     within: u64,
-    /// Why calls fail that do.
-    why: Reason,
 }
 
 impl Model for MemWatch {
@@ -164,7 +164,6 @@ impl Model for MemWatch {
       watched = w.names.items;
       manner = w.manner;
       within = w.within;
-      why = w.why;
     } };
 
     ghost invariant = { λ w. (w.turns < length w.worlds.items) × (world_at w.worlds.items 0 ≡ empty_world) };
@@ -193,9 +192,9 @@ impl MemWatch {
             manner: Manner {
                 leading: Leading::Plain,
                 insists: false,
+                why: Reason::Other,
             },
             within: 1000,
-            why: Reason::Other,
         })
     }
 
@@ -255,10 +254,10 @@ impl MemWatch {
     fn break_off(&mut self, place: usize, how: Broken)
         requires { IsTrue (is_watchable self.old.watched place) }
         ensures { self.new ≡ record self.old {
-          watched = changed_at place (breaks self.old.why (λ file. how)) self.old.watched;
+          watched = changed_at place (breaks self.old.manner.why (λ file. how)) self.old.watched;
         } }
     {
-        let why = self.why;
+        let why = self.manner.why;
         self.names[place].break_off(how, why);
     }
 
@@ -272,11 +271,11 @@ impl MemWatch {
         self.names[place].break_off(how, why);
     }
 
-    /// Plans why calls on names fail that do.
+    /// Plans why calls on names fail that do, and why a name is missing that can't be read.
     pub fn fail_for(&mut self, why: Reason)
-        ensures { self.new ≡ record self.old { why = why } }
+        ensures { self.new ≡ record self.old { manner = record self.old.manner { why = why } } }
     {
-        self.why = why;
+        self.manner.why = why;
     }
 
     /// Whether a call on an open file fails now, since that was asked for.
@@ -314,7 +313,7 @@ impl MemWatch {
         ensures there { is_some result ≡ false → self.old.manner.insists ≡ true → is_there ≡ true }
     {
         if self.refuses(place) {
-            return Some(self.why);
+            return Some(self.manner.why);
         }
         if self.manner.insists && !is_there {
             return Some(Reason::Missing);
@@ -463,6 +462,7 @@ impl Watch for MemWatch {
         self.manner = Manner {
             leading: self.manner.leading.forgiven(),
             insists: false,
+            why: self.manner.why,
         };
     }
 
@@ -470,6 +470,7 @@ impl Watch for MemWatch {
         self.manner = Manner {
             leading: self.manner.leading,
             insists: true,
+            why: self.manner.why,
         };
     }
 
@@ -477,6 +478,7 @@ impl Watch for MemWatch {
         self.manner = Manner {
             leading: Leading::Clinging,
             insists: false,
+            why: self.manner.why,
         };
     }
 
@@ -515,7 +517,7 @@ impl Watch for MemWatch {
             return name.reason;
         }
         if world_in(&self.worlds, self.turns).is_barred(name.name.as_str()) {
-            return self.why;
+            return self.manner.why;
         }
         Reason::Missing
     }

@@ -5,7 +5,7 @@ use Rattle.std.specs.{
   Prelude.{ℕ, ◌==◌, ◌||◌, Bool, true, false, List, [], ◌∷◌, ◌++◌, length, map, take, Option, Some, None},
   Prelude.{slice_index_or, bytes_eq, if◌then◌else◌},
 }
-use Rattle.ports_core.specs.Slot.{changed_at}
+use Rattle.ports_core.specs.{Slot.changed_at, declared.reason.Reason.TheVariants.Missing}
 use Rattle.watch_core.specs.Snapshot.{Snapshot, forgiving}
 
 pub data Edit : Type 0 where
@@ -84,6 +84,7 @@ is_one process (other ∷ ended) = (process == other) || is_one process ended
 abbrev pub seen_in : World → Snapshot
 seen_in world = record {
   leads = led_to world.links;
+  missing = λ name. Missing;
   holds = held_in world.files;
   finds = λ name finding. true;
   barred = is_barred_in world.bars;

@@ -5,6 +5,7 @@ use Rattle.std.specs.{
   Prelude.{◌≡◌, ℕ, zero, suc, ◌==◌, Bool, true, false, not, ◌&&◌, List, [], ◌∷◌, Option, Some, None, if◌then◌else◌},
   List.list_any,
 }
+use Rattle.ports_core.specs.declared.reason.Reason.{Reason, TheVariants.Missing}
 
 -- what a call on a name finds
 pub data Finding : Type 0 where
@@ -26,6 +27,8 @@ is_nowhere finding = false
 pub record Snapshot : Type 0 where
   -- the file to which a name leads, by its identity
   pub leads : List ℕ → Option ℕ
+  -- why this name can't be opened, if it leads nowhere
+  pub missing : List ℕ → Reason
   -- what a file holds, also if no name leads to it any more
   pub holds : ℕ → List ℕ
   -- Whether a call on this name can find this. Contracts of a watch say so only of what its calls found.
@@ -45,6 +48,7 @@ pub record Snapshot : Type 0 where
 abbrev pub no_files : Snapshot
 no_files = record {
   leads = λ name. None;
+  missing = λ name. Missing;
   holds = λ file. [];
   finds = λ name finding. true;
   barred = λ name. false;

@@ -169,8 +169,10 @@ pub trait Watch {
     /// Why the call failed by which the name broke; of one that didn't break, why the last call failed that was forgiven, or that it leads
     /// nowhere. `Other` where that isn't known.
     fn reason(&self, place: usize) -> Reason
-        ensures { is_some (watched_at (watched self.now) place).failed ≡ true
-            → result ≡ (watched_at (watched self.now) place).reason };
+        ensures broke { is_some (watched_at (watched self.now) place).failed ≡ true
+            → result ≡ (watched_at (watched self.now) place).reason }
+        ensures missing { told ≡ true → IsTrue (is_watchable (watched self.now) place)
+            → result ≡ (latest (seen self.now)).missing (watched_at (watched self.now) place).name };
 
     /// The identity of the open file; none where none is open.
     fn open_id(&self, place: usize) -> Option<u128>

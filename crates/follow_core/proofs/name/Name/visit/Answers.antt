@@ -19,7 +19,7 @@ returns-in-Err-clause-visits g c first =
     let can = rw c.in-Followed.is at (subst (λ one. CanVisit one known) (sym c.self.view_is) c.requires.ready) in
     let text = c.as_str-text-in-Followed.ensures.value in
     rw (← c.self.view_is, c.in-Followed.is, ← text)
-    (looks_short (rw (← text) at can) c.in-Err.ensures.looks c.reason.ensures c.stop.ensures.tells)
+    (looks_short (rw (← text) at can) c.in-Err.ensures.looks c.reason.ensures.broke c.stop.ensures.tells)
 
 pub returns-in-Left-clause-visits : goal.returns-in-Left-clause-visits
 returns-in-Left-clause-visits g c first = rw (← c.self.view_is, c.in-Left.is) (grind (arith, common_steps, left_visited))

@@ -14,15 +14,17 @@ use Rattle.follow_core.proofs.visitor.Visitor.first.Goals as goal
 
 pub returns-then-by_name-clause-visits : goal.returns-then-by_name-clause-visits
 returns-then-by_name-clause-visits g c first =
-    first_missing (rw c.if-by_name.true refl) c.in-Ok-false.ensures.ok c.in-Ok-false.field-0-test c.requires.name c.requires.watchable c.say_failure.ensures
+    first_missing (rw c.if-by_name.true refl) c.in-Ok-false.ensures.ok c.in-Ok-false.field-0-test c.requires.name c.requires.watchable
+    (rw c.reopen.ensures.seen at c.reason.ensures.missing) c.say_failure.ensures
 
 pub returns-else-by_name-clause-visits : goal.returns-else-by_name-clause-visits
 returns-else-by_name-clause-visits g c first =
-    first_missing (rw c.if-by_name.false refl) c.in-Ok-false.ensures.ok c.in-Ok-false.field-0-test c.requires.name c.requires.watchable c.say_failure.ensures
+    first_missing (rw c.if-by_name.false refl) c.in-Ok-false.ensures.ok c.in-Ok-false.field-0-test c.requires.name c.requires.watchable
+    (rw c.reopen.ensures.seen at c.reason.ensures.missing) c.say_failure.ensures
 
 pub returns-in-Err-clause-visits : goal.returns-in-Err-clause-visits
 returns-in-Err-clause-visits g c first = first_unopened c.requires.name c.requires.watchable c.in-Err.ensures.err.0 c.in-Err.ensures.err.1
-    c.in-Err.ensures.breaks c.reason-why.ensures c.stop.ensures.tells
+    c.in-Err.ensures.breaks c.reason-why.ensures.broke c.stop.ensures.tells
 
 pub returns-in-Err-put-clause-visits : goal.returns-in-Err-put-clause-visits
 returns-in-Err-put-clause-visits g c first = gave_fails sound (Over c.in-Err-put.fault) c.requires.name c.requires.watchable
@@ -56,7 +58,7 @@ returns-in-Err-write_start-clause-visits g c first = gave_fails c.in-Err-write_s
     (λ none. absurd (cc)) c.in-Err-write_start.ensures.starts.keeps)
     (first_started c.self.view_is c.in-Ok-true.ensures.ok c.in-Ok-true.field-0-test c.requires.name c.requires.watchable
     (ap latest c.reopen.ensures.seen) (header_only None c.in_default.ensures.puts) c.in-Err-write_start.ensures.starts)
-    c.reason-in-Err-write_start.ensures c.stop-in-Err-write_start.ensures.tells
+    c.reason-in-Err-write_start.ensures.broke c.stop-in-Err-write_start.ensures.tells
 
 pub returns-in-Err-put-clause-can : goal.returns-in-Err-put-clause-can
 returns-in-Err-put-clause-can g c = puts_can (Some c.in-Err-put.fault) c.in-Err-put.ensures.puts c.requires.can

@@ -7,7 +7,7 @@ use Rattle.mem_core.proofs.mem_watch.MemWatch.break_for.Goals as goal
 pub returns : goal.returns
 returns c =
     let names = ap (λ (those : MemWatchState). those.watched) c.self.view_is in
-    ap (λ watched. record { worlds = c.self.inside.worlds.items; turns = c.self.inside.turns; watched = watched; manner = c.self.inside.manner; within = c.self.inside.within; why = c.self.inside.why })
+    ap (λ watched. record { worlds = c.self.inside.worlds.items; turns = c.self.inside.turns; watched = watched; manner = c.self.inside.manner; within = c.self.inside.within })
     (name_changes _ _ c.args.place (breaks c.args.why (λ file. c.args.how)) _ _ names
     (names_within _ _ c.args.place names c.requires) c.index_mut.ensures.value c.break_off.ensures)
     ∙ ap (λ (those : MemWatchState). record those {

@@ -7,8 +7,8 @@ use Rattle.mem_core.{
 use Rattle.mem_core.proofs.mem_watch.MemWatchWatch.cling.Goals as goal
 
 pub returns-clause-shows : goal.returns-clause-shows
-returns-clause-shows c = shows_now (record { leading = Clinging; insists = false })
+returns-clause-shows c = shows_now (record { leading = Clinging; insists = false; why = c.self.inside.manner.why })
     clinging c.self.view_is (clings_all c.self.inside.manner c.self.inside.within c.self.inside.worlds.items)
 
 pub returns-clause-seen : goal.returns-clause-seen
-returns-clause-seen c = none_seen c.self.inside.turns (record { leading = Clinging; insists = false }) c.self.view_is c.requires
+returns-clause-seen c = none_seen c.self.inside.turns (record { leading = Clinging; insists = false; why = c.self.inside.manner.why }) c.self.view_is c.requires

@@ -5,8 +5,8 @@ use Rattle.mem_core.proofs.mem_watch.MemWatchWatch.open_len.Goals as goal
 
 pub returns-then-fails-clause-err : goal.returns-then-fails-clause-err
 returns-then-fails-clause-err c =
-    let broke = broke_so c.fails.new.self.why _ c.args.place Len c.open_id.ensures in
-    (refl, (c.fails.new.self.why, rw (c.break_off.ensures, broke, c.fails.ensures.same) refl))
+    let broke = broke_so c.fails.new.self.manner.why _ c.args.place Len c.open_id.ensures in
+    (refl, (c.fails.new.self.manner.why, rw (c.break_off.ensures, broke, c.fails.ensures.same) refl))
 
 pub returns-clause-found : goal.returns-clause-found
 returns-clause-found c = finds_any c.args.self.now.manner c.args.self.now.within c.args.self.now.worlds c.args.self.now.turns _ _ (λ is. refl)

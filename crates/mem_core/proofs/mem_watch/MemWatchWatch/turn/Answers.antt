@@ -18,5 +18,5 @@ returns-then-keep-clause-ok c =
 
 pub returns-then-keep-clause-shows : goal.returns-then-keep-clause-shows
 returns-then-keep-clause-shows c =
-    still_shows (record { worlds = c.keep.new.worlds.items; turns = c.in-Some.turns; watched = c.self.inside.names.items; manner = c.self.inside.manner; within = c.self.inside.within; why = c.self.inside.why }) c.self.inside.turns refl refl c.self.view_is
+    still_shows (record { worlds = c.keep.new.worlds.items; turns = c.in-Some.turns; watched = c.self.inside.names.items; manner = c.self.inside.manner; within = c.self.inside.within }) c.self.inside.turns refl refl c.self.view_is
     (same_again _ (c.in_ok-world.ensures ∙ ap (λ worlds. world_at worlds (length worlds)) c.deref.ensures.value) (c.if-keep.ensures.kept refl))
