@@ -4,12 +4,13 @@ use Rattle.std.proofs.{
   Common.{refl, ◌∙◌, ap, arith, subst, length, IfOk, IfSome},
   lemmas.{Option.IfSome_then, Result.IfOk-weaker},
 }
-use Rattle.ports_core.specs.Source.{unshown}
+use Rattle.ports_core.specs.Source.{Content, unshown}
 use Rattle.mem_core.specs.MemInState.{shown_by}
 use Rattle.words_core.specs.{Words.settings_of, declared.settings.Settings.Settings}
 use Rattle.tools_core.specs.{
   Outcome.names_at,
-  Promises.{Completes, FindAlike, HasInput, IsSilent, IsStopped, LeaveAlike, Ran, in_full},
+  Promises.{Completes, FindAlike, Gives, HasInput, IsSilent, IsStopped, LeaveAlike, Ran, ShowAlike, in_full},
+  Promises.looks_at_length,
   Tasks.names_of,
 }
 use Rattle.tools_core.specs.Run.{Run}
@@ -28,28 +29,38 @@ pipe_given run asked bytes same read only = record {
   only = ap (λ (meant : Result Settings _). names_at meant) read ∙ only;
   content = unshown bytes;
   holds = ap Some same;
-  gives = λ asked read. in_full refl refl (λ looks. inl refl);
+  gives = λ asked read. in_full refl refl (inl refl);
 }
 
-shown_as : (bytes : List ℕ) → (shown_by bytes ≡ None) ⊎ (shown_by bytes ≡ Some bytes)
-shown_as [] = inl refl
-shown_as (byte ∷ bytes) = inr refl
+-- a text of this length that a file shows is the same to a tool that looks at the length alone, and none matters to none
+pub shown_as : (asked : Settings) (bytes shown : List ℕ) → looks_at_length asked ≡ true → length shown ≡ length bytes
+    → (shown_by shown ≡ None) ⊎ ShowAlike asked (shown_by shown) (Some bytes)
+shown_as asked bytes [] at_length long = inl refl
+shown_as asked bytes (byte ∷ shown) at_length long = inr (λ looks. inr (at_length, ap Some long))
 
 pub shown_some : (text : List ℕ) → 0 < length text → shown_by text ≡ Some text
 shown_some [] some = absurd (omega (arith, some))
 shown_some (byte ∷ text) some = refl
 
--- so does a file that shows them
-pub file_given : (run : Run) (asked : Settings) (bytes : List ℕ)
-    → run.world.laid 1 (codes "f") ≡ Some (record { bytes = bytes; breaks_off = false; shown = shown_by bytes })
-    → settings_of run.calling run.words ≡ Ok asked → names_of asked ≡ codes "f" ∷ [] → HasInput run bytes
-file_given run asked bytes lies read only = record {
+same_asked : {E : Type 0} {one other : Settings} {meant : Result Settings E} → meant ≡ Ok one → meant ≡ Ok other
+    → one ≡ other
+same_asked is is_too = cc
+
+-- so does a file with this content to a run that reads it alone
+pub file_given : (run : Run) (asked : Settings) (content : Content) (bytes : List ℕ)
+    → run.world.laid 1 (codes "f") ≡ Some content → settings_of run.calling run.words ≡ Ok asked
+    → names_of asked ≡ codes "f" ∷ [] → Gives asked content.shown content bytes → HasInput run bytes
+file_given run asked content bytes lies read only gives = record {
   name = codes "f";
   only = ap (λ (meant : Result Settings _). names_at meant) read ∙ only;
-  content = record { bytes = bytes; breaks_off = false; shown = shown_by bytes };
+  content = content;
   holds = lies;
-  gives = λ asked read. in_full refl refl (λ looks. shown_as bytes);
+  gives = λ other read_too. subst (λ those. Gives those content.shown content bytes) (same_asked read read_too) gives;
 }
+
+-- what a file has that shows a text and doesn't break off
+abbrev pub showing : (bytes shown : List ℕ) → Content
+showing bytes shown = record { bytes = bytes; breaks_off = false; shown = shown_by shown }
 
 -- of two values the first for 0, and the second for all other numbers
 abbrev pub one_or : {A : Type 0} → A → A → ℕ → A

@@ -3,32 +3,34 @@
 ghost use Rattle.std.specs.{
   Prelude.{◌≡◌, ◌<◌, ◌^◌, ◌⊎◌, ◌∷◌, ◌++◌, [], ℕ, List, Ok, true, false, length, map, codes, IfOk, IfSome},
 };
-ghost use Rattle.mem_core.specs.MemInState.{with_break};
+ghost use Rattle.mem_core.specs.MemInState.{shown_by, with_break};
 ghost use Rattle.ports_core.specs.{Part.IsBeginning, Slot.{slot_at, streams}, Source.IsFresh};
 ghost use Rattle.run_tests.specs.inner.Calls.{IsCutShort, in_file, in_pipe, run_of};
-ghost use Rattle.seg_core.specs.declared.cut.Chunks.{Chunks};
+ghost use Rattle.seg_core.specs.declared.{count.Sign.TheVariants.{Minus, Plain}, cut.Chunks.{Chunks}};
 ghost use Rattle.tools_core.specs.{
-  Promises.{AreDealt, BeginsEach, Completes, EndsWithBreak, FindAlike, IsCutAsShown, LeaveAlike, Ran, SaysWhy, Splits},
-  Promises.{looks, output_of, takes_shown},
+  Promises.{AreDealt, BeginsEach, Completes, CountAlike, EndsWithBreak, FindAlike, IsChunkAsShown, IsCutAsShown},
+  Promises.{LeaveAlike, Ran, SaysWhy, ShowAlike, Splits, counted, output_of, takes_shown},
   Tasks.names_of,
 };
 ghost use Rattle.words_core.specs.{
+  EndsWords.EndsAsked,
   SplitWords.SplitAsked,
   TeeWords.TeeAsked,
   Words.{HasOperands, follows, settings_of},
-  declared.settings.Settings.{Settings, TheVariants.{Split, Tee}},
+  declared.{settings.Settings.{Settings, TheVariants.{Head, Split, Tail, Tee}}, tail_words.TailSettings.TailSettings},
 };
 ghost use Rattle.seg_core.specs.declared.cut.Way.TheVariants as way;
 ghost use Rattle.tools_core.specs.Run.{Run};
 
 use crate::law_tests::{left_of, left_over, ran, ran_over};
 use mem_core::{MemIn, MemOut};
-use ports_core::{Calling, Fault, Outs};
+use ports_core::{Calling, Fault, Outs, Reason};
 use std::alloc::Global;
 use std::process::Abort;
 use std::test::Fail;
 use tools_core::{
-    cutting_changes_nothing, faults_leave_a_beginning, split_loses_nothing, tee_copies,
+    cutting_changes_nothing, faults_leave_a_beginning, head_and_tail_meet, split_loses_nothing,
+    tee_copies,
 };
 
 /// An empty standard input, and a file `f` with these bytes, which shows that text before it is read.
@@ -41,45 +43,49 @@ fn file_input(alloc: Global, bytes: &[u8], shown: &[u8]) -> Result<MemIn, Fault>
     Ok(inputs)
 }
 
-/// What a `split` of `f` leaves, which shows its bytes, if it goes well.
+/// What a `split` of `f` leaves, which shows as many bytes as it has, if it goes well.
 fn split_of(
     alloc: Global,
     calling: Calling,
     words: &[&str],
     bytes: &[u8],
+    shown: &[u8],
 ) -> Result<Option<MemOut>, Fault>
     ensures { (asked : SplitAsked) → settings_of calling (map (λ word. word.now) words.now) ≡ Ok (Split asked)
-        → asked.input ≡ codes "f"
+        → asked.input ≡ codes "f" → length shown.now ≡ length bytes.now
         → IfOk result
         (λ left. IfSome left
         (λ outs. (rest : Run) × Splits
-        (run_of calling (map (λ word. word.now) words.now) (in_file bytes.now bytes.now) rest outs 0) asked asked.way
+        (run_of calling (map (λ word. word.now) words.now) (in_file bytes.now shown.now) rest outs 0) asked asked.way
         bytes.now)) }
 {
-    let mut inputs = file_input(alloc, bytes, bytes)?;
+    let mut inputs = file_input(alloc, bytes, shown)?;
     left_over(alloc, calling, words, &mut inputs)
 }
 
-/// What two runs write of `f`, each of them one half, if both go well: joined it is all that `f` has.
+/// What two runs write of `f`, each of them one half, if both go well: joined it is all that `f` has, whatever bytes it showed, if these
+/// were as many.
 fn halves(
     alloc: Global,
     calling: Calling,
     first: &[&str],
     second: &[&str],
     bytes: &[u8],
+    shown: &[u8],
 ) -> Result<Option<Vec<u8>>, Fault>
     ensures { (one other : SplitAsked) (chunks : Chunks) → chunks.count ≡ 2
         → settings_of calling (map (λ word. word.now) first.now) ≡ Ok (Split one)
         → settings_of calling (map (λ word. word.now) second.now) ≡ Ok (Split other)
         → one.input ≡ codes "f" → other.input ≡ codes "f"
         → one.way ≡ way.Chunk 0 chunks → other.way ≡ way.Chunk 1 chunks
+        → length shown.now ≡ length bytes.now
         → IfOk result (λ both. IfSome both (λ all. all.items ≡ bytes.now)) }
 {
     split_loses_nothing();
-    let Some(front) = split_of(alloc, calling, first, bytes)? else {
+    let Some(front) = split_of(alloc, calling, first, bytes, shown)? else {
         return Ok(None);
     };
-    let Some(back) = split_of(alloc, calling, second, bytes)? else {
+    let Some(back) = split_of(alloc, calling, second, bytes, shown)? else {
         return Ok(None);
     };
     let mut all = Vec::from_slice(alloc, front.bytes(0))?;
@@ -87,8 +93,8 @@ fn halves(
     Ok(Some(all))
 }
 
-/// What `split -n K/N` leaves of `f`, which shows a text, gives it first, and then more, if that goes well: it writes the
-/// same as any run that goes well and gets this text alone.
+/// What `split -n K/N` leaves of `f`, which gives as many bytes as it showed, and then more, if that goes well: it writes the same as any run
+/// that goes well and gets these first bytes alone.
 fn chunk_of_grown(
     alloc: Global,
     calling: Calling,
@@ -96,18 +102,50 @@ fn chunk_of_grown(
     bytes: &[u8],
     shown: &[u8],
 ) -> Result<Option<MemOut>, Fault>
-    ensures { (asked : SplitAsked) (place : ℕ) (chunks : Chunks) (more : List ℕ)
+    ensures { (asked : SplitAsked) (place : ℕ) (chunks : Chunks) (first more : List ℕ)
         → settings_of calling (map (λ word. word.now) words.now) ≡ Ok (Split asked)
         → asked.input ≡ codes "f" → asked.way ≡ way.Chunk place chunks → takes_shown (Split asked) ≡ true
-        → 0 < length shown.now → bytes.now ≡ shown.now ++ more
+        → 0 < length first → length shown.now ≡ length first → bytes.now ≡ first ++ more
         → IfOk result
         (λ left. IfSome left
-        (λ outs. (other : Run) (same : SplitAsked) → Splits other same (way.Chunk place chunks) shown.now
+        (λ outs. (other : Run) (same : SplitAsked) → Splits other same (way.Chunk place chunks) first
         → (slot_at outs 0).written ≡ output_of other)) }
 {
     split_loses_nothing();
     let mut inputs = file_input(alloc, bytes, shown)?;
     left_over(alloc, calling, words, &mut inputs)
+}
+
+/// What `head` writes of `f` but for its last lines or bytes, and then `tail`, which writes these, if both go well. Joined it is the text
+/// that `f` showed, if it gives this first, and then perhaps more.
+fn parted(
+    alloc: Global,
+    calling: Calling,
+    head: &[&str],
+    tail: &[&str],
+    bytes: &[u8],
+    shown: &[u8],
+) -> Result<Option<Vec<u8>>, Fault>
+    ensures { (first rest : EndsAsked) (asked : TailSettings) (n : ℕ) (more : List ℕ)
+        → settings_of calling (map (λ word. word.now) head.now) ≡ Ok (Head (counted first Minus n))
+        → settings_of calling (map (λ word. word.now) tail.now) ≡ Ok (Tail asked)
+        → asked.ends ≡ counted rest Plain n → follows calling false (Tail asked) ≡ false → CountAlike first rest
+        → first.names ≡ codes "f" ∷ [] → rest.names ≡ codes "f" ∷ []
+        → 0 < length shown.now → bytes.now ≡ shown.now ++ more
+        → IfOk result (λ both. IfSome both (λ all. all.items ≡ shown.now)) }
+{
+    head_and_tail_meet();
+    let mut inputs = file_input(alloc, bytes, shown)?;
+    let Some(front) = left_over(alloc, calling, head, &mut inputs)? else {
+        return Ok(None);
+    };
+    let mut again = file_input(alloc, bytes, shown)?;
+    let Some(back) = left_over(alloc, calling, tail, &mut again)? else {
+        return Ok(None);
+    };
+    let mut all = Vec::from_slice(alloc, front.bytes(0))?;
+    all.extend_from_slice(back.bytes(0))?;
+    Ok(Some(all))
 }
 
 /// What two runs write of standard input, each of them the lines of one file of two, if both go well: each line is in one of them, in turn.
@@ -184,18 +222,20 @@ fn ran_broken(
     ran(alloc, calling, words, &mut inputs, outs)
 }
 
-/// What the words leave of `f`, which breaks off, if it shows a text, and if it shows nothing: the same, if the tool
-/// doesn't look at that, unless a fault stopped one of both runs.
+/// What the words leave of `f`, which breaks off, if it shows one text, and if it shows the other: the same, as far as the tool doesn't
+/// look at that, unless a fault stopped one of both runs.
 fn left_broken(
     alloc: Global,
     calling: Calling,
     words: &[&str],
     bytes: &[u8],
     shown: &[u8],
+    instead: &[u8],
     at: usize,
 ) -> Result<(MemOut, MemOut), Fault>
     ensures { (asked : Settings) → settings_of calling (map (λ word. word.now) words.now) ≡ Ok asked
-        → follows calling false asked ≡ false → looks asked ≡ false → names_of asked ≡ codes "f" ∷ []
+        → follows calling false asked ≡ false → names_of asked ≡ codes "f" ∷ []
+        → ShowAlike asked (shown_by shown.now) (shown_by instead.now)
         → IfOk result
         (λ left. (one other : Run) × (one.outputs ≡ left.0) × (other.outputs ≡ left.1)
         × (LeaveAlike asked one other ⊎ IsCutShort one asked ⊎ IsCutShort other asked)) }
@@ -204,12 +244,13 @@ fn left_broken(
     let mut one = MemOut::new(alloc)?;
     ran_broken(alloc, calling, words, bytes, shown, at, &mut one)?;
     let mut other = MemOut::new(alloc)?;
-    ran_broken(alloc, calling, words, bytes, b"", at, &mut other)?;
+    ran_broken(alloc, calling, words, bytes, instead, at, &mut other)?;
     Ok((one, other))
 }
 
-/// The files into which `split -n N` cuts `f`, which showed this text and then gave these bytes, and the status: they are what came, cut as
-/// chunks of a text of the length that was shown, and that is told, unless a fault stopped the run.
+/// What `split -n N` and `split -n K/N` leave of `f`, which showed this text and then gave these bytes, and the status: what came, cut as
+/// chunks of a text of the length that was shown, or what came of one of these. That `f` changed is told, unless it is one chunk that has
+/// all that goes with it, or a fault stopped the run.
 fn cut_as_shown(
     alloc: Global,
     calling: Calling,
@@ -217,13 +258,20 @@ fn cut_as_shown(
     bytes: &[u8],
     shown: &[u8],
 ) -> Result<(MemOut, u8), Fault>
-    ensures { (asked : SplitAsked) (chunks : Chunks)
+    ensures files { (asked : SplitAsked) (chunks : Chunks)
         → settings_of calling (map (λ word. word.now) words.now) ≡ Ok (Split asked)
         → asked.input ≡ codes "f" → asked.way ≡ way.Chunks chunks
         → 0 < length shown.now → (length bytes.now ≡ length shown.now → ⊥)
         → IfOk result
         (λ left. (one : Run) × (one.outputs ≡ left.0) × (one.status ≡ left.1)
         × (IsCutAsShown one asked chunks (codes "f") shown.now bytes.now ⊎ IsCutShort one (Split asked))) }
+    ensures chunk { (asked : SplitAsked) (place : ℕ) (chunks : Chunks)
+        → settings_of calling (map (λ word. word.now) words.now) ≡ Ok (Split asked)
+        → asked.input ≡ codes "f" → asked.way ≡ way.Chunk place chunks
+        → 0 < length shown.now → (length bytes.now ≡ length shown.now → ⊥)
+        → IfOk result
+        (λ left. (one : Run) × (one.outputs ≡ left.0) × (one.status ≡ left.1)
+        × (IsChunkAsShown one asked place chunks (codes "f") shown.now bytes.now ⊎ IsCutShort one (Split asked))) }
 {
     cutting_changes_nothing();
     split_loses_nothing();
@@ -277,6 +325,25 @@ fn told_why(
     ran(alloc, calling, words, inputs, outs)
 }
 
+/// Runs `head` over these bytes, into outputs that may break, and returns the status. Where standard output broke it is 1, or by the tool's
+/// own name 141, which tells that a reader is gone.
+fn status_of(
+    alloc: Global,
+    calling: Calling,
+    words: &[&str],
+    bytes: &[u8],
+    outs: &mut MemOut,
+) -> Result<u8, Fault>
+    requires { outs.old ≡ streams }
+    ensures { (asked : EndsAsked) → settings_of calling (map (λ word. word.now) words.now) ≡ Ok (Head asked)
+        → IfOk result
+        (λ status. (slot_at outs.new 0).is_broken ≡ true
+        → (status ≡ 1) ⊎ ((calling ≡ Calling.OwnName) × (status ≡ 141))) }
+{
+    faults_leave_a_beginning();
+    ran_over(alloc, calling, words, bytes, 3, outs)
+}
+
 /// Runs the words over these bytes, into outputs that may break, and returns the status. Each output has a beginning of what a run of the
 /// same words over the same input gives it that no fault stops; and there is such a run.
 fn begun(
@@ -314,7 +381,18 @@ fn halves_meet(rt: HostRuntime) -> Result<(), Fail> {
     for calling in CALLINGS {
         let first = ["split", "-n", "1/2", "f"];
         let second = ["split", "-n", "2/2", "f"];
-        let found = halves(rt.alloc(), calling, &first, &second, TEXT)?;
+        let found = halves(rt.alloc(), calling, &first, &second, TEXT, b"stuvwxyz")?;
+        assert!(rt; found.is_some_and(|all| all.as_slice() == TEXT));
+    }
+    Ok(())
+}
+
+#[test]
+fn parts_meet_though_more_comes(rt: HostRuntime) -> Result<(), Fail> {
+    for calling in CALLINGS {
+        let head = ["head", "-n", "-1", "f"];
+        let tail = ["tail", "-n", "1", "f"];
+        let found = parted(rt.alloc(), calling, &head, &tail, b"a\nbb\nccc\nd", TEXT)?;
         assert!(rt; found.is_some_and(|all| all.as_slice() == TEXT));
     }
     Ok(())
@@ -323,7 +401,7 @@ fn halves_meet(rt: HostRuntime) -> Result<(), Fail> {
 #[test]
 fn chunk_is_of_what_was_shown(rt: HostRuntime) -> Result<(), Fail> {
     let words = ["split", "-n", "2/2", "f"];
-    let found = chunk_of_grown(rt.alloc(), Calling::OwnName, &words, b"abcdefg", b"abcd")?;
+    let found = chunk_of_grown(rt.alloc(), Calling::OwnName, &words, b"abcdefg", b"wxyz")?;
     assert!(rt; found.is_some_and(|outs| has(&outs, 0, b"cd")));
     Ok(())
 }
@@ -348,10 +426,20 @@ fn no_match_leaves_the_same(rt: HostRuntime) -> Result<(), Fail> {
 
 #[test]
 fn what_a_broken_file_shows_is_no_matter(rt: HostRuntime) -> Result<(), Fail> {
-    let words = ["split", "-l", "2", "f"];
-    let (one, other) = left_broken(rt.alloc(), Calling::Cutters, &words, TEXT, b"vw\n", 6)?;
-    assert!(rt; has(&one, 2, b"a\nbb\n") && has(&other, 2, b"a\nbb\n"));
-    assert!(rt; has(&one, 3, b"c") && has(&other, 3, b"c") && one.bytes(1) == other.bytes(1));
+    for words in [["split", "-l", "2", "f"], ["split", "-n", "l/2", "f"]] {
+        let alloc = rt.alloc();
+        let (one, other) = left_broken(
+            alloc,
+            Calling::Cutters,
+            &words,
+            TEXT,
+            TEXT,
+            b"stuvwxyz",
+            6,
+        )?;
+        assert!(rt; has(&one, 2, b"a\nbb\n") && has(&other, 2, b"a\nbb\n"));
+        assert!(rt; has(&one, 3, b"c") && has(&other, 3, b"c") && one.bytes(1) == other.bytes(1));
+    }
     Ok(())
 }
 
@@ -360,6 +448,9 @@ fn change_is_told(rt: HostRuntime) -> Result<(), Fail> {
     let words = ["split", "-n", "3", "f"];
     let (outs, status) = cut_as_shown(rt.alloc(), Calling::Cutters, &words, b"vwxyz", TEXT)?;
     assert!(rt; has(&outs, 2, b"vwx") && has(&outs, 3, b"yz") && status == 1);
+    let words = ["split", "-n", "2/3", "f"];
+    let (outs, status) = cut_as_shown(rt.alloc(), Calling::OwnName, &words, b"vwxyz", TEXT)?;
+    assert!(rt; has(&outs, 0, b"yz") && status == 1);
     Ok(())
 }
 
@@ -402,5 +493,21 @@ fn broken_output_has_a_beginning(rt: HostRuntime) -> Result<(), Fail> {
         &mut outs,
     )?;
     assert!(rt; has(&outs, 0, b"bb\n") && status == 1);
+    Ok(())
+}
+
+#[test]
+fn broken_output_is_told_by_the_status(rt: HostRuntime) -> Result<(), Fail> {
+    for (why, calling, told) in [
+        (Reason::Full, Calling::OwnName, 1),
+        (Reason::Gone, Calling::OwnName, 141),
+        (Reason::Gone, Calling::Cutters, 1),
+    ] {
+        let mut outs = MemOut::new(rt.alloc())?;
+        outs.limit(0, 3)?;
+        outs.breaks_as(0, why)?;
+        let status = status_of(rt.alloc(), calling, &["head"], TEXT, &mut outs)?;
+        assert!(rt; outs.broken(0) && status == told);
+    }
     Ok(())
 }

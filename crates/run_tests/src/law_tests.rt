@@ -3,7 +3,7 @@
 ghost use Rattle.std.specs.{
   Prelude.{◌≡◌, ◌+◌, ◌++◌, ◌∷◌, [], ℕ, List, Option, None, Some, map, drop, codes, true, false, IfOk, IfSome},
 };
-ghost use Rattle.ends_core.specs.Ends.{tail_of};
+ghost use Rattle.follow_core.specs.{Run.{AreKept, name_text}, Version.entries_of};
 ghost use Rattle.mem_core.specs.MemWatchState.{seen, shows};
 ghost use Rattle.seg_core.specs.{
   Line.joined,
@@ -15,8 +15,8 @@ ghost use Rattle.seg_core.specs.{
 ghost use Rattle.ports_core.specs.{Slot.{Slot, slot_at, streams}, Source.IsFresh};
 ghost use Rattle.run_tests.specs.inner.Calls.{in_pipe, run_of};
 ghost use Rattle.tools_core.specs.{
-  Promises.{forgives_gone, AreCopies, Does, CountAlike, IsBare, OnlyGrows, Ran, SkipNothing, counted, to_follow},
-  Tasks.is_plus,
+  Following.is_name,
+  Promises.{forgives_gone, AreCopies, Does, CountAlike, IsBare, OnlyGrows, Ran, SkipNothing, counted, tail_part, to_follow},
 };
 ghost use Rattle.words_core.specs.{
   CsplitWords.CsplitAsked,
@@ -38,8 +38,8 @@ use std::alloc::Global;
 use std::process::Abort;
 use std::test::Fail;
 use tools_core::{
-    csplit_loses_nothing, cutting_changes_nothing, faults_leave_a_beginning, head_and_tail_meet,
-    program_makes_these_runs, run_words, split_loses_nothing, tail_follows, tee_copies,
+    csplit_loses_nothing, cutting_changes_nothing, head_and_tail_meet, program_makes_these_runs,
+    run_words, split_loses_nothing, tail_follows, tee_copies,
 };
 
 /// Standard input with these bytes, of which a read gives this many, and no files.
@@ -200,12 +200,22 @@ fn sections(alloc: Global, words: &[&str], bytes: &[u8]) -> Result<Option<MemOut
     left_of(alloc, Calling::Cutters, words, bytes, 3)
 }
 
-/// What a `tail` leaves that follows one file, in either way, if it goes well. If the file only grows, that is what it ends with at the
-/// first look and all that came by the last.
-fn grown(alloc: Global, words: &[&str], watch: &mut MemWatch) -> Result<Option<MemOut>, Fault>
+/// What a `tail` leaves that follows one name, in either way, if it goes well. If the name leads to one file, which only grows, that is what
+/// this ends with at the first look and all that came by the last. If a file that isn't seen shorter has kept its bytes, it is the text of
+/// the name.
+fn followed(alloc: Global, words: &[&str], watch: &mut MemWatch) -> Result<Option<MemOut>, Fault>
     requires seen { seen watch.old ≡ [] }
     requires watched { watch.old.watched ≡ [] }
-    ensures { (options : EndsAsked) (followed : Followed) (name came : List ℕ) (file n pause : ℕ)
+    ensures text { (options : EndsAsked) (how : Followed) (name : List ℕ) (looks pause : ℕ)
+        → settings_of Calling.Cutters (map (λ word. word.now) words.now)
+        ≡ Ok (Tail (to_follow options how looks pause))
+        → has_dash options.names ≡ false → IsBare options → options.names ≡ name ∷ []
+        → AreKept (entries_of (is_name how) name (seen watch.new))
+        → IfOk result
+        (λ left. IfSome left
+        (λ outs. (slot_at outs 0).written
+        ≡ name_text (tail_part options) (entries_of (is_name how) name (seen watch.new)))) }
+    ensures grows { (options : EndsAsked) (followed : Followed) (name came : List ℕ) (file n pause : ℕ)
         → settings_of Calling.Cutters (map (λ word. word.now) words.now)
         ≡ Ok (Tail (to_follow options followed (n + 1) pause))
         → has_dash options.names ≡ false → IsBare options → options.names ≡ name ∷ []
@@ -214,8 +224,7 @@ fn grown(alloc: Global, words: &[&str], watch: &mut MemWatch) -> Result<Option<M
         → IfOk result
         (λ left. IfSome left
         (λ outs. (slot_at outs 0).written
-        ≡ tail_of options.delim options.unit (is_plus options.count.sign) options.count.amount
-        ((shows watch.old 0).holds file) ++ came)) }
+        ≡ tail_part options ((shows watch.old 0).holds file) ++ came)) }
 {
     program_makes_these_runs();
     tail_follows();
@@ -249,17 +258,6 @@ fn both(alloc: Global, words: &[&str], bytes: &[u8]) -> Result<Option<(MemOut, M
         return Ok(None);
     };
     Ok(Some((one, other)))
-}
-
-/// The status of a run of the words over these bytes, into outputs that may fail: it is 1 where standard output broke, or 141, which
-/// tells that its reader is gone.
-fn status_of(alloc: Global, words: &[&str], bytes: &[u8], outs: &mut MemOut) -> Result<u8, Fault>
-    requires { outs.old ≡ streams }
-    ensures { (asked : EndsAsked) → settings_of Calling.Cutters (map (λ word. word.now) words.now) ≡ Ok (Head asked)
-        → IfOk result (λ status. (slot_at outs.new 0).is_broken ≡ true → status ≡ 1) }
-{
-    faults_leave_a_beginning();
-    ran_over(alloc, Calling::Cutters, words, bytes, 3, outs)
 }
 
 /// Three lines, the last of them open.
@@ -300,9 +298,21 @@ fn grown_file_is_there(rt: HostRuntime) -> Result<(), Fail> {
         watch.then(&[Edit::Replace("f", TEXT)])?;
         watch.then(&[Edit::Append("f", b"d\n")])?;
         let words = ["tail", way, "-n", "1", "--looks", "2", "f"];
-        let found = grown(rt.alloc(), &words, &mut watch)?;
+        let found = followed(rt.alloc(), &words, &mut watch)?;
         assert!(rt; found.is_some_and(|outs| outs.bytes(0) == b"cccd\n".as_slice()));
     }
+    Ok(())
+}
+
+#[test]
+fn text_of_two_files_is_there(rt: HostRuntime) -> Result<(), Fail> {
+    let mut watch = MemWatch::new(rt.alloc())?;
+    watch.then(&[Edit::Replace("f", TEXT)])?;
+    watch.then(&[Edit::Append("f", b"d\n")])?;
+    watch.then(&[Edit::Replace("f", b"e\n")])?;
+    let words = ["tail", "-F", "-n", "1", "--looks", "3", "f"];
+    let found = followed(rt.alloc(), &words, &mut watch)?;
+    assert!(rt; found.is_some_and(|outs| outs.bytes(0) == b"cccd\ne\n".as_slice()));
     Ok(())
 }
 
@@ -310,14 +320,5 @@ fn grown_file_is_there(rt: HostRuntime) -> Result<(), Fail> {
 fn both_are_there(rt: HostRuntime) -> Result<(), Fail> {
     let found = both(rt.alloc(), &["tail", "-n", "1"], TEXT)?;
     assert!(rt; found.is_some_and(|outs| outs.0.bytes(0) == outs.1.bytes(0)));
-    Ok(())
-}
-
-#[test]
-fn broken_output_is_status_1(rt: HostRuntime) -> Result<(), Fail> {
-    let mut outs = MemOut::new(rt.alloc())?;
-    outs.limit(0, 3)?;
-    let status = status_of(rt.alloc(), &["head"], TEXT, &mut outs)?;
-    assert!(rt; outs.broken(0) && status == 1);
     Ok(())
 }

@@ -642,8 +642,8 @@ ran_over ran = grind (arith, common_steps, not_refused)
 -- `tee` makes the same of inputs that give the same bytes
 given_whole : {asked : TeeAsked} {shown : Option (List ℕ)} {content : Content} {bytes : List ℕ}
     → Gives (Tee asked) shown content bytes → (content.bytes ≡ bytes) × (content.breaks_off ≡ false)
-given_whole (in_full all ends steady) = (all, ends)
-given_whole (at_first more all looks shows) = absurd (cc)
+given_whole (in_full all ends alike) = (all, ends)
+given_whole (at_first more all takes alike) = absurd (cc)
 
 pub given_content : (asked : TeeAsked) {input : Input} {content : Content} {bytes : List ℕ}
     → input.content ≡ Some content
@@ -655,7 +655,7 @@ tee_alike : (asked : TeeAsked) (content other : Content)
     → tee_made asked other ≡ tee_made asked content
 tee_alike asked content other (are_same is) = grind (arith, common_steps, same_content)
 tee_alike asked content other (give_same bytes named gives gives_too) = grind (arith, common_steps, given_content)
-tee_alike asked content other (hold_same held shown blind named is is_too) = grind (arith, common_steps)
+tee_alike asked content other (hold_same held shown alike named is is_too) = grind (arith, common_steps)
 
 -- each tool makes the same of an input that gives these bytes, whether the input shows them or not
 pub task_knows : (calling : Calling) (asked : Settings) (task : Task) → IsTask calling asked task

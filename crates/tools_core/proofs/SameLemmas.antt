@@ -1,15 +1,15 @@
 -- Lemmas on inputs that give what they showed: what is made of them is what is made of inputs that show nothing.
 use Rattle.std.proofs.{
   Common.{◌≡◌, ◌⊎◌, ℕ, ◌&&◌, Bool, true, false, not, List, [], ◌∷◌, ◌++◌, Option, Some, None, inl, inr, refl, sym, ◌∙◌, ap, length},
-  Common.{option_map, ◌+◌, arith, nat_lt},
+  Common.{option_map, ◌+◌, ◌-◌, arith, nat_lt},
   Math.{Bool.or-true, Seq.{take-append_seam, take-length}},
-  lemmas.{Bool.{eq-eqb, le-leb, ltb-true}, List.{append-nil, length-append}},
+  lemmas.{Bool.{eq-eqb, le-leb, ltb-true}, List.{append-nil, length-append, length-drop}},
 }
 use Rattle.ports_core.specs.{Source.{Content, unshown}, Work.{IsLawful, Work}}
-use Rattle.seg_core.specs.declared.{unit.Unit.Unit as Counted, cut.{Chunks.Chunks, Way.Way}}
+use Rattle.seg_core.specs.declared.{unit.Unit.{Unit as Counted, TheVariants.{Bytes, Lines}}, cut.{Chunks.Chunks, Way.Way}}
 use Rattle.ends_core.{
   specs.{
-    Shown.{head_in, place_of, tail_in},
+    Shown.{between_work, head_in, place_of, tail_in},
     Head.head_work,
     Tail.tail_work,
     laws.WorkLaws.{between_lawful, head_lawful, tail_lawful},
@@ -31,15 +31,15 @@ use Rattle.words_core.specs.{
 }
 use Rattle.tools_core.specs.{
   Promises.{AllAlike, AreAlike, Gives, GivesBytes, are_same, at_first, give_same, hold_same, in_full},
-  Promises.{is_chunked, is_one_chunk, looks, takes_shown},
+  Promises.{ShowAlike, is_bytes, is_chunked, is_one_chunk, looks, takes_shown},
   Tasks.{is_minus, is_plus},
 }
 use Rattle.seg_core.specs.declared.cut.Way.TheVariants as way
 
--- A work makes the same of each text, whether its input shows the text first or shows nothing. If the tool doesn't look
--- at inputs, what an input shows doesn't matter.
+-- A work makes the same of each text, whether its input shows the text first or shows nothing. What inputs show that is
+-- the same to the tool doesn't matter.
 pub record KnowsNoMore (asked : Settings) (work : Option (List ℕ) → Work) : Type 0 where
-  pub blind : (shown : Option (List ℕ)) → looks asked ≡ false → work shown ≡ work None
+  pub same : (one other : Option (List ℕ)) → ShowAlike asked one other → work one ≡ work other
   pub whole : (text : List ℕ) → (work (Some text)).whole text ≡ (work None).whole text
   pub verdict : (text : List ℕ) → (work (Some text)).verdict text ≡ (work None).verdict text
   pub clears : (text : List ℕ) → (work (Some text)).clears ≡ (work None).clears
@@ -52,12 +52,41 @@ pub record KnowsNoMore (asked : Settings) (work : Option (List ℕ) → Work) : 
 -- a work that is the same whatever is shown
 pub shows_none : (asked : Settings) (work : Work) → takes_shown asked ≡ false → KnowsNoMore asked (λ shown. work)
 shows_none asked work none = record {
-  blind = λ shown is. refl;
+  same = λ one other alike. refl;
   whole = λ text. refl;
   verdict = λ text. refl;
   clears = λ text. refl;
   enough = λ text more is. absurd (cc);
 }
+
+-- If bytes are counted, only the length of what is shown matters.
+
+by_length : (work : Option (List ℕ) → Work)
+    → ((one other : List ℕ) → length one ≡ length other → work (Some one) ≡ work (Some other))
+    → (one other : Option (List ℕ)) → option_map length one ≡ option_map length other → work one ≡ work other
+by_length work same None None long = refl
+by_length work same None (Some other) long = absurd (cc)
+by_length work same (Some one) None long = absurd (cc)
+by_length work same (Some one) (Some other) long = same one other (cc)
+
+place_by_length : (delim n : ℕ) (one other : List ℕ) → length one ≡ length other
+    → place_of delim Bytes n one ≡ place_of delim Bytes n other
+place_by_length delim n one other long =
+    omega (arith, long, length-drop (length one - n) one, length-drop (length other - n) other)
+
+head_by_length : (delim : ℕ) (unit : Counted) (n : ℕ) → is_bytes unit ≡ true → (one other : Option (List ℕ))
+    → option_map length one ≡ option_map length other → head_in delim unit true n one ≡ head_in delim unit true n other
+head_by_length delim Lines n bytes = absurd (cc)
+head_by_length delim Bytes n bytes = by_length (head_in delim Bytes true n)
+    (λ one other long. ap (between_work 0) (place_by_length delim n one other long))
+
+tail_by_length : (delim : ℕ) (unit : Counted) (n : ℕ) → is_bytes unit ≡ true → (one other : Option (List ℕ))
+    → option_map length one ≡ option_map length other
+    → tail_in delim unit false n one ≡ tail_in delim unit false n other
+tail_by_length delim Lines n bytes = absurd (cc)
+tail_by_length delim Bytes n bytes = by_length (tail_in delim Bytes false n)
+    (λ one other long. ap (λ place. between_work place (length one)) (place_by_length delim n one other long)
+    ∙ ap (between_work (place_of delim Bytes n other)) long)
 
 -- The works of `head` and `tail` if nothing is shown.
 
@@ -88,7 +117,10 @@ tail_in_lawful delim unit true n shown = tail_lawful delim unit true n
 head_knows_by : (asked : EndsAsked) (but_last : Bool) → takes_shown (Head asked) ≡ but_last
     → KnowsNoMore (Head asked) (head_in asked.delim asked.unit but_last asked.count.amount)
 head_knows_by asked true is = record {
-  blind = λ shown none. absurd (cc);
+  same = λ one other alike. elim (alike is) [
+    | inl all ↦ rw all refl
+    | inr (bytes, long) ↦ head_by_length asked.delim asked.unit asked.count.amount bytes one other long
+  ];
   whole = λ text. rw append-nil at (whole-head_shown asked.delim asked.unit asked.count.amount text []);
   verdict = λ text. rw append-nil at (verdict-head_shown asked.delim asked.unit asked.count.amount text []);
   clears = λ text. refl;
@@ -107,7 +139,10 @@ head_knows asked = head_knows_by asked (is_minus asked.count.sign) refl
 tail_knows_by : (asked : TailSettings) (from_nth : Bool) → takes_shown (Tail asked) ≡ not from_nth
     → KnowsNoMore (Tail asked) (tail_in asked.ends.delim asked.ends.unit from_nth asked.ends.count.amount)
 tail_knows_by asked false is = record {
-  blind = λ shown none. absurd (cc);
+  same = λ one other alike. elim (alike is) [
+    | inl all ↦ rw all refl
+    | inr (bytes, long) ↦ tail_by_length asked.ends.delim asked.ends.unit asked.ends.count.amount bytes one other long
+  ];
   whole = λ text. rw append-nil at (whole-tail_shown asked.ends.delim asked.ends.unit asked.ends.count.amount text []);
   verdict = λ text. rw append-nil at (verdict-tail_shown asked.ends.delim asked.ends.unit asked.ends.count.amount text []);
   clears = λ text. refl;
@@ -141,14 +176,14 @@ way_knows : (asked : SplitAsked) (way : Way) (filing : Filing) → looks (Split 
     → KnowsNoMore (Split asked) (λ shown. way_work way asked.elide filing (option_map length shown))
 way_knows asked (way.Cut cut) filing is takes = shows_none (Split asked) _ takes
 way_knows asked (way.Chunks chunks) filing is takes = record {
-  blind = λ shown none. absurd (cc);
+  same = λ one other alike. elim (alike is) [ inl all ↦ rw all refl | inr (at, long) ↦ rw long refl ];
   whole = λ text. refl;
   verdict = λ text. rw (said_so text);
   clears = λ text. refl;
   enough = λ text more looks. absurd (cc);
 }
 way_knows asked (way.Chunk place chunks) filing is takes = record {
-  blind = λ shown none. absurd (cc);
+  same = λ one other alike. elim (alike is) [ inl all ↦ rw all refl | inr (at, long) ↦ rw long refl ];
   whole = λ text. refl;
   verdict = λ text. rw (said_so text, or-true (is_written place chunks (Some (length text)) text));
   clears = λ text. refl;
@@ -169,17 +204,14 @@ of_fields task work is_first name bytes breaks_off =
 
 module _ (asked : Settings) (task : Task) (knows : KnowsNoMore asked task.work) (is_first : Bool)
     (name bytes : List ℕ) where
-  -- a text that was shown and came in full makes the same as if nothing was shown, whether the tool looks or not
-  shown_too : (shown : Option (List ℕ)) (does : Bool) → looks asked ≡ does
-      → (does ≡ true → (shown ≡ None) ⊎ (shown ≡ Some bytes))
+  -- a text that was shown and came in full makes the same as if nothing was shown
+  shown_too : (shown : Option (List ℕ)) → (shown ≡ None) ⊎ ShowAlike asked shown (Some bytes)
       → of_fields task (task.work shown) is_first name bytes false
       ≡ of_fields task (task.work None) is_first name bytes false
   unfolding of_fields
-  shown_too shown false none steady = rw (knows.blind shown none) refl
-  shown_too shown true is steady = elim (steady refl) [
-    | inl none ↦ rw none refl
-    | inr all ↦ rw (all, knows.whole bytes, knows.verdict bytes, knows.clears bytes) refl
-  ]
+  shown_too shown (inl none) = rw none refl
+  shown_too shown (inr alike) =
+      rw (knows.same shown (Some bytes) alike, knows.whole bytes, knows.verdict bytes, knows.clears bytes) refl
 
   -- what comes after the bytes that were shown doesn't matter if the tool takes them alone
   shown_first : (more : List ℕ) (breaks_off : Bool) → takes_shown asked ≡ true
@@ -194,8 +226,9 @@ module _ (asked : Settings) (task : Task) (knows : KnowsNoMore asked task.work) 
       → of_content task (task.work shown) is_first name (Some content)
       ≡ of_content task (task.work None) is_first name (Some (unshown bytes))
   unfolding of_fields
-  given shown content (in_full all ends steady) = rw (all, ends) (shown_too shown (looks asked) refl steady)
-  given shown content (at_first more all looks shows) = rw (shows, all) (shown_first more content.breaks_off looks)
+  given shown content (in_full all ends alike) = rw (all, ends) (shown_too shown alike)
+  given shown content (at_first more all takes alike) =
+      rw (knows.same shown (Some bytes) alike, all) (shown_first more content.breaks_off takes)
 
   -- what is made of an input that gives these bytes, as if it showed nothing
   pub steady_made : (input : Input) → input.name ≡ name → GivesBytes asked input bytes
@@ -207,7 +240,7 @@ missing_alike : (asked : Settings) (one other : Input) → AreAlike asked one ot
     → is_missing one.content ≡ is_missing other.content
 missing_alike asked one other (are_same is) = rw is
 missing_alike asked one other (give_same bytes named gives gives_too) = rw (gives.is, gives_too.is)
-missing_alike asked one other (hold_same content shown blind named is is_too) = rw (is, is_too)
+missing_alike asked one other (hold_same content shown alike named is is_too) = rw (is, is_too)
 
 alike_made : (asked : Settings) (task : Task) → KnowsNoMore asked task.work → (is_first : Bool) (one other : Input)
     → AreAlike asked one other
@@ -216,8 +249,8 @@ alike_made asked task knows is_first one other (are_same is) = rw is
 alike_made asked task knows is_first one other (give_same bytes named gives gives_too) =
     steady_made asked task knows is_first other.name bytes one named gives
     ∙ sym (steady_made asked task knows is_first other.name bytes other refl gives_too)
-alike_made asked task knows is_first one other (hold_same content shown blind named is is_too) =
-    rw (named, is, is_too, knows.blind one.shown blind, knows.blind other.shown blind) refl
+alike_made asked task knows is_first one other (hold_same content shown alike named is is_too) =
+    rw (named, is, is_too, knows.same one.shown other.shown alike) refl
 
 -- what is made of inputs that are alike is the same
 pub all_made_alike : (asked : Settings) (task : Task) → KnowsNoMore asked task.work → (is_first : Bool)

@@ -2,7 +2,8 @@
 -- in memory do.
 use Rattle.std.specs.{
   Prelude.{◌≡◌, ℕ, ◌+◌, ◌^◌, ◌/◌, ◌%◌, ◌<◌, ◌≤◌, ◌==◌, nat_lt, suc, Bool, true, false, not, List, [], ◌∷◌},
-  Prelude.{◌++◌, length, map, take, drop, All, slice_index_or, ◌⊎◌, Option, Some, None, Ok, if◌then◌else◌},
+  Prelude.{◌++◌, length, map, take, drop, All, slice_index_or, ◌⊎◌, Option, Some, None, option_map, Ok},
+  Prelude.if◌then◌else◌,
   List.{concat, flat_map, range_with_len},
   declared.cmp.Ordering.TheVariants.Less,
   Ordering.nat_cmp,
@@ -10,7 +11,7 @@ use Rattle.std.specs.{
 }
 use Rattle.seg_core.specs.{
   Line.{delimiters, ends_with, first_lines, joined, lines_of},
-  declared.{count.Sign.Sign, unit.Unit.TheVariants.Lines, cut.{Way.Way, Chunks.Chunks}},
+  declared.{count.Sign.Sign, unit.Unit.{Unit as Counted, TheVariants.{Bytes, Lines}}, cut.{Way.Way, Chunks.Chunks}},
 }
 use Rattle.ports_core.specs.{
   Draft.opening_line,
@@ -102,6 +103,10 @@ pub record Does (run : Run) (asked : Settings) : Type 0 where
 abbrev pub lying_at : World → List ℕ → Option Content
 lying_at world name = if is_dash name then Some world.standard else world.laid 1 name
 
+abbrev pub is_bytes : Counted → Bool
+is_bytes Bytes = true
+is_bytes Lines = false
+
 abbrev pub is_chunked : Way → Bool
 is_chunked (way.Cut cut) = false
 is_chunked (way.Chunks chunks) = true
@@ -128,14 +133,27 @@ abbrev pub looks : Settings → Bool
 looks (Split asked) = is_chunked asked.way
 looks asked = takes_shown asked
 
+-- of what an input shows only the length matters: the tool counts bytes, or makes chunks
+abbrev pub looks_at_length : Settings → Bool
+looks_at_length (Head asked) = is_bytes asked.unit
+looks_at_length (Tail asked) = is_bytes asked.ends.unit
+looks_at_length (Split asked) = true
+looks_at_length asked = false
+
+-- What two inputs show, a text or none, is the same to the tool. It doesn't look at that; or they show the same; or only
+-- the length matters, and that is the same.
+abbrev pub ShowAlike : Settings → (one other : Option (List ℕ)) → Type 0
+ShowAlike asked one other = looks asked ≡ true
+    → (one ≡ other) ⊎ ((looks_at_length asked ≡ true) × (option_map length one ≡ option_map length other))
+
 -- An input that shows this and has this content gives these bytes to a run of these settings. It has them and ends after
--- them; if the tool looks at what it shows, that is just these bytes, or nothing. Or they are what it shows to a tool
--- that takes this text alone, and it has them first, whatever comes after them.
+-- them, and shows nothing, or what is the same to the tool as these bytes. Or what it shows is the same to a tool that
+-- takes such a text alone, and it has them first, whatever comes after them.
 pub data Gives (asked : Settings) (shown : Option (List ℕ)) (content : Content) (bytes : List ℕ) : Type 0 where
-  in_full : content.bytes ≡ bytes → content.breaks_off ≡ false
-      → (looks asked ≡ true → (shown ≡ None) ⊎ (shown ≡ Some bytes)) → Gives asked shown content bytes
-  at_first : (more : List ℕ) → content.bytes ≡ bytes ++ more → takes_shown asked ≡ true → shown ≡ Some bytes
+  in_full : content.bytes ≡ bytes → content.breaks_off ≡ false → (shown ≡ None) ⊎ ShowAlike asked shown (Some bytes)
       → Gives asked shown content bytes
+  at_first : (more : List ℕ) → content.bytes ≡ bytes ++ more → takes_shown asked ≡ true
+      → ShowAlike asked shown (Some bytes) → Gives asked shown content bytes
 
 -- the run has one input, which gives it these bytes
 pub record HasInput (run : Run) (bytes : List ℕ) : Type 0 where
@@ -152,14 +170,15 @@ pub record GivesBytes (asked : Settings) (input : Input) (bytes : List ℕ) : Ty
   pub is : input.content ≡ Some content
   pub gives : Gives asked input.shown content bytes
 
--- Two inputs are the same, or have one name, and give the same bytes to runs of these settings. Or, if the tool doesn't
--- look at what inputs show, they have one name, and the same content except for what it shows.
+-- Two inputs are the same, or have one name, and give the same bytes to runs of these settings. Or they have one name,
+-- show what is the same to the tool, and have the same content except for what they show.
 pub data AreAlike (asked : Settings) (one other : Input) : Type 0 where
   are_same : one ≡ other → AreAlike asked one other
   give_same : (bytes : List ℕ) → one.name ≡ other.name → GivesBytes asked one bytes → GivesBytes asked other bytes
       → AreAlike asked one other
-  hold_same : (content : Content) (shown : Option (List ℕ)) → looks asked ≡ false → one.name ≡ other.name
-      → one.content ≡ Some content → other.content ≡ Some (record content { shown = shown }) → AreAlike asked one other
+  hold_same : (content : Content) (shown : Option (List ℕ)) → ShowAlike asked one.shown other.shown
+      → one.name ≡ other.name → one.content ≡ Some content → other.content ≡ Some (record content { shown = shown })
+      → AreAlike asked one other
 
 -- each of the inputs and the one at its place in the other list
 abbrev pub AllAlike : Settings → List Input → List Input → Type 0
@@ -170,7 +189,7 @@ AllAlike asked (one ∷ ones) (other ∷ others) = AreAlike asked one other × A
 
 -- Two runs of these settings read inputs of the same names, in order, and find the same under each: the same bytes, which
 -- end or break off alike, or nothing. In how many reads bytes come is no part of what lies there. Nor is what an input
--- shows before it is read, if the tool doesn't look at that.
+-- shows before it is read, as far as the tool doesn't look at that.
 abbrev pub FindAlike : Settings → Run → Run → Type 0
 FindAlike asked one other = AllAlike asked (inputs_at one.world (names_read one.calling one.words))
     (inputs_at other.world (names_read other.calling other.words))

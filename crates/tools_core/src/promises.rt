@@ -59,7 +59,8 @@ pub fn program_makes_these_runs()
 /// `head -n N` and then `tail -n +M`, where M is N + 1. All lines but the last N, and the last N lines, are the input,
 /// too: `head -n -N` and then `tail -n N`. The same is true of bytes (`-c`), and of lines that end with byte 0 (`-z`),
 /// if both runs have that option. Neither run may write a header. If an input shows a text before it is read, and gives
-/// this text first, the last two runs speak of this text: a file may grow while they run.
+/// this text first, the last two runs speak of this text: a file may grow while they run. If bytes are counted, it may be
+/// any text of this length.
 pub fn head_and_tail_meet()
     ensures first { (head tail : Run) (first rest : EndsAsked) (n : ℕ) (input : List ℕ) → CountAlike first rest
         → IsHead head first Plain n → IsTail tail rest Plus (n + 1) → HasInput head input → HasInput tail input
@@ -87,7 +88,8 @@ pub fn tee_copies()
 
 /// How an input comes changes nothing. Two runs that are asked for the same, over inputs of the same bytes, leave the
 /// same outputs, whether a read gives one byte or all of them. What lies at a name doesn't say how much a read gives.
-/// What an input shows before it is read changes nothing, either, if the tool doesn't look at that.
+/// What an input shows before it is read changes nothing, either, as far as the tool doesn't look at that: only the length
+/// of it matters where bytes are counted, and to `split`.
 /// If the status is 1 and no fault stopped the runs, as for an input that breaks off or a pattern that isn't found,
 /// they leave the same status, too, and the same bytes under the same names, and report the same lines; but a file that
 /// was to be removed may stay in one of them. A fault that stops a run is reported, as far as standard error takes
@@ -114,12 +116,12 @@ pub fn cutting_changes_nothing()
 /// each line is in the piece in whose chunk its first byte is. Standard output has nothing; with `--verbose` it has a
 /// line for each file, in their order. With K there is no file, and standard output has piece K. With `-n r/K/N` it has
 /// what file K has without `-e`: the lines from the Kth on, each N lines after the line before it. So `split -n K/N`,
-/// for K from 1 to N, writes the input, and `-n r/K/N` writes each of its lines once. If an input shows a text before
-/// it is read, and gives this text first, the runs with `-n K/N` speak of this text: a file may grow while they run. If an
-/// input gives fewer or more bytes than it showed before it was read, the files of `-n N` and `-n l/N` have the bytes
-/// that came, up to the length that was shown, as the chunks of this length are. That the input changed is reported
-/// with its name, and the status is 1. With K standard output has what came of that chunk, and the change is reported
-/// unless the chunk got all that goes with it.
+/// for K from 1 to N, writes the input, and `-n r/K/N` writes each of its lines once. If an input shows a length before
+/// it is read, and gives more, the runs with `-n K/N` speak of its first bytes, up to this length: a file may grow while
+/// they run. If an input gives fewer or more bytes than it showed before it was read, the files of `-n N` and `-n l/N`
+/// have the bytes that came, up to the length that was shown, as the chunks of this length are. That the input changed
+/// is reported with its name, and the status is 1. With K standard output has what came of that chunk, and the change is
+/// reported unless the chunk got all that goes with it.
 pub fn split_loses_nothing()
     ensures listed { (split : Run) (asked : SplitAsked) (input : List ℕ) → Does split (Split asked)
         → HasInput split input → AreListed asked (files_of split) }

@@ -1,46 +1,31 @@
-use Rattle.std.proofs.Common.{◌≡◌, ◌<◌, ℕ, true, false, List, [], ◌∷◌, ◌++◌, Some, Ok, Result, codes, length, refl, sym, ◌∙◌, ap}
+use Rattle.std.proofs.Common.{◌≡◌, ◌<◌, [], ◌∷◌, List, ℕ, length, Some, inr, arith, refl, sym, ◌∙◌, ap}
 use Rattle.mem_core.specs.MemInState.{shown_by}
 use Rattle.words_core.specs.{
   SplitWords.SplitAsked,
-  Words.settings_of,
-  declared.settings.Settings.{Settings, TheVariants.{Split}},
+  declared.settings.Settings.TheVariants.{Split},
 }
-use Rattle.tools_core.specs.{
-  Outcome.names_at,
-  Promises.{HasInput, at_first, takes_shown},
-  Run.Run,
-}
+use Rattle.tools_core.specs.Promises.{ShowAlike, at_first}
 use Rattle.run_tests.{
   specs.inner.Calls.{in_file, run_of},
-  proofs.{CallLemmas.{shown_some, weaker}},
+  proofs.{CallLemmas.{file_given, showing, shown_some, weaker}},
 }
 use Rattle.run_tests.proofs.law_calls.chunk_of_grown.Goals as goal
 
-same_asked : {E : Type 0} {one other : Settings} {meant : Result Settings E} → meant ≡ Ok one → meant ≡ Ok other
-    → one ≡ other
-same_asked is is_too = cc
-
--- a file that shows a text, and gives it first, gives it to a run that takes it alone
-grown_given : (run : Run) {asked : SplitAsked} (bytes shown more : List ℕ)
-    → run.world.laid 1 (codes "f") ≡ Some (record { bytes = bytes; breaks_off = false; shown = shown_by shown })
-    → settings_of run.calling run.words ≡ Ok (Split asked) → asked.input ≡ codes "f"
-    → takes_shown (Split asked) ≡ true → 0 < length shown → bytes ≡ shown ++ more → HasInput run shown
-grown_given run bytes shown more lies read only takes some grows = record {
-  name = codes "f";
-  only = ap (λ (meant : Result Settings _). names_at meant) read ∙ ap (λ name. name ∷ []) only;
-  content = record { bytes = bytes; breaks_off = false; shown = shown_by shown };
-  holds = lies;
-  gives = λ other read_too. at_first more grows (ap takes_shown (same_asked read_too read) ∙ takes) (shown_some shown some);
-}
+-- a text that a file shows is as good to `split` as any of this length
+as_long : (asked : SplitAsked) (shown first : List ℕ) → 0 < length first → length shown ≡ length first
+    → ShowAlike (Split asked) (shown_by shown) (Some first)
+as_long asked shown first some long =
+    rw (shown_some shown (omega (arith, some, long))) (λ looks. inr (refl, ap Some long))
 
 pub returns : goal.returns
-returns c asked place chunks more read only way takes some grows =
+returns c asked place chunks first more read only way takes some long grows =
     let bytes = c.args.bytes.now in
     let shown = c.args.shown.now in
     let is_chunk = c.split_loses_nothing.ensures.chunk in
     weaker c.left_over.result _ _ (λ outs (rest, does) other same splits.
     let one = run_of _ _ (in_file bytes shown) rest outs 0 in
-    is_chunk one asked place chunks shown
-    (record { does = does; has = grown_given one bytes shown more refl read only takes some grows; is = way })
-    ∙ sym (is_chunk other same place chunks shown splits))
+    let has = file_given one (Split asked) (showing bytes shown) first refl read (ap (λ name. name ∷ []) only)
+    (at_first more grows takes (as_long asked shown first some long)) in
+    is_chunk one asked place chunks first (record { does = does; has = has; is = way })
+    ∙ sym (is_chunk other same place chunks first splits))
     (rw c.in_ok-inputs.ensures at (c.left_over.ensures (Split asked) read refl refl))

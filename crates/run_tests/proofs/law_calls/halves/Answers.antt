@@ -30,10 +30,10 @@ meet law one other asked asked_too chunks input two first second =
     first second place (subst (λ count. place < count) two within))
 
 pub returns : goal.returns
-returns c asked asked_too chunks two read read_too only only_too first second =
-    let (rest, splits) = rw c.in-Some.is at (c.in_ok-front.ensures asked read only) in
-    let (rest_too, splits_too) = rw c.in-Some-2.is at (c.in_ok-back.ensures asked_too read_too only_too) in
-    let found = in_file c.args.bytes.now c.args.bytes.now in
+returns c asked asked_too chunks two read read_too only only_too first second long =
+    let (rest, splits) = rw c.in-Some.is at (c.in_ok-front.ensures asked read only long) in
+    let (rest_too, splits_too) = rw c.in-Some-2.is at (c.in_ok-back.ensures asked_too read_too only_too long) in
+    let found = in_file c.args.bytes.now c.args.shown.now in
     let one = run_of _ _ found rest c.in-Some.front 0 in
     let other = run_of _ _ found rest_too c.in-Some-2.back 0 in
     c.in_ok-extend_from_slice.ensures.items
