@@ -8,6 +8,8 @@ mod dir_steps;
 #[cfg(test)]
 mod dir_tests;
 #[cfg(test)]
+mod dir_watch_steps;
+#[cfg(test)]
 mod dir_watch_tests;
 #[cfg(test)]
 mod folder;
