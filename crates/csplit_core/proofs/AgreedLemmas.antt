@@ -23,7 +23,7 @@ use Rattle.csplit_core.specs.{
   Place.{Place, in_section, left_out, nowhere, place_from, place_of, IsUndecided, is_in, lines_into, ArePlaced},
 }
 use Rattle.csplit_core.proofs.WholeLemmas.{between_rest, after_within, ends_after_all}
-use Rattle.ports_core.{specs.Part.IsBeginning, proofs.AgreedLemmas.{agreed_as, nothing_waits}}
+use Rattle.engine_core.{specs.Written.IsBeginning, proofs.AgreedLemmas.{agreed_as, nothing_waits}}
 use Rattle.bre_core.specs.Pattern.{Pattern}
 use Rattle.operand_core.specs.Style.{Style}
 

@@ -52,19 +52,19 @@ use Rattle.csplit_core.proofs.{
   LineLemmas.{all_lines-append, bytes_between, length-all_lines, count-append, count_from, first_still, rest_more},
   LineLemmas.{from_further, first_further},
 }
-use Rattle.ports_core.specs.{
+use Rattle.engine_core.specs.{
   Draft.{Draft, share, made_of, shares_of, draft_part, with_bytes, with_next, told_of_files, size_of_file},
-  Slot.{effect, Slot},
-  declared.{fault.Fault.Fault, file_writer.Opening.{Opening, TheVariants.Never}, slot.State.TheVariants.{Closed}},
+  declared.file_writer.Opening.{Opening, TheVariants.Never},
   FileWriter.{Goes, Reaches, Leaves, WriterState, Writes, IsReady, size_of},
-  Part.{Begins, Part, lines_for},
+  Written.{Begins, Written, lines_for},
 }
-use Rattle.ports_core.proofs.{
+use Rattle.ports_core.specs.{Slot.{effect, Slot}, declared.{fault.Fault.Fault, slot.State.TheVariants.Closed}}
+use Rattle.engine_core.proofs.{
   ShareLemmas.{next_shares, bytes_begin, next_begins},
   FileWriterLemmas.{leaves_again, leaves_still, keeps_files, reaches_again, reaches_as, reaches_still, where_three},
   FileWriterLemmas.{stops_wider, put_nothing},
   WriterSteps.{goes_again, goes_as, goes_more, stops_among},
-  PartLemmas.part_trans,
+  WrittenLemmas.part_trans,
 }
 
 -- What is settled of complete lines, by where the plan over them ends.
@@ -143,11 +143,11 @@ pub keeps_on : {given : List Operand} {made : Style} {writer : WriterState} {two
 keeps_on first second = search (rules, leaves_again)
 
 -- what is written by two calls, if the style stays
-pub reaches_then : {told : Bool} {style other : Style} {low middle high : Part} {old mid new : List Slot}
+pub reaches_then : {visible : Bool} {style other : Style} {low middle high : Written} {old mid new : List Slot}
     {fault : Option Fault} {one two three : WriterState} → other ≡ style → Begins low middle
-    → Reaches (sizes_wanted style) one two low middle (effect told old mid) None
-    → Reaches (sizes_wanted other) two three middle high (effect told mid new) fault
-    → Reaches (sizes_wanted style) one three low high (effect told old new) fault
+    → Reaches (sizes_wanted style) one two low middle (effect visible old mid) None
+    → Reaches (sizes_wanted other) two three middle high (effect visible mid new) fault
+    → Reaches (sizes_wanted style) one three low high (effect visible old new) fault
 reaches_then same begins first second = reaches_again begins first (rw same at second)
 
 -- what style and operands decide stays as it is
@@ -242,28 +242,30 @@ module _ {cutter : CutterState} {x left : List ℕ} (n : ℕ) (some : 1 ≤ cutt
 -- Writing lines that wait to the open section.
 
 -- The first bytes of what waited were written and dropped, and `left` bytes are still to be written.
-pub record Emptying (told : Bool) (writer now : WriterState) (window left_in : Window) (n left : ℕ)
+pub record Emptying (visible : Bool) (writer now : WriterState) (window left_in : Window) (n left : ℕ)
     (old new : List Slot) : Type 0 where
   pub few : left ≤ n
   pub rest : left_in ≡ without_first window (n - left)
-  pub went : Goes writer now (with_bytes (take (n - left) window.held)) (effect told old new) None
+  pub went : Goes writer now (with_bytes (take (n - left) window.held)) (effect visible old new) None
   pub size : size_of now.current + length left_in.held ≤ size_of writer.current + length window.held
 
-pub all_held : {told : Bool} {writer : WriterState} {window : Window} {n : ℕ} {slots : List Slot} → IsReady writer slots
-    → Emptying told writer writer window window n n slots slots
+pub all_held : {visible : Bool} {writer : WriterState} {window : Window} {n : ℕ} {slots : List Slot}
+    → IsReady writer slots
+    → Emptying visible writer writer window window n n slots slots
 all_held {window = window} {n} ready = search (rules, put_nothing)
 
 -- more bytes go from the front of what waits
-module _ {told : Bool} {writer now : WriterState} {window left_in : Window} {n left : ℕ} {old mid : List Slot}
-    (so_far : Emptying told writer now window left_in n left old mid) (bytes : ℕ) (front rest : List ℕ)
+module _ {visible : Bool} {writer now : WriterState} {window left_in : Window} {n left : ℕ} {old mid : List Slot}
+    (so_far : Emptying visible writer now window left_in n left old mid) (bytes : ℕ) (front rest : List ℕ)
     (is : left_in.held ≡ front ++ rest) (within : bytes ≤ length front) where
   taken_more : take (n - left) window.held ++ take bytes front ≡ take (n - left + bytes) window.held
   taken_more = grind (arith, common_steps, take-add)
 
   pub empties : bytes ≤ left → {next : WriterState} {after : Window} {new : List Slot}
-      → after ≡ without_first left_in bytes → Goes now next (with_bytes (take bytes front)) (effect told mid new) None
+      → after ≡ without_first left_in bytes
+      → Goes now next (with_bytes (take bytes front)) (effect visible mid new) None
       → size_of next.current ≤ size_of now.current + length (take bytes front)
-      → Emptying told writer next window after n (left - bytes) old new
+      → Emptying visible writer next window after n (left - bytes) old new
   empties few dropped went more =
       let less : length front ≤ length left_in.held = (grind (arith, common_steps)) in
       let count : n - left + bytes ≡ n - (left - bytes) = (let all = so_far.few in omega arith) in record {
@@ -275,8 +277,8 @@ module _ {told : Bool} {writer now : WriterState} {window left_in : Window} {n l
 
   -- a write of such bytes stopped
   pub empties_short : bytes ≤ left → {next : WriterState} {new : List Slot} {fault : Fault}
-      → Goes now next (with_bytes (take bytes front)) (effect told mid new) (Some fault)
-      → Goes writer next (with_bytes (take n window.held)) (effect told old new) (Some fault)
+      → Goes now next (with_bytes (take bytes front)) (effect visible mid new) (Some fault)
+      → Goes writer next (with_bytes (take n window.held)) (effect visible old new) (Some fault)
   empties_short few stopped =
       let count : n - left + bytes + (left - bytes) ≡ n = (let all = so_far.few in omega arith) in
       goes_as (search (rules, taken_more, take-add))
@@ -314,11 +316,11 @@ module _ {delim most over front : ℕ} {held text : List ℕ} (parts : Parted de
   pub rest_fits : but_last_lines delim most (drop front held ++ drop (over - front) text) ≡ []
   rest_fits = search (rules, but_last_lines-last)
 
-  pub hold_on : {told : Bool} {writer between next : WriterState} {piece : List ℕ} {old mid new : List Slot}
+  pub hold_on : {visible : Bool} {writer between next : WriterState} {piece : List ℕ} {old mid new : List Slot}
       {fault : Option Fault} → piece ≡ take (over - front) text
-      → Goes writer between (with_bytes (take front held)) (effect told old mid) None
-      → Goes between next (with_bytes piece) (effect told mid new) fault
-      → Goes writer next (with_bytes (but_last_lines delim most (held ++ text))) (effect told old new) fault
+      → Goes writer between (with_bytes (take front held)) (effect visible old mid) None
+      → Goes between next (with_bytes piece) (effect visible mid new) fault
+      → Goes writer next (with_bytes (but_last_lines delim most (held ++ text))) (effect visible old new) fault
   hold_on piece_is first second = search (rules, goes_as, goes_more)
 
 pub kept_window : {window mid : Window} (new : Window) {over front : ℕ} {text : List ℕ}
@@ -379,14 +381,14 @@ module _ {cutter : CutterState} {x left bytes : List ℕ} {at : IsAt (bare cutte
     settled = taken_is;
   }
 
-pub hold_goes : {told : Bool} {cutter : CutterState} {writer : WriterState} {window : Window} {left : List ℕ}
+pub hold_goes : {visible : Bool} {cutter : CutterState} {writer : WriterState} {window : Window} {left : List ℕ}
     {old new : List Slot} {fault : Option Fault} → IsFit cutter → (cutter.aim ≡ Below → ⊥)
     → Goes cutter.writer writer (with_bytes (but_last_lines cutter.window.delim cutter.window.most left))
-    (effect told old new) fault
+    (effect visible old new) fault
     → IfNone fault
     (window ≡ record cutter.window { held = last_lines cutter.window.delim cutter.window.most left })
     → IfNone fault (size_of writer.current + length window.held ≤ size_of cutter.writer.current + length left)
-    → HoldsLines told cutter left old new (record cutter { writer = writer; window = window }) fault
+    → HoldsLines visible cutter left old new (record cutter { writer = writer; window = window }) fault
 hold_goes {cutter = cutter} {writer} {window} {left} {fault = fault} fit differs goes waits fewer = record {
   keeps = search rules;
   reaches = λ x at arrives. reaches_as refl (sym (held_part arrives fit differs bytes_is))
@@ -407,11 +409,11 @@ hold_goes {cutter = cutter} {writer} {window} {left} {fault = fault} fit differs
 
 -- if the cut is below the current line, no line waits
 
-pub hold_past : {told : Bool} {cutter : CutterState} {window : Window} {left : List ℕ} {slots : List Slot} {n : ℕ}
+pub hold_past : {visible : Bool} {cutter : CutterState} {window : Window} {left : List ℕ} {slots : List Slot} {n : ℕ}
     → cutter.aim ≡ Below → IsReady cutter.writer slots → n ≡ length cutter.window.held
     → length cutter.window.held ≤ length left
     → window ≡ without_first cutter.window n
-    → HoldsLines told cutter left slots slots (record cutter { window = window }) None
+    → HoldsLines visible cutter left slots slots (record cutter { window = window }) None
 hold_past {cutter = cutter} {window} {left} {n = n} aim ready all less dropped = record {
   keeps = search (rules, leaves_still);
   reaches = λ x at arrives. reaches_still keeps_files (search (rules, settled_part_is, drafts));
@@ -496,12 +498,12 @@ leads_on {cutter} at cut goes rest run =
 -- The contract of `cut_at`, by how far it came. First the lines before the cut are written, then the run goes on, and
 -- then the next section begins.
 
-pub cut_stopped : {told : Bool} {due : Due} {next : CutterState} {old new : List Slot} {fault : Fault}
+pub cut_stopped : {visible : Bool} {due : Due} {next : CutterState} {old new : List Slot} {fault : Fault}
     → next.operands ≡ due.cutter.operands → next.style ≡ due.cutter.style
     → Leaves due.cutter.writer next.writer old new (Some fault)
     → ((x : List ℕ) (at : IsAt (bare due.cutter) x due.left) → CutsNow due x at
-    → Puts due.cutter next (part_at at) (settled_part due.cutter x) (effect told old new) (Some fault))
-    → CutsAll told due [] old new next (Some fault)
+    → Puts due.cutter next (part_at at) (settled_part due.cutter x) (effect visible old new) (Some fault))
+    → CutsAll visible due [] old new next (Some fault)
 cut_stopped operands style leaves reaches = search rules
 
 -- where the run stands after the cut
@@ -512,14 +514,14 @@ passed_state : (cutter : CutterState) {mid : CutterState} {writer : WriterState}
 passed_state cutter passed are = rw passed.same at (passed.state _ _ are)
 
 -- the lines before the cut are written, and then the next section begins
-next_goes : {told : Bool} {cutter mid : CutterState} {writer next : WriterState} {cut : CutPoint} {before : List ℕ}
+next_goes : {visible : Bool} {cutter mid : CutterState} {writer next : WriterState} {cut : CutPoint} {before : List ℕ}
     {opening : Opening} {old between new : List Slot} {fault : Option Fault}
     → WentOn (record cutter { writer = writer }) cut mid
-    → Goes cutter.writer writer (with_bytes before) (effect told old between) None
+    → Goes cutter.writer writer (with_bytes before) (effect visible old between) None
     → opening ≡ opening_of mid.style (kept_by (state_in mid).operands)
-    → Goes mid.writer next (with_next opening) (effect told between new) fault
+    → Goes mid.writer next (with_next opening) (effect visible between new) fault
     → Goes cutter.writer next (λ draft. with_next (opening_of cutter.style
-    (kept_by (drop mid.progress.done cutter.operands))) (with_bytes before draft)) (effect told old new) fault
+    (kept_by (drop mid.progress.done cutter.operands))) (with_bytes before draft)) (effect visible old new) fault
 next_goes {before = before} passed went opening_is began = goes_again _ (λ draft. refl)
     (λ manner. bytes_begin manner before) went (rw passed.same at (rw opening_is at began))
 
@@ -560,21 +562,21 @@ module _ {due : Due} {n : ℕ} {before : List ℕ} (fit : IsFit due.cutter) (wil
       (sym (cut_draft now (kept_by state.operands)))
       (begun_by cutter.style cutter.operands _ rest (leads_on at due.cut now.goes _ rest))
 
-  pub cut_put_stopped : {told : Bool} {next : CutterState} {old new : List Slot} {fault : Fault}
+  pub cut_put_stopped : {visible : Bool} {next : CutterState} {old new : List Slot} {fault : Fault}
       → next.operands ≡ due.cutter.operands → next.style ≡ due.cutter.style
-      → Goes due.cutter.writer next.writer (with_bytes before) (effect told old new) (Some fault)
-      → CutsAll told due [] old new next (Some fault)
+      → Goes due.cutter.writer next.writer (with_bytes before) (effect visible old new) (Some fault)
+      → CutsAll visible due [] old new next (Some fault)
   cut_put_stopped operands style goes = cut_stopped operands style goes.leaves
       (λ x at now. stops_wider (goes.reaches (manner_of due.cutter.style) (draft_at at) at.writes)
       (part_trans _ _ _ (search (rules, next_begins)) (cut_begins now)))
 
-  pub cut_next_stopped : {told : Bool} {mid : CutterState} {writer next : WriterState} {opening : Opening}
+  pub cut_next_stopped : {visible : Bool} {mid : CutterState} {writer next : WriterState} {opening : Opening}
       {old between new : List Slot} {fault : Fault}
-      → Goes due.cutter.writer writer (with_bytes before) (effect told old between) None
+      → Goes due.cutter.writer writer (with_bytes before) (effect visible old between) None
       → WentOn (record due.cutter { writer = writer }) due.cut mid
       → opening ≡ opening_of mid.style (kept_by (state_in mid).operands)
-      → Goes mid.writer next (with_next opening) (effect told between new) (Some fault)
-      → CutsAll told due [] old new (record mid { writer = next }) (Some fault)
+      → Goes mid.writer next (with_next opening) (effect visible between new) (Some fault)
+      → CutsAll visible due [] old new (record mid { writer = next }) (Some fault)
   cut_next_stopped went passed opening_is stops =
       let stopped = next_goes passed went opening_is stops in
       cut_stopped (ap (λ (c : CutterState). c.operands) passed.same) (ap (λ (c : CutterState). c.style) passed.same)
@@ -602,18 +604,18 @@ end_of true left {rest} all n all_is skipped whole = (
 )
 end_of false left all n all_is skipped whole = (first_lines newline n left, rw (whole refl, all_is) (sym (first_lines_then_rest newline n left)))
 
-module _ {told : Bool} {due : Due} {mid : CutterState} {writer next : WriterState} {n : ℕ} {before rest : List ℕ}
+module _ {visible : Bool} {due : Due} {mid : CutterState} {writer next : WriterState} {n : ℕ} {before rest : List ℕ}
     (all : List ℕ) {opening : Opening} {old between new : List Slot} (fit : IsFit due.cutter)
     (will : WillCut due.cutter due.cut) (n_is : n ≡ due.cut.line - due.place)
     (first : before ≡ first_lines newline n due.left) (all_is : all ≡ after_lines newline n due.left)
     (skipped : suppress_in due.cutter ≡ true → rest ≡ after_lines newline 1 all)
     (whole : suppress_in due.cutter ≡ false → rest ≡ all)
-    (went : Goes due.cutter.writer writer (with_bytes before) (effect told old between) None)
+    (went : Goes due.cutter.writer writer (with_bytes before) (effect visible old between) None)
     (passed : WentOn (record due.cutter { writer = writer }) due.cut mid)
     (opening_is : opening ≡ opening_of mid.style (kept_by (state_in mid).operands))
-    (began : Goes mid.writer next (with_next opening) (effect told between new) None) where
+    (began : Goes mid.writer next (with_next opening) (effect visible between new) None) where
   after_at : {x : List ℕ} {at : IsAt (bare due.cutter) x due.left} (now : CutsNow due x at)
-      → IsAfter told due x (part_at at) old new (record mid { writer = next }) rest
+      → IsAfter visible due x (part_at at) old new (record mid { writer = next }) rest
   after_at {x} {at} now =
       let cutter = due.cutter in
       let cut = due.cut in
@@ -649,7 +651,7 @@ module _ {told : Bool} {due : Due} {mid : CutterState} {writer next : WriterStat
       })
 
   pub cut_done : size_of next.current ≡ 0 → length rest ≤ length due.left
-      → CutAt told due old new (record mid { writer = next }) rest
+      → CutAt visible due old new (record mid { writer = next }) rest
   cut_done empty shorter = record {
     fewer = passed.fewer;
     spreading = record {

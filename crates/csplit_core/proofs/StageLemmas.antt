@@ -11,21 +11,20 @@ use Rattle.seg_core.{
 }
 use Rattle.ports_core.specs.{
   Slot.{effect, Slot},
-  declared.{
-    fault.Fault.{Fault, TheVariants.Memory},
-    verdict.Verdict.Verdict,
-    file_writer.Opening.{Opening, TheVariants.Never},
-  },
-  inner.Part.HasLines,
+  declared.{fault.Fault.{Fault, TheVariants.Memory}, verdict.Verdict.Verdict},
+}
+use Rattle.engine_core.specs.{
+  declared.file_writer.Opening.{Opening, TheVariants.Never},
+  inner.Written.HasLines,
   Draft.{Draft, draft_part, with_bytes, with_next, Manner},
   FileWriter.{paused, Goes, Leaves, At, WriterState, Writes, size_of, IsReady as CanWrite, IsManner, Breaks},
   FileWriter.{OwnsFiles, manner_in},
-  Part.{OutputsAt, nothing, writes},
+  Written.{OutputsAt, nothing, writes},
   Engine.{is_verdict, CutsOff, EndsWith, EndsThere, Finishes, StandsAt, IsMet, IsMetWith, IsMetThere, Sweeps},
   Swept.{AreThere, Swept},
 }
-use Rattle.ports_core.proofs.{
-  PartLemmas.{nothing_begins_part, outputs_count, stopped_in_turn},
+use Rattle.engine_core.proofs.{
+  WrittenLemmas.{nothing_begins_part, outputs_count, stopped_in_turn},
   ShareLemmas.{bytes_begin, next_begins, nothing_part},
   SlotSteps.none_past,
   FileWriterLemmas.{breaks_as, same_manner, in_turn, lacks_memory, reaches_as, stops_wider, in_any},
@@ -64,7 +63,7 @@ use Rattle.csplit_core.specs.{
   CsplitState.{CsplitState, Holds, whole_lines, IsReady, Owns, terms, files, work},
 }
 use Rattle.ports_core.specs.declared.fault.Fault.TheVariants as fault_is
-use Rattle.ports_core.specs.Engine as engine
+use Rattle.engine_core.specs.Engine as engine
 
 -- What opening the cutter leaves: the first section, without a line yet.
 
@@ -149,12 +148,13 @@ first_stands operands style writes ends false live = inl (record {
 })
 first_stands operands style writes ends true past = search (rules, plan_once, first_settled)
 
-pub first_opened : (told : Bool) {style : Style} {operands : List Operand} {old new : List Slot} {writer : WriterState}
+pub first_opened : (visible : Bool) {style : Style} {operands : List Operand} {old new : List Slot}
+    {writer : WriterState}
     (aim : Attempt) → 2 ≤ length old
-    → Goes (writer_for style) writer (with_next (opening_of style (kept_by operands))) (effect told old new) None
+    → Goes (writer_for style) writer (with_next (opening_of style (kept_by operands))) (effect visible old new) None
     → size_of writer.current ≡ 0 → SaysFirst style operands aim → MovesOn style operands 0 first_progress aim
-    → Opened told style operands old new (first_cutter operands style writer aim)
-first_opened told {style} {operands} {old} {new} {writer} aim two begun none says moves =
+    → Opened visible style operands old new (first_cutter operands style writer aim)
+first_opened visible {style} {operands} {old} {new} {writer} aim two begun none says moves =
     let ends = first_ends operands says moves in
     let none' : size_of writer.current + 0 ≡ 0 = omega arith in record {
       asked = refl;
@@ -174,14 +174,17 @@ first_opened told {style} {operands} {old} {new} {writer} aim two begun none say
 -- What `open` returns once the next operand was looked up.
 
 -- the writer that was made goes on
-pub made_goes : {told : Bool} (style : Style) {first next : WriterState} {change : Draft → Draft} {old new : List Slot}
-    {fault : Option Fault} → first ≡ new_for style → Goes (paused first) next change (effect told old new) fault
-    → Goes (writer_for style) next change (effect told old new) fault
+pub made_goes : {visible : Bool} (style : Style) {first next : WriterState} {change : Draft → Draft}
+    {old new : List Slot}
+    {fault : Option Fault} → first ≡ new_for style → Goes (paused first) next change (effect visible old new) fault
+    → Goes (writer_for style) next change (effect visible old new) fault
 made_goes style is goes = rw is at goes
 
-pub begun_not : {told : Bool} {style : Style} {opening : Opening} {old new : List Slot} {next : WriterState} {f : Fault}
-    → 2 ≤ length old → Goes (writer_for style) next (with_next opening) (effect told old new) (Some f) → next.files ≡ []
-    → BegunNot told style (draft_part (manner_of style) (with_next opening nothing_yet)) old new f
+pub begun_not : {visible : Bool} {style : Style} {opening : Opening} {old new : List Slot} {next : WriterState}
+    {f : Fault}
+    → 2 ≤ length old → Goes (writer_for style) next (with_next opening) (effect visible old new) (Some f)
+    → next.files ≡ []
+    → BegunNot visible style (draft_part (manner_of style) (with_next opening nothing_yet)) old new f
 begun_not {style = style} {old = old} {new} {f = f} two goes none = record {
   reaches = reaches_as (sym (nothing_part (sizes_wanted style))) refl
       (record { there = (goes.reaches (manner_of style) nothing_yet (first_writes style)).there });
@@ -190,9 +193,9 @@ begun_not {style = style} {old = old} {new} {f = f} two goes none = record {
 }
 
 -- if there is no memory, nothing was done
-pub opened_lacks : (told : Bool) {style : Style} (operands : List Operand) {slots : List Slot} {fault : Fault}
-    → fault ≡ Memory → BegunNot told style (settled_of style operands []) slots slots fault
-opened_lacks told operands lacks = search (rules, stops_wider, in_turn, nothing_begins_part, none_past)
+pub opened_lacks : (visible : Bool) {style : Style} (operands : List Operand) {slots : List Slot} {fault : Fault}
+    → fault ≡ Memory → BegunNot visible style (settled_of style operands []) slots slots fault
+opened_lacks visible operands lacks = search (rules, stops_wider, in_turn, nothing_begins_part, none_past)
 
 -- What ending the cutter leaves: all lines that waited belong to the last section, which ends. It also finds the
 -- verdict of the work.
@@ -233,11 +236,11 @@ all_held : (cutter : CutterState) {n : ℕ} → n ≡ length cutter.window.held
     → take n cutter.window.held ≡ cutter.window.held
 all_held cutter all = grind (arith, common_steps)
 
-pub end_goes : {told : Bool} {cutter : CutterState} {between next : WriterState} (window : Window) {n : ℕ}
+pub end_goes : {visible : Bool} {cutter : CutterState} {between next : WriterState} (window : Window) {n : ℕ}
     {old mid new : List Slot} {fault : Option Fault} → IsFit cutter → n ≡ length cutter.window.held
-    → Goes cutter.writer between (with_bytes (take n cutter.window.held)) (effect told old mid) None
-    → Goes between next (with_next Never) (effect told mid new) fault
-    → EndsAll told cutter old new (record cutter { writer = next; window = window }) fault
+    → Goes cutter.writer between (with_bytes (take n cutter.window.held)) (effect visible old mid) None
+    → Goes between next (with_next Never) (effect visible mid new) fault
+    → EndsAll visible cutter old new (record cutter { writer = next; window = window }) fault
 end_goes {cutter = cutter} window {fault = fault} fit all goes ends =
     let both = goes_again (λ draft. with_next Never (with_bytes cutter.window.held draft)) (λ draft. refl)
     (λ manner. bytes_begin manner cutter.window.held) (goes_as (all_held cutter all) goes) ends in record {
@@ -247,10 +250,10 @@ end_goes {cutter = cutter} window {fault = fault} fit all goes ends =
       judged = in_any fault (λ x stands. search (rules, plan_once, runs_to));
     }
 
-pub end_short : {told : Bool} {cutter : CutterState} {next : WriterState} {window : Window} {n : ℕ}
+pub end_short : {visible : Bool} {cutter : CutterState} {next : WriterState} {window : Window} {n : ℕ}
     {old new : List Slot} {fault : Fault} → IsFit cutter → n ≡ length cutter.window.held
-    → Goes cutter.writer next (with_bytes (take n cutter.window.held)) (effect told old new) (Some fault)
-    → EndsAll told cutter old new (record cutter { writer = next; window = window }) (Some fault)
+    → Goes cutter.writer next (with_bytes (take n cutter.window.held)) (effect visible old new) (Some fault)
+    → EndsAll visible cutter old new (record cutter { writer = next; window = window }) (Some fault)
 end_short {cutter = cutter} fit all goes =
     let stopped = goes_as (all_held cutter all) goes in record {
       keeps = search rules;
@@ -332,8 +335,8 @@ held_is {stage} {x} {result} holds few is = by holds.stands where
 
 -- Want of memory
 
-pub takes_lacking : {told : Bool} {cutter next : CutterState} {t : List ℕ} {old new : List Slot}
-    → Takes told cutter t old new next None → Takes told cutter t old new next (Some Memory)
+pub takes_lacking : {visible : Bool} {cutter next : CutterState} {t : List ℕ} {old new : List Slot}
+    → Takes visible cutter t old new next None → Takes visible cutter t old new next (Some Memory)
 takes_lacking {cutter = cutter} {t = t} took = record {
   keeps = search (rules, keeps_on, leaves_lacking);
   reaches = λ x whole stands. reaches_again (more_settled cutter t whole) (took.reaches x whole stands)
@@ -344,10 +347,10 @@ takes_lacking {cutter = cutter} {t = t} took = record {
 
 -- The end
 
-pub closed_on : {told : Bool} {stage : CsplitState} (last : CsplitState) {next : CsplitState} {two : CutterState}
+pub closed_on : {visible : Bool} {stage : CsplitState} (last : CsplitState) {next : CsplitState} {two : CutterState}
     {old mid new : List Slot} {fault : Option Fault} → two ≡ last.cutter
-    → Takes told stage.cutter stage.rest old mid last.cutter None → EndsAll told two mid new next.cutter fault
-    → Closed told stage old new next fault
+    → Takes visible stage.cutter stage.rest old mid last.cutter None → EndsAll visible two mid new next.cutter fault
+    → Closed visible stage old new next fault
 closed_on {stage = stage} last {fault = fault} is took second = let first = rw (← is) at took in record {
   keeps = keeps_on first.keeps second.keeps;
   reaches = λ x front stands. reaches_then first.keeps.style (more_settled stage.cutter stage.rest front) (first.reaches x front stands)
@@ -356,8 +359,9 @@ closed_on {stage = stage} last {fault = fault} is took second = let first = rw (
 }
 
 -- the open line could not be taken in
-pub closed_short : {told : Bool} {stage next : CsplitState} {old new : List Slot} {fault : Fault}
-    → Takes told stage.cutter stage.rest old new next.cutter (Some fault) → Closed told stage old new next (Some fault)
+pub closed_short : {visible : Bool} {stage next : CsplitState} {old new : List Slot} {fault : Fault}
+    → Takes visible stage.cutter stage.rest old new next.cutter (Some fault)
+    → Closed visible stage old new next (Some fault)
 closed_short {stage = stage} stopped = record {
   keeps = stopped.keeps;
   reaches = λ x front stands. stops_wider
@@ -393,49 +397,49 @@ pub line_at : {before stage : CsplitState} {text : List ℕ} (end : List ℕ) �
     → delimiters newline stage.rest ≡ 0 → IsLine end → IsLine text
 line_at end is text_is none line = search (rules, joined_line)
 
-pub lacks_at : {told : Bool} {before stage : CsplitState} (t : List ℕ) {slots : List Slot} → before ≡ stage
+pub lacks_at : {visible : Bool} {before stage : CsplitState} (t : List ℕ) {slots : List Slot} → before ≡ stage
     → IsSound stage.cutter → CanWrite stage.cutter.writer slots
-    → Takes told stage.cutter t slots slots before.cutter (Some Memory)
+    → Takes visible stage.cutter t slots slots before.cutter (Some Memory)
 lacks_at t is sound ready = rw is (takes_wider t (inl refl) (takes_lacking (takes_none sound ready)))
 
 -- the first line was taken in, and then the other lines
 
-lines_from : {told : Bool} {before stage : CsplitState} {next : CutterState} {lines : List ℕ} (end others : List ℕ)
+lines_from : {visible : Bool} {before stage : CsplitState} {next : CutterState} {lines : List ℕ} (end others : List ℕ)
     {old new : List Slot} {fault : Option Fault}
     → before ≡ stage → lines ≡ end ++ others
-    → Takes told before.cutter ((before.rest ++ end) ++ others) old new next fault
-    → Takes told stage.cutter (stage.rest ++ lines) old new next fault
+    → Takes visible before.cutter ((before.rest ++ end) ++ others) old new next fault
+    → Takes visible stage.cutter (stage.rest ++ lines) old new next fault
 lines_from end others same is takes = grind (arith, common_steps)
 
 -- no line was open
-pub lines_alone : {told : Bool} {before stage : CsplitState} {next : CutterState} {lines : List ℕ} {n : ℕ}
+pub lines_alone : {visible : Bool} {before stage : CsplitState} {next : CutterState} {lines : List ℕ} {n : ℕ}
     {old new : List Slot} {fault : Option Fault} → before ≡ stage → n ≡ length before.rest → eqb n 0 ≡ true
-    → Takes told before.cutter lines old new next fault
-    → Takes told stage.cutter (stage.rest ++ lines) old new next fault
+    → Takes visible before.cutter lines old new next fault
+    → Takes visible stage.cutter (stage.rest ++ lines) old new next fault
 lines_alone is size empty takes = grind (arith, common_steps)
 
-module _ {told : Bool} {before stage : CsplitState} {lines text : List ℕ} (end : List ℕ) {others : List ℕ}
+module _ {visible : Bool} {before stage : CsplitState} {lines text : List ℕ} (end : List ℕ) {others : List ℕ}
     (same : before ≡ stage) (text_is : text ≡ before.rest ++ end) (is : lines ≡ end ++ others)
     (last : ends_with newline end ≡ false → others ≡ []) (whole : ends_with newline lines ≡ true) where
   pub lines_stop : {next : CutterState} {old new : List Slot} {fault : Fault}
-      → Takes told before.cutter text old new next (Some fault)
-      → Takes told stage.cutter (stage.rest ++ lines) old new next (Some fault)
+      → Takes visible before.cutter text old new next (Some fault)
+      → Takes visible stage.cutter (stage.rest ++ lines) old new next (Some fault)
   lines_stop stopped =
       lines_from end others same is (takes_wider others (open_complete before.rest end (first_complete end last is whole)) (rw text_is at stopped))
 
   pub lines_after : {mid next : CutterState} {old between new : List Slot} {fault : Option Fault}
-      → Takes told before.cutter text old between mid None → Takes told mid others between new next fault
-      → Takes told stage.cutter (stage.rest ++ lines) old new next fault
+      → Takes visible before.cutter text old between mid None → Takes visible mid others between new next fault
+      → Takes visible stage.cutter (stage.rest ++ lines) old new next fault
   lines_after first second =
       lines_from end others same is (takes_again (open_complete before.rest end (first_complete end last is whole)) (rw text_is at first) second)
 
 -- A piece
 
-pub past_passes : {told : Bool} {view stage : CsplitState} {taken : ℕ} {piece : List ℕ} {slots : List Slot}
+pub past_passes : {visible : Bool} {view stage : CsplitState} {taken : ℕ} {piece : List ℕ} {slots : List Slot}
     → view ≡ stage
     → view.cutter.aim ≡ Below → CanWrite stage.cutter.writer slots → IsSound stage.cutter
     → delimiters newline stage.rest ≡ 0
-    → Passes told stage piece slots slots (record view { taken = taken }) (Ok tt)
+    → Passes visible stage piece slots slots (record view { taken = taken }) (Ok tt)
 past_passes {stage = stage} is aim ready sound unbroken =
     let aimed : stage.cutter.aim ≡ Below = search rules in
     rw is (record {
@@ -452,13 +456,13 @@ kept_open : {A : Type 0} (tail after : List ℕ) → delimiters newline tail ≡
 kept_open tail after none fact past live = grind (arith, common_steps)
 
 -- complete lines were taken in, and what follows these lines waits
-pub passes_on : {told : Bool} {view stage : CsplitState} (next : CsplitState) {mid : CutterState}
+pub passes_on : {visible : Bool} {view stage : CsplitState} (next : CsplitState) {mid : CutterState}
     {piece lines rest : List ℕ} (text : List ℕ) {old new : List Slot} (result : Result (Unit {0}) Fault) → view ≡ stage
     → (view.cutter.aim ≡ Below → ⊥) → whole_lines (view.rest ++ piece) ≡ lines
-    → Takes told view.cutter lines old new mid None → next.cutter ≡ mid → (mid.aim ≡ Below → rest ≡ [])
+    → Takes visible view.cutter lines old new mid None → next.cutter ≡ mid → (mid.aim ≡ Below → rest ≡ [])
     → open_line (view.rest ++ piece) ≡ rest ++ text → OnOk result (mid.aim ≡ Below → next.rest ≡ rest)
     → OnOk result ((mid.aim ≡ Below → ⊥) → next.rest ≡ rest ++ text) → IfErr result (λ fault. fault ≡ Memory)
-    → Passes told stage piece old new next result
+    → Passes visible stage piece old new next result
 passes_on {view = view} next {mid} {piece} end (Ok done) is differs lines_are took cutter none open_is past live lacks =
     let text = view.rest ++ piece in
     let rest = kept_open (open_line text) next.rest (open_unbroken text) (below_or_not mid.aim)
@@ -482,9 +486,9 @@ passes_on next end (Err fault) is differs lines_are took cutter none open_is pas
 
 -- The last line
 
-pub last_none : {told : Bool} {before stage : CsplitState} {n : ℕ} {slots : List Slot} → before ≡ stage
+pub last_none : {visible : Bool} {before stage : CsplitState} {n : ℕ} {slots : List Slot} → before ≡ stage
     → n ≡ length before.rest → eqb n 0 ≡ true → CanWrite stage.cutter.writer slots → IsSound stage.cutter
-    → Takes told stage.cutter stage.rest slots slots stage.cutter None
+    → Takes visible stage.cutter stage.rest slots slots stage.cutter None
 last_none is size empty ready sound =
     rw (ap (λ (s : CsplitState). s.rest) (sym is) ∙ none_there (ap (λ k. eqb k 0) size) empty) (takes_none sound ready)
 
@@ -515,10 +519,10 @@ pub owns_on : {stage next : CsplitState} {old new : List Slot} {fault : Option F
 owns_on leaves first own = search rules
 
 -- the outputs have what is settled, and the writer's files are its own
-stands_so : (told : Bool) {before : List Slot} {stage : CsplitState} {x : List ℕ} {now : List Slot}
-    → StandsAt terms stage told before x now
-    → At told stage.cutter.writer before (settled_part stage.cutter (whole_lines x)) now
-stands_so told at = search (rules, settled_is)
+stands_so : (visible : Bool) {before : List Slot} {stage : CsplitState} {x : List ℕ} {now : List Slot}
+    → StandsAt terms stage visible before x now
+    → At visible stage.cutter.writer before (settled_part stage.cutter (whole_lines x)) now
+stands_so visible at = search (rules, settled_is)
 
 -- Faults
 
@@ -533,8 +537,8 @@ met_by lacks Ends style old new fault same breaks = search rules
 
 -- a piece was taken in
 
-holds_by : {told : Bool} {stage next : CsplitState} {piece : List ℕ} {old new : List Slot} {x : List ℕ}
-    → Passes told stage piece old new next (Ok tt) → Holds stage x
+holds_by : {visible : Bool} {stage next : CsplitState} {piece : List ℕ} {old new : List Slot} {x : List ℕ}
+    → Passes visible stage piece old new next (Ok tt) → Holds stage x
     → (stage.cutter.aim ≡ Below) ⊎ (stage.cutter.aim ≡ Below → ⊥) → Holds next (x ++ piece)
 holds_by {piece = piece} {x} passed holds (inl is_below) = record {
   stands = inr (rw (passed.passed.still is_below, lines_more x piece)
@@ -555,23 +559,23 @@ has_settled stage x = search rules
 
 -- why a fault came as a piece was taken in
 
-pub passes_by : (told : Bool) (stage next : CsplitState) (piece : List ℕ) (old new : List Slot)
-    (result : Result (Unit {0}) Fault) → Passes told stage piece old new next result → IsReady stage old
+pub passes_by : (visible : Bool) (stage next : CsplitState) (piece : List ℕ) (old new : List Slot)
+    (result : Result (Unit {0}) Fault) → Passes visible stage piece old new next result → IsReady stage old
     → next.taken ≡ stage.taken + length piece → stage.taken + length piece < 2 ^ 63
-    → engine.Passes terms piece stage next (effect told old new) (IsMetWith terms piece stage) result
-passes_by told stage next piece old new (Ok done) passes is_ready taken fits = record {
+    → engine.Passes terms piece stage next (effect visible old new) (IsMetWith terms piece stage) result
+passes_by visible stage next piece old new (Ok done) passes is_ready taken fits = record {
   same = same_by csplit_work passes.took.keeps;
   size = omega arith;
   holds = λ x holds. holds_by passes holds (below_or_not stage.cutter.aim);
   outputs = λ before x at. rw (settled_then piece at.holds) at
-      ((passes.took.reaches (whole_lines x) (lines_whole x) at.holds.stands).there before (stands_so told at)).outputs;
+      ((passes.took.reaches (whole_lines x) (lines_whole x) at.holds.stands).there before (stands_so visible at)).outputs;
   ready = search (rules, same_manner);
   owns = owns_on passes.took.keeps.writer;
   there = passes.took.keeps.writer.owns.there;
   cut = tt;
   met = tt;
 }
-passes_by told stage next piece old new (Err fault) stopped is_ready taken fits = record {
+passes_by visible stage next piece old new (Err fault) stopped is_ready taken fits = record {
   same = same_by csplit_work stopped.took.keeps;
   size = omega arith;
   holds = tt;
@@ -581,8 +585,8 @@ passes_by told stage next piece old new (Err fault) stopped is_ready taken fits 
   there = stopped.took.keeps.writer.owns.there;
   cut = λ before x at. engine.cut (search (rules, not_verdict))
       (rw (settled_then piece at.holds, settled_is stage x) at
-      (stopped_in_turn (work stage).means.output told before _ _ fault new (has_settled stage (whole_lines x))
-      ((stopped.took.reaches (whole_lines x) (lines_whole x) at.holds.stands).there before (stands_so told at))));
+      (stopped_in_turn (work stage).means.output visible before _ _ fault new (has_settled stage (whole_lines x))
+      ((stopped.took.reaches (whole_lines x) (lines_whole x) at.holds.stands).there before (stands_so visible at))));
   met = search (rules, met_by);
 }
 
@@ -608,43 +612,43 @@ module _ (stage : CsplitState) (x : List ℕ) (holds : Holds stage x) where
       ∙ all_then (verdict_by stage.cutter.style stage.cutter.operands)
       (λ t. search (rules, past_plan, lines_whole)) (below_or_not stage.cutter.aim)
 
-module _ (told : Bool) (stage next : CsplitState) (old new : List Slot) where
-  pub judged_then : Closed told stage old new next None → {verdict : Option Verdict} → Judges next.cutter verdict
+module _ (visible : Bool) (stage next : CsplitState) (old new : List Slot) where
+  pub judged_then : Closed visible stage old new next None → {verdict : Option Verdict} → Judges next.cutter verdict
       → {x : List ℕ} → Holds stage x → verdict ≡ (work stage).verdict x
   judged_then closed judges {x} holds = judges (whole_lines x ++ stage.rest) (search (rules, lines_whole)) ∙ verdict_then stage x holds closed.keeps
 
-  pub whole_out : Closed told stage old new next None → {before : List Slot} {x : List ℕ}
-      → StandsAt terms stage told before x old → OutputsAt told before ((work stage).whole x) new
+  pub whole_out : Closed visible stage old new next None → {before : List Slot} {x : List ℕ}
+      → StandsAt terms stage visible before x old → OutputsAt visible before ((work stage).whole x) new
   whole_out closed {before} {x} at =
-      rw (whole_then stage x at.holds) at ((closed.reaches (whole_lines x) (lines_whole x) at.holds.stands).there before (stands_so told at)).outputs
+      rw (whole_then stage x at.holds) at ((closed.reaches (whole_lines x) (lines_whole x) at.holds.stands).there before (stands_so visible at)).outputs
 
-  pub ends_there : Closed told stage old new next None → {verdict : Verdict} → Judges next.cutter (Some verdict)
+  pub ends_there : Closed visible stage old new next None → {verdict : Verdict} → Judges next.cutter (Some verdict)
       → EndsThere terms stage verdict
   ends_there closed judges x holds = sym (judged_then closed judges holds)
 
-  pub ends_short : {fault : Fault} → Closed told stage old new next (Some fault) → IsReady stage old
-      → CutsOff terms stage (work stage).whole (effect told old new) fault
+  pub ends_short : {fault : Fault} → Closed visible stage old new next (Some fault) → IsReady stage old
+      → CutsOff terms stage (work stage).whole (effect visible old new) fault
   ends_short {fault} stopped ready before x at = engine.cut (search (rules, not_verdict))
       (rw (whole_then stage x at.holds, settled_is stage x) at
-      (stopped_in_turn (work stage).means.output told before _ _ fault new (has_settled stage (whole_lines x))
-      ((stopped.reaches (whole_lines x) (lines_whole x) at.holds.stands).there before (stands_so told at))))
+      (stopped_in_turn (work stage).means.output visible before _ _ fault new (has_settled stage (whole_lines x))
+      ((stopped.reaches (whole_lines x) (lines_whole x) at.holds.stands).there before (stands_so visible at))))
 
   -- the work ended with a verdict, and the files were removed after that
-  pub ends_judged : Closed told stage old new next None → {verdict : Verdict} → (cleared : List Slot)
+  pub ends_judged : Closed visible stage old new next None → {verdict : Verdict} → (cleared : List Slot)
       → ((first : ℕ) → Owns next first new → Swept (work next).clears first new cleared)
-      → CutsOff terms stage (work stage).whole (effect told old cleared) (fault_is.Verdict verdict)
+      → CutsOff terms stage (work stage).whole (effect visible old cleared) (fault_is.Verdict verdict)
   ends_judged closed cleared swept before x at =
       engine.judged refl new (whole_out closed at)
       (search (rules, owns_on))
 
 -- the contract of the end, however the end went
-pub finishes_by : (told : Bool) (stage next : CsplitState) (old new : List Slot) {result : Result (Unit {0}) Fault}
-    → Closes told stage old new next result → IsReady stage old → next.taken ≤ stage.taken
-    → Finishes terms stage next (effect told old new) (IsMetThere terms stage) result
-finishes_by told stage next old new (ended_well closed none) is_ready few = record {
+pub finishes_by : (visible : Bool) (stage next : CsplitState) (old new : List Slot) {result : Result (Unit {0}) Fault}
+    → Closes visible stage old new next result → IsReady stage old → next.taken ≤ stage.taken
+    → Finishes terms stage next (effect visible old new) (IsMetThere terms stage) result
+finishes_by visible stage next old new (ended_well closed none) is_ready few = record {
   same = same_by csplit_work closed.keeps;
   size = few;
-  well = λ x holds. sym (judged_then told stage next old new closed none holds);
+  well = λ x holds. sym (judged_then visible stage next old new closed none holds);
   outputs = search (rules, whole_out);
   writable = search rules;
   owns = owns_on closed.keeps.writer;
@@ -652,8 +656,8 @@ finishes_by told stage next old new (ended_well closed none) is_ready few = reco
   cut = tt;
   met = tt;
 }
-finishes_by told stage next old new (ended_short fault stopped) is_ready few = search (rules, same_by, owns_on, ends_short, met_by)
-finishes_by told stage next old new (ended_so verdict mid reached closed judges swept) is_ready few = record {
+finishes_by visible stage next old new (ended_short fault stopped) is_ready few = search (rules, same_by, owns_on, ends_short, met_by)
+finishes_by visible stage next old new (ended_so verdict mid reached closed judges swept) is_ready few = record {
   same = swept.same ∙ same_by csplit_work closed.keeps;
   size = few;
   well = tt;
@@ -662,17 +666,17 @@ finishes_by told stage next old new (ended_so verdict mid reached closed judges 
   owns = search (rules, owns_on);
   there = λ are. swept.there;
   cut = search (rules, ends_judged);
-  met = ends_there told stage mid old reached closed judges;
+  met = ends_there visible stage mid old reached closed judges;
 }
 
 -- if nothing was written yet, the outputs are those of a new writer
-pub none_stands : (told : Bool) (style : Style) {before slots : List Slot} → 2 ≤ length slots
-    → OutputsAt told before nothing slots → At told (writer_for style) before nothing slots
-none_stands told style {before} {slots} two at =
+pub none_stands : (visible : Bool) (style : Style) {before slots : List Slot} → 2 ≤ length slots
+    → OutputsAt visible before nothing slots → At visible (writer_for style) before nothing slots
+none_stands visible style {before} {slots} two at =
     record {
       owns = rw (let e : length slots ≡ length before = omega (
         arith,
-        outputs_count told before nothing slots
+        outputs_count visible before nothing slots
             at,
       ) in e) at (first_owns style two);
       outputs = at;

@@ -5,20 +5,14 @@ use Rattle.seg_core.{
   specs.{Line.{line_count, delimiters, ends_with}, Window.Window},
   proofs.EndLines.line_count-grows,
 }
-use Rattle.ports_core.{
-  specs.{
-    Part.{Part, Begins},
-    Slot.Slot,
-    declared.fault.Fault.Fault,
-    FileWriter.{IsReady},
-    Draft.draft_part,
-    InTurn.fault_in,
-  },
+use Rattle.engine_core.{
+  specs.{Written.{Written, Begins}, FileWriter.IsReady, Draft.draft_part, InTurn.fault_in},
   proofs.{
     FileWriterLemmas.{keeps_files, leaves_still, reaches_as, reaches_still, where_well, stops_wider},
-    PartLemmas.part_trans,
+    WrittenLemmas.part_trans,
   },
 }
+use Rattle.ports_core.specs.{Slot.Slot, declared.fault.Fault.Fault}
 use Rattle.csplit_core.specs.{
   Input.{newline, all_lines, without_newline},
   Operand.{Line, Number, Operand, Search, Target},
@@ -78,7 +72,7 @@ pub sound_held : {mid next : CutterState} {left : List ℕ} → Held mid left ne
 sound_held held sound = search rules
 
 -- the outputs have the part `low`, and the lines `left` are left
-pub record Reached (low : Part) (cutter : CutterState) (x left : List ℕ) : Type 0 where
+pub record Reached (low : Written) (cutter : CutterState) (x left : List ℕ) : Type 0 where
   pub at : IsAt (bare cutter) x left
   pub arrives : Arrives cutter at
   pub same : low ≡ part_at at
@@ -91,7 +85,7 @@ low_taken t live whole (above operand repetition cut) ends final = absurd (false
 low_taken t live whole (below operand repetition) (operands, cut, are, at, low, often) final =
     omega (arith, live_taken live, live_before t live cut are (rw (all_lines-append t (inl whole)) at at))
 
-pub took_held : {told : Bool} {cutter next : CutterState} {lines : ℕ} {aim : Attempt} {t : List ℕ} (more : List ℕ)
+pub took_held : {visible : Bool} {cutter next : CutterState} {lines : ℕ} {aim : Attempt} {t : List ℕ} (more : List ℕ)
     {old new : List Slot} {fault : Option Fault} → IsSound (more_lines cutter lines aim) → IsFit cutter
     → (cutter.aim ≡ Below → ⊥)
     → lines ≤ cutter.lines + length t → length more ≤ length t
@@ -99,8 +93,8 @@ pub took_held : {told : Bool} {cutter next : CutterState} {lines : ℕ} {aim : A
     → cutter.window.held ++ more ≡ text_from (cutter.progress.current + live.at.taken) (x ++ t))
     → ((x : List ℕ) → IsWhole x → IsLive cutter x
     → (lines ≡ line_count newline (x ++ t)) × EndsNow (more_lines cutter lines aim) (x ++ t))
-    → HoldsLines told (more_lines cutter lines aim) (cutter.window.held ++ more) old new next fault
-    → Takes told cutter t old new next fault
+    → HoldsLines visible (more_lines cutter lines aim) (cutter.window.held ++ more) old new next fault
+    → Takes visible cutter t old new next fault
 unfolding at_more
 took_held {cutter = cutter} {next} {lines} {aim} {t} more {fault = fault} sound fit differs few short left ends held = record {
   keeps = held.keeps;
@@ -150,13 +144,13 @@ line_has : (line : List ℕ) → IsLine line → 1 ≤ length line
 line_has line one = grind (arith, common_steps)
 
 -- more lines came after the line that is cut
-take_cut : {told : Bool} {cutter mid next : CutterState} (line more : List ℕ) {cut : CutPoint} {old new : List Slot}
+take_cut : {visible : Bool} {cutter mid next : CutterState} (line more : List ℕ) {cut : CutPoint} {old new : List Slot}
     {fault : Option Fault} → IsFit cutter → (cutter.aim ≡ Below → ⊥) → IsLine line
     → mid ≡ more_lines cutter (cutter.lines + 1) mid.aim → WillCut mid cut → TriesNext cutter line mid (Some cut)
-    → CutsAll told (waits_with mid cut line) more old new next fault
-    → Takes told cutter (line ++ more) old new next fault
+    → CutsAll visible (waits_with mid cut line) more old new next fault
+    → Takes visible cutter (line ++ more) old new next fault
 unfolding at_more
-take_cut {told} {cutter} {mid} {next} line more {cut} {old} {new} {fault} fit differs one is will tries cuts = record {
+take_cut {visible} {cutter} {mid} {next} line more {cut} {old} {new} {fault} fit differs one is will tries cuts = record {
   keeps = all.keeps;
   reaches = λ x whole stands. let there = reached x whole stands in reaches_as there.2
       (search (rules, append_assoc)) (all.reaches (x ++ line) there.0 there.1);
@@ -169,7 +163,7 @@ take_cut {told} {cutter} {mid} {next} line more {cut} {old} {new} {fault} fit di
   now : Due
   now = waits_with (more_lines cutter (cutter.lines + 1) mid.aim) cut line
 
-  all : CutsAll told now more old new next fault
+  all : CutsAll visible now more old new next fault
   all = rw is at cuts
 
   reached : (x : List ℕ) → IsWhole x → Stands cutter x
@@ -238,8 +232,8 @@ is_past aim fact = search rules
 pub still_past : {cutter : CutterState} {x : List ℕ} (t : List ℕ) → IsWhole x → IsPast cutter x → IsPast cutter (x ++ t)
 still_past t whole past = search (rules, past_plan, past_draft)
 
-pub took_past : {told : Bool} {cutter : CutterState} {t : List ℕ} {slots : List Slot} → cutter.aim ≡ Below
-    → IsSound cutter → IsReady cutter.writer slots → Takes told cutter t slots slots cutter None
+pub took_past : {visible : Bool} {cutter : CutterState} {t : List ℕ} {slots : List Slot} → cutter.aim ≡ Below
+    → IsSound cutter → IsReady cutter.writer slots → Takes visible cutter t slots slots cutter None
 took_past aim sound ready = search (rules, keeps_files, leaves_still, reaches_still, past_part, is_past, still_past)
 
 -- the pattern was found in the first line
@@ -256,9 +250,9 @@ more_settled cutter {x} t whole = rw (← all_lines-append t (inl whole)) at (gr
 
 -- one text was taken in after another
 
-pub takes_again : {told : Bool} {one two three : CutterState} {a b : List ℕ} {old mid new : List Slot}
-    {fault : Option Fault} → IsWhole a → Takes told one a old mid two None → Takes told two b mid new three fault
-    → Takes told one (a ++ b) old new three fault
+pub takes_again : {visible : Bool} {one two three : CutterState} {a b : List ℕ} {old mid new : List Slot}
+    {fault : Option Fault} → IsWhole a → Takes visible one a old mid two None → Takes visible two b mid new three fault
+    → Takes visible one (a ++ b) old new three fault
 takes_again {one = one} {three = three} {a} {b} {fault = fault} whole first second = record {
   keeps = keeps_on first.keeps second.keeps;
   reaches = λ x before stands. reaches_then first.keeps.style (more_settled one a before) (first.reaches x before stands)
@@ -271,9 +265,9 @@ takes_again {one = one} {three = three} {a} {b} {fault = fault} whole first seco
   });
 }
 
-pub takes_wider : {told : Bool} {cutter next : CutterState} {a : List ℕ} (b : List ℕ) {old new : List Slot}
-    {fault : Fault} → IsWhole a → Takes told cutter a old new next (Some fault)
-    → Takes told cutter (a ++ b) old new next (Some fault)
+pub takes_wider : {visible : Bool} {cutter next : CutterState} {a : List ℕ} (b : List ℕ) {old new : List Slot}
+    {fault : Fault} → IsWhole a → Takes visible cutter a old new next (Some fault)
+    → Takes visible cutter (a ++ b) old new next (Some fault)
 takes_wider {cutter = cutter} {a = a} b whole stopped = record {
   keeps = stopped.keeps;
   reaches = λ x before stands. stops_wider (stopped.reaches x before stands)
@@ -282,22 +276,23 @@ takes_wider {cutter = cutter} {a = a} b whole stopped = record {
 }
 
 -- Some stretches of a text were taken in, and `left` is left.
-pub record Taking (told : Bool) (cutter now : CutterState) (text left : List ℕ) (old new : List Slot) : Type 0 where
+pub record Taking (visible : Bool) (cutter now : CutterState) (text left : List ℕ) (old new : List Slot) : Type 0 where
   pub front : List ℕ
   pub whole : text ≡ front ++ left
   pub complete : IsWhole front
   pub rest : IsWhole left
-  pub took : Takes told cutter front old new now None
+  pub took : Takes visible cutter front old new now None
 
-pub takes_none : {told : Bool} {cutter : CutterState} {slots : List Slot} → IsSound cutter → IsReady cutter.writer slots
-    → Takes told cutter [] slots slots cutter None
+pub takes_none : {visible : Bool} {cutter : CutterState} {slots : List Slot} → IsSound cutter
+    → IsReady cutter.writer slots
+    → Takes visible cutter [] slots slots cutter None
 takes_none sound ready = search rules
 
-module _ {told : Bool} {cutter now : CutterState} {text left : List ℕ} {old mid : List Slot}
-    (so_far : Taking told cutter now text left old mid) where
+module _ {visible : Bool} {cutter now : CutterState} {text left : List ℕ} {old mid : List Slot}
+    (so_far : Taking visible cutter now text left old mid) where
   pub takes_more : {next : CutterState} {size : ℕ} (passed : Passed) {new : List Slot} → IsWhole (take size left)
-      → Stretches told now (stretch_of left size) mid new next (Ok passed)
-      → Taking told cutter next text (take (length left - passed.size) (drop passed.size left)) old new
+      → Stretches visible now (stretch_of left size) mid new next (Ok passed)
+      → Taking visible cutter next text (take (length left - passed.size) (drop passed.size left)) old new
   takes_more {size = size} passed first more =
       let front = take size left ++ take more.on.n (drop size left) in
       let rest : take (length left - passed.size) (drop passed.size left) ≡ drop more.on.n (drop size left) =
@@ -311,8 +306,8 @@ module _ {told : Bool} {cutter now : CutterState} {text left : List ℕ} {old mi
       }
 
   pub takes_stopped : {next : CutterState} {size : ℕ} {new : List Slot} {fault : Fault} → IsWhole (take size left)
-      → Stretches told now (stretch_of left size) mid new next (Err fault)
-      → Takes told cutter text old new next (Some fault)
+      → Stretches visible now (stretch_of left size) mid new next (Err fault)
+      → Takes visible cutter text old new next (Some fault)
   takes_stopped {size = size} first more =
       let all : (take size left ++ take more.on.n (drop size left)) ++ drop more.on.n (drop size left) ≡ left = (grind (arith, common_steps)) in
       rw (← so_far.whole) at (takes_again so_far.complete so_far.took
@@ -335,8 +330,8 @@ spread_ready now is ready = search rules
 abbrev pub due_on : CutterState → CutPoint → (left line : List ℕ) → Due
 due_on cutter cut = due cutter cut cutter.progress.current
 
-cuts_again : {told : Bool} {due : Due} {now : CutterState} (cut : CutPoint) {x left : List ℕ} {low : Part}
-    {old new : List Slot} (after : IsAfter told due x low old new now left) → Tries now due.line now (Some cut)
+cuts_again : {visible : Bool} {due : Due} {now : CutterState} (cut : CutPoint) {x left : List ℕ} {low : Written}
+    {old new : List Slot} (after : IsAfter visible due x low old new now left) → Tries now due.line now (Some cut)
     → WillCut now cut → {aim : Attempt} → CutsNow (due_on (record now { aim = aim }) cut left due.line) x after.now
 cuts_again cut after tries will = let both = tries _ after.looked in record {
   last = after.looked.last;
@@ -346,11 +341,11 @@ cuts_again cut after tries will = let both = tries _ after.looked in record {
   goes = both.0;
 }
 
-module _ {told : Bool} {due : Due} {now mid : CutterState} {cut : CutPoint} {left : List ℕ}
-    {old between : List Slot} (so_far : Spreading told due old between now left)
+module _ {visible : Bool} {due : Due} {now mid : CutterState} {cut : CutPoint} {left : List ℕ}
+    {old between : List Slot} (so_far : Spreading visible due old between now left)
     (is : mid ≡ record now { aim = mid.aim }) (tries : Tries now due.line mid (Some cut)) (will : WillCut now cut) where
   pub spread_more : {next : CutterState} {rest : List ℕ} {new : List Slot}
-      → CutAt told (due_on mid cut left due.line) between new next rest → Spreading told due old new next rest
+      → CutAt visible (due_on mid cut left due.line) between new next rest → Spreading visible due old new next rest
   spread_more {next} {rest} at_cut =
       let once = (rw is at at_cut).spreading in record {
         keeps = keeps_on so_far.keeps once.keeps;
@@ -375,8 +370,8 @@ module _ {told : Bool} {due : Due} {now mid : CutterState} {cut : CutPoint} {lef
       }
 
   pub spread_stopped : {next : CutterState} {new : List Slot} {fault : Fault}
-      → CutsAll told (due_on mid cut left due.line) [] between new next (Some fault)
-      → CutsAll told due [] old new next (Some fault)
+      → CutsAll visible (due_on mid cut left due.line) [] between new next (Some fault)
+      → CutsAll visible due [] old new next (Some fault)
   spread_stopped stops =
       let stopped = rw is at stops in record {
         keeps = keeps_on so_far.keeps stopped.keeps;
@@ -404,12 +399,12 @@ drained_place : (lines : ℕ) (held line : List ℕ) {items : List ℕ} {n count
     → place ≡ lines - delimiters newline held
 drained_place lines held line {n = n} items_is long count_is place_is = search (rules, length-append, take_at)
 
-pub cut_drained : {told : Bool} {cutter next : CutterState} {window : Window} {cut : CutPoint} {n count place : ℕ}
+pub cut_drained : {visible : Bool} {cutter next : CutterState} {window : Window} {cut : CutPoint} {n count place : ℕ}
     {items waiting line : List ℕ} {old new : List Slot} {fault : Option Fault} → waiting ≡ cutter.window.held ++ line
     → items ≡ cutter.window.held ++ line → n ≡ length items → count ≡ delimiters newline (take (n - length line) items)
     → place ≡ cutter.lines - count
-    → CutsAll told (due (record cutter { window = window }) cut place waiting line) [] old new next fault
-    → CutsAll told (waits_with cutter cut line) [] old new next fault
+    → CutsAll visible (due (record cutter { window = window }) cut place waiting line) [] old new next fault
+    → CutsAll visible (waits_with cutter cut line) [] old new next fault
 cut_drained {cutter = cutter} {window = window} {line = line} {fault = fault} waiting_is items_is long count_is place_is cuts =
     let all = rw (waiting_is, drained_place cutter.lines cutter.window.held line items_is long count_is place_is) at cuts in record {
       keeps = all.keeps;
@@ -426,8 +421,8 @@ cut_drained {cutter = cutter} {window = window} {line = line} {fault = fault} wa
 
 -- What was found of the next line stays true as lines are held.
 
-found_by : {told : Bool} {mid next : CutterState} {left : List ℕ} {old new : List Slot} (rest : List ℕ)
-    (found : Option ℕ) → HoldsLines told mid left old new next None → IfSome found (IsNextFound mid rest)
+found_by : {visible : Bool} {mid next : CutterState} {left : List ℕ} {old new : List Slot} (rest : List ℕ)
+    (found : Option ℕ) → HoldsLines visible mid left old new next None → IfSome found (IsNextFound mid rest)
     → IfSome found (IsNextFound next rest)
 found_by rest (Some size) held is = search rules
 found_by rest None held is = is
@@ -438,8 +433,8 @@ ok_as result follows holds = search rules
 
 -- The contract of `go_on`.
 
-found_held : {told : Bool} {mid next : CutterState} {left : List ℕ} {old new : List Slot} (rest : List ℕ) (size : ℕ)
-    (found : Option ℕ) (result : Result Passed Fault) → HoldsLines told mid left old new next (fault_in result)
+found_held : {visible : Bool} {mid next : CutterState} {left : List ℕ} {old new : List Slot} (rest : List ℕ) (size : ℕ)
+    (found : Option ℕ) (result : Result Passed Fault) → HoldsLines visible mid left old new next (fault_in result)
     → IfSome found (IsNextFound mid rest) → IfOk result (λ all. (all.size ≡ size) × (all.found ≡ found))
     → IfOk result (λ all. IfSome all.found (IsNextFound next rest))
 found_held rest size found (Ok all) held is are = rw are.1 (found_by rest found held is)
@@ -453,12 +448,12 @@ piece_from text first size n low within =
     (let e = length-take-le size text within in omega arith) in
     search (rules, parts, take-append-add (drop first (take size text)) (drop size text) n, length-drop, length-take-le)
 
-pub gone_on : {told : Bool} {cutter mid next : CutterState} (text : List ℕ) {rest : List ℕ} (first size : ℕ)
+pub gone_on : {visible : Bool} {cutter mid next : CutterState} (text : List ℕ) {rest : List ℕ} (first size : ℕ)
     {passed : Passed} {old new : List Slot} (result : Result Passed Fault) → first ≤ size → size ≤ length text
     → rest ≡ drop size text → StopsAt cutter rest mid passed
-    → HoldsLines told mid (mid.window.held ++ take (size + passed.size - first) (drop first text)) old new next
+    → HoldsLines visible mid (mid.window.held ++ take (size + passed.size - first) (drop first text)) old new next
     (fault_in result) → IfOk result (λ all. (all.size ≡ size + passed.size) × (all.found ≡ passed.found))
-    → PassesThenHolds told cutter (drop first (take size text)) (stretch_of text size) old new next result
+    → PassesThenHolds visible cutter (drop first (take size text)) (stretch_of text size) old new next result
 gone_on text first size {passed} result low within rest_is stops held are =
     let stops_there = rw rest_is at stops in
     record {
@@ -483,13 +478,13 @@ joins_by n fact ends = search rules
 
 -- No operand cuts any more, and the lines that are left are held, perhaps with further lines.
 
-pub spread_passes : {told : Bool} {due : Due} {mid end next : CutterState} {left rest : List ℕ} {n : ℕ}
-    {old between new : List Slot} {fault : Option Fault} → Spread told due old between mid left
+pub spread_passes : {visible : Bool} {due : Due} {mid end next : CutterState} {left rest : List ℕ} {n : ℕ}
+    {old between new : List Slot} {fault : Option Fault} → Spread visible due old between mid left
     → (rest ≡ []) ⊎ (ends_with newline due.line ≡ true) → PassesOver mid rest end n
-    → HoldsLines told end (end.window.held ++ (left ++ take n rest)) between new next fault
-    → CutsAll told due (take n rest) old new next fault
+    → HoldsLines visible end (end.window.held ++ (left ++ take n rest)) between new next fault
+    → CutsAll visible due (take n rest) old new next fault
 unfolding at_more
-spread_passes {told} {due} {mid} {end} {next} {left} {rest} {n} {between = between}
+spread_passes {visible} {due} {mid} {end} {next} {left} {rest} {n} {between = between}
     {new} {fault} spread complete over held = record {
       keeps = keeps_on spread.so_far.keeps held_now.keeps;
       reaches = λ x at here. let after = spread.so_far.after x at here in let there = reached x at here in
@@ -506,7 +501,8 @@ spread_passes {told} {due} {mid} {end} {next} {left} {rest} {n} {between = betwe
       over_now : PassesOver (record spread.now { aim = mid.aim }) rest end n
       over_now = rw spread.is at over
 
-      held_now : HoldsLines told (more_lines spread.now end.lines mid.aim) (left ++ take n rest) between new next fault
+      held_now : HoldsLines visible (more_lines spread.now end.lines mid.aim)
+          (left ++ take n rest) between new next fault
       held_now = search (rules, over_now)
 
       reached : (x : List ℕ) (at : IsAt (bare due.cutter) x due.left) (here : CutsNow due x at)
@@ -525,9 +521,10 @@ spread_passes {told} {due} {mid} {end} {next} {left} {rest} {n} {between = betwe
           }
 
 -- the lines that are left are held alone
-pub spread_held : {told : Bool} {due : Due} {mid next : CutterState} {left : List ℕ} {old between new : List Slot}
-    {fault : Option Fault} → Spread told due old between mid left
-    → HoldsLines told mid (mid.window.held ++ left) between new next fault → CutsAll told due [] old new next fault
+pub spread_held : {visible : Bool} {due : Due} {mid next : CutterState} {left : List ℕ} {old between new : List Slot}
+    {fault : Option Fault} → Spread visible due old between mid left
+    → HoldsLines visible mid (mid.window.held ++ left) between new next fault
+    → CutsAll visible due [] old new next fault
 spread_held {left = left} spread held = spread_passes {rest = []} {n = 0} spread (inl refl) (record {
   same = refl;
   within = omega arith;
@@ -572,13 +569,13 @@ left_after {cutter} {x} first line more fit one skips keeps joins whole live = e
 
 -- The contract of `stretch`, if the first line isn't cut.
 
-module _ {told : Bool} {cutter mid next : CutterState} {stretch : Stretch} {old new : List Slot}
+module _ {visible : Bool} {cutter mid next : CutterState} {stretch : Stretch} {old new : List Slot}
     (result : Result Passed Fault) (fit : IsFit cutter) (differs : cutter.aim ≡ Below → ⊥) (start : Starts stretch)
     (mid_is : mid ≡ record cutter { lines = cutter.lines + 1; aim = mid.aim }) where
   pub stretch_on : (first : ℕ) → (WillSkip cutter → first ≡ stretch.size) → ((WillSkip cutter → ⊥) → first ≡ 0)
       → TriesNext cutter (first_in stretch) mid None
-      → PassesThenHolds told mid (drop first (first_in stretch)) stretch old new next result
-      → Stretches told cutter stretch old new next result
+      → PassesThenHolds visible mid (drop first (first_in stretch)) stretch old new next result
+      → Stretches visible cutter stretch old new next result
   stretch_on first skips keeps tries gone =
       let end = gone.mid in
       let line = first_in stretch in
@@ -602,31 +599,31 @@ module _ {told : Bool} {cutter mid next : CutterState} {stretch : Stretch} {old 
 
   -- The first line is cut, and no line waits.
   pub stretch_cut : {cut : CutPoint} → mid.window.held ≡ [] → WillCut mid cut
-      → TriesNext cutter (first_in stretch) mid (Some cut) → CutsOn told mid cut stretch old new next result
-      → Stretches told cutter stretch old new next result
+      → TriesNext cutter (first_in stretch) mid (Some cut) → CutsOn visible mid cut stretch old new next result
+      → Stretches visible cutter stretch old new next result
   stretch_cut {cut} none will tries on =
       let line = first_in stretch in let more = take on.on.n (others_in stretch) in record {
         on = on.on;
         took = take_cut line more fit differs start.line mid_is will tries
-            (alone (λ place those. CutsAll told (due mid cut place those line) more old new next (fault_in result)) mid line
+            (alone (λ place those. CutsAll visible (due mid cut place those line) more old new next (fault_in result)) mid line
             none on.all);
       }
 
   -- The first line is cut, and some lines wait.
   pub stretch_first : {cut : CutPoint} → WillCut mid cut → TriesNext cutter (first_in stretch) mid (Some cut)
-      → CutsAll told (waits_with mid cut (first_in stretch)) [] old new next (fault_in result)
+      → CutsAll visible (waits_with mid cut (first_in stretch)) [] old new next (fault_in result)
       → IfOk result (λ passed. (passed.size ≡ stretch.size) × (passed.found ≡ None))
-      → Stretches told cutter stretch old new next result
+      → Stretches visible cutter stretch old new next result
   stretch_first will tries all are = record {
     on = search (rules, ok_as);
     took = search (rules, take_cut);
   }
 
 -- All lines of the text go nowhere.
-pub stretch_past : {told : Bool} {cutter next : CutterState} {text : List ℕ} {size : ℕ} {old new : List Slot}
-    (passed : Passed) → Starts (stretch_of text size) → Takes told cutter text old new next None
+pub stretch_past : {visible : Bool} {cutter next : CutterState} {text : List ℕ} {size : ℕ} {old new : List Slot}
+    (passed : Passed) → Starts (stretch_of text size) → Takes visible cutter text old new next None
     → passed.size ≡ length text → passed.found ≡ None
-    → Stretches told cutter (stretch_of text size) old new next (Ok passed)
+    → Stretches visible cutter (stretch_of text size) old new next (Ok passed)
 stretch_past {text = text} {size} passed start took size_is none =
     let rest : take (length (drop size text)) (drop size text) ≡ drop size text = search (rules, take_all) in record {
       on = search (rules, length-drop);
@@ -634,7 +631,7 @@ stretch_past {text = text} {size} passed start took size_is none =
     }
 
 -- The text is one line.
-pub stretched_line : {told : Bool} {cutter next : CutterState} {line : List ℕ} {old new : List Slot}
-    {result : Result Passed Fault} → Stretches told cutter (stretch_of line (length line)) old new next result
-    → Takes told cutter line old new next (fault_in result)
+pub stretched_line : {visible : Bool} {cutter next : CutterState} {line : List ℕ} {old new : List Slot}
+    {result : Result Passed Fault} → Stretches visible cutter (stretch_of line (length line)) old new next result
+    → Takes visible cutter line old new next (fault_in result)
 stretched_line stretch = grind (arith, common_steps)

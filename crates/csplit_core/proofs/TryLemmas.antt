@@ -39,7 +39,8 @@ use Rattle.csplit_core.proofs.{
   LineLemmas.{whole_count, whole_by, line_by, rest_all},
 }
 use Rattle.bre_core.specs.{Pattern.Pattern, Search.contains}
-use Rattle.ports_core.specs.{declared.fault.Fault.Fault, InTurn.fault_in}
+use Rattle.ports_core.specs.declared.fault.Fault.{Fault}
+use Rattle.engine_core.specs.InTurn.{fault_in}
 use Rattle.seg_core.specs.{
   Line.{line_count, lines_of, delimiters, ends_with, EndsAt, FallsShort, joined, HasNone, IsComplete, AreLines},
 }

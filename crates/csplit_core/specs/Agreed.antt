@@ -2,7 +2,7 @@
 -- marks, one for each operand. The lines that came in have given marks, and the lines that follow may have any.
 use Rattle.std.specs.Prelude.{◌<◌, List, [], ◌∷◌, All, if◌then◌else◌}
 use Rattle.seg_core.specs.Line.{IsComplete}
-use Rattle.ports_core.specs.{Agreed.AgreeOn, Part.IsBeginning}
+use Rattle.engine_core.specs.{Agreed.AgreeOn, Written.IsBeginning}
 use Rattle.operand_core.specs.Style.{Style}
 use Rattle.csplit_core.specs.{
   Input.newline,

@@ -1,10 +1,7 @@
 -- What `csplit` makes of an input (POSIX.1-2017, XCU csplit).
 use Rattle.std.specs.Prelude.{ℕ, true, false, not, ◌&&◌, List, [], ◌++◌, Option, Some, None, if◌then◌else◌}
-use Rattle.ports_core.specs.{
-  Part.Part,
-  Work.{Work, Means},
-  declared.verdict.Verdict.{Verdict, TheVariants.{NoMatch, Range}},
-}
+use Rattle.engine_core.specs.{Written.Written, Work.{Work, Means}}
+use Rattle.ports_core.specs.declared.verdict.Verdict.{Verdict, TheVariants.{NoMatch, Range}}
 use Rattle.csplit_core.specs.{
   Operand.{Operand, Line, is_endless, is_number},
   Plan.{Ending, used_up, missed, above, below},
@@ -15,16 +12,16 @@ use Rattle.csplit_core.specs.{
 }
 
 -- what is written of complete lines if more may follow; `whole_of` is what is written if they are all lines
-abbrev pub settled_of : Style → List Operand → List Line → Part
+abbrev pub settled_of : Style → List Operand → List Line → Written
 settled_of style operands lines = part_of style (settled_sections lines (plan style operands lines))
 
-abbrev pub whole_of : Style → List Operand → List Line → Part
+abbrev pub whole_of : Style → List Operand → List Line → Written
 whole_of style operands lines = part_of style (whole_sections lines (plan style operands lines))
 
-abbrev pub settled_by : Style → List Operand → List ℕ → Part
+abbrev pub settled_by : Style → List Operand → List ℕ → Written
 settled_by style operands x = settled_of style operands (complete_lines x)
 
-abbrev pub whole_by : Style → List Operand → List ℕ → Part
+abbrev pub whole_by : Style → List Operand → List ℕ → Written
 whole_by style operands x = whole_of style operands (all_lines x)
 
 -- The verdict with which the plan ends, if it ends with one. An operand that is repeated without end ends well if its

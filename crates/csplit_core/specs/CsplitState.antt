@@ -1,13 +1,13 @@
 -- What contracts see of the stage that takes in bytes, and what its calls do.
 use Rattle.std.specs.Prelude.{◌≡◌, ◌≢◌, ℕ, ◌+◌, ◌<◌, ◌≤◌, ◌^◌, true, List, [], length, IsTrue}
 use Rattle.seg_core.specs.Line.{delimiters, first_lines}
-use Rattle.ports_core.specs.{
+use Rattle.engine_core.specs.{
   FileWriter.{OwnsFiles, IsManner, IsReady as CanWrite, manner_in},
-  Slot.{Slot, is_writable},
   declared.file_writer.Keeps.TheVariants.All,
   Work.Work,
   Engine.Terms,
 }
+use Rattle.ports_core.specs.Slot.{Slot, is_writable}
 use Rattle.csplit_core.specs.{
   Csplit.csplit_work,
   Cutter.{CutterState, IsSound, Stands, load},

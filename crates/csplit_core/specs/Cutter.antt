@@ -5,7 +5,7 @@ use Rattle.std.specs.{
 }
 use Rattle.bre_core.specs.Pattern.{Pattern}
 use Rattle.seg_core.specs.{Line.{line_count, after_lines, first_lines}, Window.Window}
-use Rattle.ports_core.specs.{Draft.Draft, FileWriter.{WriterState, Writes, seen_writer, size_of}}
+use Rattle.engine_core.specs.{Draft.Draft, FileWriter.{WriterState, Writes, seen_writer, size_of}}
 use Rattle.csplit_core.specs.{
   Input.{newline, all_lines},
   Measure.Fits,

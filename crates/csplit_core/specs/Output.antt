@@ -1,17 +1,16 @@
 -- What `csplit` writes of sections: a file for each that is kept, and its size on standard output (POSIX.1-2017, XCU
 -- csplit; `elide` is GNU's).
 use Rattle.std.specs.{Prelude.{true, Bool, ℕ, List, map, if◌then◌else◌}, List.flat_map}
-use Rattle.ports_core.specs.{
+use Rattle.engine_core.specs.{
   Draft.{Manner, Share, share, made_of, part_of as part_by},
-  Name.{Naming, name_at},
-  declared.{
-    numbering.Numbering.TheVariants.Formatted,
-    file_writer.Opening.{Opening, TheVariants.{Never, Late, AtOnce}},
-    slot.State.{State, TheVariants.{Open, Closed}},
-  },
-  Part.{Part, Output, gets_none, gets_lines},
+  declared.file_writer.Opening.{Opening, TheVariants.{Never, Late, AtOnce}},
+  Written.{Written, Output, gets_none, gets_lines},
 }
-pub use Rattle.ports_core.specs.Draft.{size_of_file}
+use Rattle.ports_core.specs.{
+  Name.{Naming, name_at},
+  declared.{numbering.Numbering.TheVariants.Formatted, slot.State.{State, TheVariants.{Open, Closed}}},
+}
+pub use Rattle.engine_core.specs.Draft.{size_of_file}
 pub use Rattle.operand_core.specs.Style.{Style}
 use Rattle.csplit_core.specs.Section.{Section, bytes_of}
 
@@ -46,5 +45,5 @@ state_in section = if section.is_closed then Closed else Open
 abbrev pub shares_in : Style → List Section → List Share
 shares_in style sections = flat_map (λ section. map (share (state_in section)) (file_in style section)) sections
 
-abbrev pub part_of : Style → List Section → Part
+abbrev pub part_of : Style → List Section → Written
 part_of style sections = part_by (manner_of style) (shares_in style sections)

@@ -3,7 +3,7 @@ use Rattle.std.specs.{
   Prelude.{◌≡◌, eqb, ℕ, ◌+◌, ◌≤◌, nat_lt, nat_le, ◌&&◌, Bool, true, false, List, [], ◌∷◌, get_or, length, map},
   Prelude.if◌then◌else◌,
 }
-use Rattle.ports_core.specs.Agreed.{DifferOn}
+use Rattle.engine_core.specs.Agreed.{DifferOn}
 use Rattle.operand_core.specs.Style.{Style}
 use Rattle.csplit_core.specs.{
   Agreed.CanCome,

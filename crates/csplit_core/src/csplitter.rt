@@ -3,14 +3,14 @@ ghost use Rattle.std.specs.{
   Prelude.{◌≡◌, ◌≢◌, ◌+◌, ◌-◌, ◌^◌, ◌<◌, ◌≤◌, ◌++◌, List, [], length, min, true, IsTrue, IfErr, IfOk, OnOk},
 };
 ghost use Rattle.seg_core.specs.Line.{delimiters, ends_with};
-ghost use Rattle.ports_core.specs.{
-  Guard.HoldsIn,
-  Part.{OutputsAt, StoppedBetween, nothing},
-  Slot.{Slot, is_writable},
+ghost use Rattle.engine_core.specs.{
+  EngineState.HoldsIn,
+  Written.{OutputsAt, StoppedBetween, nothing},
   Swept.{AreThere, HasNoFiles},
   InTurn.fault_in,
   FileWriter.{Breaks, IsReady as CanWrite},
 };
+ghost use Rattle.ports_core.specs.Slot.{Slot, is_writable};
 ghost use Rattle.csplit_core.specs.{
   Csplit.{csplit_work, settled_by},
   Output.{manner_of, sizes_wanted},
@@ -24,7 +24,8 @@ ghost use Rattle.csplit_core.specs.declared.progress.Attempt.TheVariants as atte
 
 use crate::line_cutter::LineCutter;
 use crate::{Operand, Operands, Style};
-use ports_core::{Fault, Guarded, Outs, Stage};
+use engine_core::{Engine, Stage};
+use ports_core::{Fault, Outs};
 use seg_core::line::{NEWLINE, next_line};
 use seg_core::line_back::last_delimiter_end;
 use std::alloc::Global;
@@ -67,7 +68,7 @@ impl<'o> Csplitter<'o> {
         operands: &'o Operands,
         style: Style,
         outs: &mut O,
-    ) -> Result<Guarded<Csplitter<'o>>, Fault>
+    ) -> Result<Engine<Csplitter<'o>>, Fault>
         requires streams { 2 ≤ length (O.slots outs.old) }
         requires output { IsTrue (is_writable (O.slots outs.old) 0) }
         ensures holds { IfOk result (λ engine. HoldsIn Holds engine []) }
@@ -76,17 +77,17 @@ impl<'o> Csplitter<'o> {
         ensures ready { IfOk result (λ engine. IsReady engine.stage (O.slots outs.new)) }
         ensures owns { IfOk result (λ engine. Owns engine.stage (length (O.slots outs.old)) (O.slots outs.new)) }
         ensures there { IfOk result (λ engine. AreThere (files engine.stage) (O.slots outs.new)) }
-        ensures outputs { OnOk result ((before : List Slot) → OutputsAt O.told before nothing (O.slots outs.old)
-            → OutputsAt O.told before (settled_by style operands.now []) (O.slots outs.new)) }
+        ensures outputs { OnOk result ((before : List Slot) → OutputsAt O.visible before nothing (O.slots outs.old)
+            → OutputsAt O.visible before (settled_by style operands.now []) (O.slots outs.new)) }
         ensures cut { IfErr result
-            (λ fault. (before : List Slot) → OutputsAt O.told before nothing (O.slots outs.old)
-            → StoppedBetween (sizes_wanted style) O.told before nothing (settled_by style operands.now []) fault
+            (λ fault. (before : List Slot) → OutputsAt O.visible before nothing (O.slots outs.old)
+            → StoppedBetween (sizes_wanted style) O.visible before nothing (settled_by style operands.now []) fault
             (O.slots outs.new)) }
         ensures refused { IfErr result (Breaks (manner_of style) (O.slots outs.old) (O.slots outs.new)) }
         ensures none { IfErr result (λ fault. HasNoFiles (length (O.slots outs.old)) (O.slots outs.new)) }
     {
         let cutter = LineCutter::open(alloc, operands.as_slice(), style, outs)?;
-        Ok(Guarded::new(Csplitter {
+        Ok(Engine::new(Csplitter {
             cutter,
             rest: Vec::new(alloc),
             taken: 0,
@@ -102,7 +103,7 @@ impl<'o> Csplitter<'o> {
         requires ready { CanWrite self.old.cutter.writer (O.slots outs.old) }
         ensures taken { self.new.taken ≡ self.old.taken }
         ensures rest { OnOk result (self.new.rest ≡ []) }
-        ensures takes { Takes O.told self.old.cutter (self.old.rest ++ lines.now) (O.slots outs.old)
+        ensures takes { Takes O.visible self.old.cutter (self.old.rest ++ lines.now) (O.slots outs.old)
             (O.slots outs.new) self.new.cutter (fault_in result) }
     {
         if self.rest.is_empty() {
@@ -137,7 +138,7 @@ impl<'o> Csplitter<'o> {
         requires open { delimiters newline self.old.rest ≡ 0 }
         requires ready { CanWrite self.old.cutter.writer (O.slots outs.old) }
         ensures taken { self.new.taken ≡ self.old.taken }
-        ensures takes { Takes O.told self.old.cutter self.old.rest (O.slots outs.old)
+        ensures takes { Takes O.visible self.old.cutter self.old.rest (O.slots outs.old)
             (O.slots outs.new) self.new.cutter (fault_in result) }
     {
         if self.rest.is_empty() {
@@ -155,7 +156,7 @@ impl<'o> Stage for Csplitter<'o> {
         requires fits { self.old.taken + length piece.now < 2 ^ 63 }
         requires ready { IsReady self.old (O.slots outs.old) }
         ensures taken { self.new.taken ≡ self.old.taken + length piece.now }
-        ensures passes { Passes O.told self.old piece.now (O.slots outs.old) (O.slots outs.new) self.new result }
+        ensures passes { Passes O.visible self.old piece.now (O.slots outs.old) (O.slots outs.new) self.new result }
     {
         self.taken += piece.len() as u64;
         if self.cutter.is_past() {
@@ -175,7 +176,7 @@ impl<'o> Stage for Csplitter<'o> {
     fn finish<O: Outs>(&mut self, outs: &mut O) -> Result<(), Fault>
         requires { IsReady self.old (O.slots outs.old) }
         ensures bound { self.new.taken ≤ self.old.taken }
-        ensures closes { Closes O.told self.old (O.slots outs.old) (O.slots outs.new) self.new result }
+        ensures closes { Closes O.visible self.old (O.slots outs.old) (O.slots outs.new) self.new result }
     {
         self.take_last(outs)?;
         self.cutter.end(outs)?;

@@ -1,10 +1,11 @@
 //! How sections are made into files.
 ghost use Rattle.std.specs.Prelude.{◌≡◌, IfErr, IfOk};
 ghost use Rattle.csplit_core.specs.{Output.opening_of as opens, inner.Cutter.{new_for, tells_by}};
-ghost use Rattle.ports_core.specs.FileWriter.{seen_writer};
+ghost use Rattle.engine_core.specs.FileWriter.{seen_writer};
 
 use crate::Style;
-use ports_core::{Fault, FileWriter, Keeps, Naming, Numbering, Opening, Tells};
+use engine_core::{FileWriter, Keeps, Opening, Tells};
+use ports_core::{Fault, Naming, Numbering};
 use std::alloc::Global;
 
 /// A writer of files that has made no file.

@@ -1,14 +1,15 @@
 //! Lines that wait, and what leaves them.
 ghost use Rattle.std.specs.Prelude.{◌≡◌, ◌+◌, ◌<◌, ◌≤◌, ◌^◌, ◌++◌, [], length, take, IfOk, IfErr, OnOk};
 ghost use Rattle.seg_core.specs.{Line.but_last_lines, inner.Lines.last_lines, Window.without_first};
-ghost use Rattle.ports_core.specs.{
+ghost use Rattle.engine_core.specs.{
   Draft.with_bytes,
   FileWriter.{IsReady, seen_writer, size_of, Goes},
-  Slot.effect_of,
   InTurn.fault_in,
 };
+ghost use Rattle.ports_core.specs.Slot.{effect_of};
 
-use ports_core::{Fault, FileWriter, Outs};
+use engine_core::FileWriter;
+use ports_core::{Fault, Outs};
 use seg_core::line_window::LineWindow;
 use std::alloc::Global;
 
@@ -28,7 +29,7 @@ pub(crate) fn hold_last<O: Outs>(
     requires ready { IsReady (seen_writer writer.old) (O.slots outs.old) }
     ensures goes { Goes (seen_writer writer.old) (seen_writer writer.new)
         (with_bytes (but_last_lines window.old.delim window.old.most (window.old.held ++ text.now)))
-        (effect_of O.told O.slots outs.old outs.new) (fault_in result) }
+        (effect_of O.visible O.slots outs.old outs.new) (fault_in result) }
     ensures window { OnOk result (window.new ≡ record window.old
         { held = last_lines window.old.delim window.old.most (window.old.held ++ text.now) }) }
     ensures size { OnOk result (size_of writer.new.current + length window.new.held
@@ -53,7 +54,7 @@ pub(crate) fn write_front<O: Outs>(
     requires fits { size_of writer.old.current + length window.old.held < 2 ^ 64 }
     requires ready { IsReady (seen_writer writer.old) (O.slots outs.old) }
     ensures goes { Goes (seen_writer writer.old) (seen_writer writer.new) (with_bytes (take n window.old.held))
-        (effect_of O.told O.slots outs.old outs.new) (fault_in result) }
+        (effect_of O.visible O.slots outs.old outs.new) (fault_in result) }
     ensures window { OnOk result (window.new ≡ without_first window.old n) }
     ensures size { OnOk result (size_of writer.new.current + length window.new.held
         ≤ size_of writer.old.current + length window.old.held) }

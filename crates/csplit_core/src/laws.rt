@@ -11,7 +11,7 @@ ghost use Rattle.csplit_core.specs.{
   Section.{is_final, lines_in, most_waiting, settled_sections, waiting_lines, whole_sections},
 };
 ghost use Rattle.operand_core.specs.declared.operand.Operand.{Operand};
-ghost use Rattle.ports_core.specs.Part.{Begins, lines_for};
+ghost use Rattle.engine_core.specs.Written.{Begins, lines_for};
 
 /// For any operands and lines there is one plan: the plan that is computed is right, and no other is (POSIX.1-2017, XCU
 /// csplit).

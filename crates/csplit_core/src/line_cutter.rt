@@ -5,7 +5,8 @@ ghost use Rattle.std.specs.{
 };
 ghost use Rattle.bre_core.specs.Pattern.{Pattern};
 ghost use Rattle.seg_core.specs.Line.{delimiters};
-ghost use Rattle.ports_core.specs.{Slot.is_writable, Swept.AreThere, InTurn.fault_in, FileWriter.{IsReady, size_of}};
+ghost use Rattle.ports_core.specs.Slot.{is_writable};
+ghost use Rattle.engine_core.specs.{Swept.AreThere, InTurn.fault_in, FileWriter.{IsReady, size_of}};
 ghost use Rattle.csplit_core.specs.{
   Csplit.verdict_of,
   Plan.{above, missed, CutPoint},
@@ -24,8 +25,9 @@ use crate::matcher::{Matcher, text_of};
 use crate::next_operand::{find_matcher, find_window, is_kept, next_operand, past_next};
 use crate::progress::{Attempt, CutPoint, Progress};
 use crate::{Operand, Style, Target, Times};
+use engine_core::FileWriter;
 use memchr::memchr;
-use ports_core::{Fault, FileWriter, Outs, Verdict};
+use ports_core::{Fault, Outs, Verdict};
 use seg_core::line::{NEWLINE, count_delimiters, next_line, reach};
 use seg_core::line_reach::Reach;
 use seg_core::line_window::LineWindow;
@@ -73,7 +75,7 @@ impl<'o> LineCutter<'o> {
     ) -> Result<LineCutter<'o>, Fault>
         requires streams { 2 ≤ length (O.slots outs.old) }
         requires output { IsTrue (is_writable (O.slots outs.old) 0) }
-        ensures { Opens O.told style operands.now (O.slots outs.old) (O.slots outs.new) result }
+        ensures { Opens O.visible style operands.now (O.slots outs.old) (O.slots outs.new) result }
     {
         let next = next_operand(operands, 0);
         let matcher = find_matcher(alloc, next)?;
@@ -118,7 +120,7 @@ impl<'o> LineCutter<'o> {
         requires fits { load (seen self.old) < 2 ^ 63 }
         requires sound { IsSound (seen self.old) }
         requires ready { IsReady (seen self.old).writer (O.slots outs.old) }
-        ensures { EndsAll O.told (seen self.old) (O.slots outs.old) (O.slots outs.new) (seen self.new)
+        ensures { EndsAll O.visible (seen self.old) (O.slots outs.old) (O.slots outs.new) (seen self.new)
             (fault_in result) }
     {
         let held = self.window.len();
@@ -160,7 +162,7 @@ impl<'o> LineCutter<'o> {
         requires fits { load (seen self.old) + length text.now < 2 ^ 63 }
         requires sound { IsSound (seen self.old) }
         requires ready { IsReady (seen self.old).writer (O.slots outs.old) }
-        ensures { Takes O.told (seen self.old) text.now (O.slots outs.old) (O.slots outs.new) (seen self.new)
+        ensures { Takes O.visible (seen self.old) text.now (O.slots outs.old) (O.slots outs.new) (seen self.new)
             (fault_in result) }
     {
         let mut left = text;
@@ -199,7 +201,7 @@ impl<'o> LineCutter<'o> {
         requires fits { load (seen self.old) + length text.now < 2 ^ 63 }
         requires sound { IsSound (seen self.old) }
         requires ready { IsReady (seen self.old).writer (O.slots outs.old) }
-        ensures { Stretches O.told (seen self.old) (stretch_of text.now size) (O.slots outs.old) (O.slots outs.new)
+        ensures { Stretches O.visible (seen self.old) (stretch_of text.now size) (O.slots outs.old) (O.slots outs.new)
             (seen self.new) result }
     {
         if self.is_past() {
@@ -234,7 +236,7 @@ impl<'o> LineCutter<'o> {
         requires none { self.old.window.held ≡ [] }
         requires cuts { WillCut (seen self.old) cut }
         requires ready { IsReady (seen self.old).writer (O.slots outs.old) }
-        ensures { CutsOn O.told (seen self.old) cut (stretch_of text.now size) (O.slots outs.old) (O.slots outs.new)
+        ensures { CutsOn O.visible (seen self.old) cut (stretch_of text.now size) (O.slots outs.old) (O.slots outs.new)
             (seen self.new) result }
     {
         let line = &text[..size];
@@ -261,7 +263,7 @@ impl<'o> LineCutter<'o> {
             < 2 ^ 63 }
         requires sound { IsSound (seen self.old) }
         requires ready { IsReady (seen self.old).writer (O.slots outs.old) }
-        ensures { PassesThenHolds O.told (seen self.old) (drop from (take size text.now)) (stretch_of text.now size)
+        ensures { PassesThenHolds O.visible (seen self.old) (drop from (take size text.now)) (stretch_of text.now size)
             (O.slots outs.old) (O.slots outs.new) (seen self.new) result }
     {
         let passed = self.pass_over(&text[size..]);
@@ -298,7 +300,7 @@ impl<'o> LineCutter<'o> {
         requires fits { load (seen self.old) + length line.now < 2 ^ 63 }
         requires sound { IsSound (seen self.old) }
         requires ready { IsReady (seen self.old).writer (O.slots outs.old) }
-        ensures { Takes O.told (seen self.old) line.now (O.slots outs.old) (O.slots outs.new) (seen self.new)
+        ensures { Takes O.visible (seen self.old) line.now (O.slots outs.old) (O.slots outs.new) (seen self.new)
             (fault_in result) }
     {
         self.stretch(line, line.len(), false, outs)?;
@@ -505,7 +507,7 @@ impl<'o> LineCutter<'o> {
         requires fit { IsFit (seen self.old) }
         requires cuts { WillCut (seen self.old) cut }
         requires ready { IsReady (seen self.old).writer (O.slots outs.old) }
-        ensures { CutsAll O.told (waits_with (seen self.old) cut line.now) [] (O.slots outs.old) (O.slots outs.new)
+        ensures { CutsAll O.visible (waits_with (seen self.old) cut line.now) [] (O.slots outs.old) (O.slots outs.new)
             (seen self.new) (fault_in result) }
     {
         let waiting = drain(self.alloc, &mut self.window, line)?;
@@ -532,9 +534,9 @@ impl<'o> LineCutter<'o> {
         requires none { self.old.window.held ≡ [] }
         requires cuts { WillCut (seen self.old) cut }
         requires ready { IsReady (seen self.old).writer (O.slots outs.old) }
-        ensures ok { IfOk result (λ left. Spread O.told (due (seen self.old) cut place waiting.now line.now)
+        ensures ok { IfOk result (λ left. Spread O.visible (due (seen self.old) cut place waiting.now line.now)
             (O.slots outs.old) (O.slots outs.new) (seen self.new) left.now) }
-        ensures err { IfErr result (λ fault. CutsAll O.told (due (seen self.old) cut place waiting.now line.now) []
+        ensures err { IfErr result (λ fault. CutsAll O.visible (due (seen self.old) cut place waiting.now line.now) []
             (O.slots outs.old) (O.slots outs.new) (seen self.new) (Some fault)) }
     {
         let mut left = self.cut_at(cut, place, waiting, outs)?;
@@ -560,10 +562,11 @@ impl<'o> LineCutter<'o> {
         requires cuts { WillCut (seen self.old) cut }
         requires ready { IsReady (seen self.old).writer (O.slots outs.old) }
         ensures ok { IfOk result (λ rest. (line : List ℕ)
-            → CutAt O.told (due (seen self.old) cut place waiting.now line) (O.slots outs.old) (O.slots outs.new)
+            → CutAt O.visible (due (seen self.old) cut place waiting.now line) (O.slots outs.old) (O.slots outs.new)
             (seen self.new) rest.now) }
         ensures err { IfErr result (λ fault. (line : List ℕ)
-            → CutsAll O.told (due (seen self.old) cut place waiting.now line) [] (O.slots outs.old) (O.slots outs.new)
+            → CutsAll O.visible (due (seen self.old) cut place waiting.now line) [] (O.slots outs.old)
+            (O.slots outs.new)
             (seen self.new) (Some fault)) }
     {
         let (before, rest) = split_lines(waiting, cut.line.saturating_sub(place));
@@ -610,7 +613,7 @@ impl<'o> LineCutter<'o> {
         requires fits { size_of self.old.writer.current + length self.old.window.held + length text.now < 2 ^ 63 }
         requires fit { IsFit (seen self.old) }
         requires ready { IsReady (seen self.old).writer (O.slots outs.old) }
-        ensures { HoldsLines O.told (seen self.old) (self.old.window.held ++ text.now) (O.slots outs.old)
+        ensures { HoldsLines O.visible (seen self.old) (self.old.window.held ++ text.now) (O.slots outs.old)
             (O.slots outs.new) (seen self.new) (fault_in result) }
     {
         if self.is_past() {

@@ -13,9 +13,9 @@ use Rattle.seg_core.{
   specs.{Line.{delimiters, ends_with}, declared.unit.Unit.{Unit as Counted, TheVariants.{Lines, Bytes}}},
   proofs.{LinesOf.{lines_of-append, joined-lines_of}, LineCounts.{line_count-closed, ends_with-append}},
 }
-use Rattle.ports_core.{
+use Rattle.engine_core.{
   specs.{
-    Part.{IsBeginning, nothing, only_out},
+    Written.{IsBeginning, nothing, only_out},
     Agreed.{CanCome, IsAgreed, IsUndecided, Spot, spot, spots_from, output_at, ArePlaced, GoesTo, NoFewerWait},
   },
   proofs.AgreedLemmas.{none_comes, one_comes, copies_come, other, other_differs, other_comes, agreed_now},

@@ -12,16 +12,19 @@ use Rattle.std.proofs.{
   Common.{◌↔◌, replicate, lit<, zero, suc, take, drop, rules},
 }
 use Rattle.ports_core.specs.{
-  Slot.{effect, Slot, is_writable, with_written, told_of},
+  Slot.{effect, Slot, is_writable, with_written, visible_of},
   Source.Source,
-  Part.{Part, StoppedBetween, only_out},
-  Work.{Work, Means, Needs, on_output, IsNeeded, IsSettled, IsSpare},
-  Engine.{EndsThere, IsMetThere, TakesIn, TookIn, PutsOut, CutsOff, IsMet, cut, judged, MayGet},
   declared.{fault.Fault.Fault, verdict.Verdict.{Verdict, TheVariants.Changed}},
   Inputs.PassesOver,
-  Guard.{GuardState, HoldsIn},
 }
-use Rattle.ports_core.proofs.{PartLemmas.out_more, LoadLemmas.passes_so, SpareLemmas.all_used}
+use Rattle.engine_core.specs.{
+  Written.{Written, StoppedBetween, only_out},
+  Work.{Work, Means, Needs, on_output, IsNeeded, IsSettled, IsSpare},
+  Engine.{EndsThere, IsMetThere, TakesIn, TookIn, PutsOut, CutsOff, IsMet, cut, judged, MayGet},
+  EngineState.{EngineState, HoldsIn},
+}
+use Rattle.engine_core.proofs.{WrittenLemmas.out_more, SpareLemmas.all_used}
+use Rattle.ports_core.proofs.InputsLemmas.{passes_so}
 use Rattle.seg_core.{
   specs.{declared.unit.Unit.{Unit as Counted, TheVariants.{Bytes, Lines}}, Line.delimiters},
   proofs.{
@@ -30,7 +33,7 @@ use Rattle.seg_core.{
   },
 }
 use Rattle.ends_core.specs.{
-  declared.{ends.Ends.{Ends, TheVariants.{First, ButLast, FromNth, Last, Between}}, front.Front.Front, kept.Kept.Kept},
+  declared.{ends.Portion.{Portion, TheVariants.{First, ButLast, FromNth, Last, Between}}, front.Front.Front, kept.Kept.Kept},
   declared.span.Span.Span,
   Ends.{measure, first_of, after_of, last_of},
   Shown.bytes_between,
@@ -55,12 +58,12 @@ use Rattle.ports_core.specs.declared.fault.Fault.TheVariants as fault_is
 use Rattle.ends_core.proofs.KeptLemmas as stop
 
 -- what depends only on what was asked for is the same if the same was asked for
-same_for : {A : Type 0} (f : Stretch → ℕ → Counted → ℕ → A) {old new : Ends} → SameAsked old new
+same_for : {A : Type 0} (f : Stretch → ℕ → Counted → ℕ → A) {old new : Portion} → SameAsked old new
     → f (stretch_of new) (delim_of new) (unit_of new) (count_of new)
     ≡ f (stretch_of old) (delim_of old) (unit_of old) (count_of old)
 same_for f same = grind (arith, common_steps)
 
-pub same_work : {old new : Ends} → SameAsked old new → work new ≡ work old
+pub same_work : {old new : Portion} → SameAsked old new → work new ≡ work old
 same_work same = same_for work_in same
 
 -- a stage writes to standard output alone, and may need memory if the last are kept
@@ -73,23 +76,23 @@ came_all : (span : Span) {x : List ℕ} → Holds (Between span) x → span.came
 came_all span holds = omega (arith, holds.missing, holds.past)
 
 -- the work ends well if nothing is missing
-pub well_there : (ends : Ends) (x : List ℕ) → missing_of ends ≡ 0 → Holds ends x → (work ends).verdict x ≡ None
+pub well_there : (ends : Portion) (x : List ℕ) → missing_of ends ≡ 0 → Holds ends x → (work ends).verdict x ≡ None
 well_there (Between span) x none holds = enough_came span.end x (omega (arith, came_all span holds))
 well_there ends x none holds = refl
 
 -- while bytes come the work never ends badly
-pub none_settled : (ends : Ends) (x : List ℕ) {verdict : Verdict} → IsSettled (work ends) x verdict → ⊥
+pub none_settled : (ends : Portion) (x : List ℕ) {verdict : Verdict} → IsSettled (work ends) x verdict → ⊥
 none_settled (First _ _) x {verdict} settled = none-some verdict settled.1
 none_settled (Between span) x {verdict} settled =
     none-some verdict (sym (enough_came span.end x (leb-true span.end (length x) settled.0)) ∙ settled.1)
 none_settled ends x settled = false≢true settled.0
 
 -- with these bytes the output has what is due, whatever came before
-abbrev pub Makes : Ends → List ℕ → (List ℕ → Part) → Type 0
+abbrev pub Makes : Portion → List ℕ → (List ℕ → Written) → Type 0
 Makes ends bytes whole = (x : List ℕ) → Holds ends x → record ((work ends).settled x) { out = ((work ends).settled x).out ++ bytes } ≡ whole x
 
 -- what is written with a piece is what the output gains by it
-pub went_out : (ends : Ends) (piece : List ℕ) → Makes ends (due ends piece) (λ x. (work ends).settled (x ++ piece))
+pub went_out : (ends : Portion) (piece : List ℕ) → Makes ends (due ends piece) (λ x. (work ends).settled (x ++ piece))
 went_out (First count _) piece x holds = grind (arith, common_steps, first_of-append)
 went_out (ButLast kept) piece x holds = grind (arith, common_steps, but_last_of-append)
 went_out (FromNth count _) piece x holds = grind (arith, common_steps, after_of-append)
@@ -98,36 +101,36 @@ went_out (Between span) piece x holds =
     rw (came_all span holds) (ap only_out (sym (bytes_between-append span.from span.end x piece)))
 
 -- what is written at the end is what the output gains by it
-pub rest_out : (ends : Ends) → Makes ends (due_at_end ends) (work ends).whole
+pub rest_out : (ends : Portion) → Makes ends (due_at_end ends) (work ends).whole
 rest_out (Last _) x holds = ap only_out holds.waits
 rest_out ends x holds = grind (arith, common_steps)
 
-module _ (told : Bool) (ends : Ends) (bytes : List ℕ) {whole : List ℕ → Part} (makes : Makes ends bytes whole)
+module _ (visible : Bool) (ends : Portion) (bytes : List ℕ) {whole : List ℕ → Written} (makes : Makes ends bytes whole)
     {old new : List Slot} where
-  pub puts_out : new ≡ with_written 0 (told_of told bytes) old → PutsOut terms ends whole (effect told old new)
-  puts_out wrote before x at = rw (makes x at.holds) at (out_more told before _ old new bytes at.outputs wrote)
+  pub puts_out : new ≡ with_written 0 (visible_of visible bytes) old → PutsOut terms ends whole (effect visible old new)
+  puts_out wrote before x at = rw (makes x at.holds) at (out_more visible before _ old new bytes at.outputs wrote)
 
   -- what stopped a write stopped an output of bytes
-  pub cuts_off : {lacks : Bool} {f : Fault} → Stops told lacks bytes old new f
-      → CutsOff terms ends whole (effect told old new) f
-  cuts_off {f = f} stops before x at = cut (stop.unjudged told stops)
-      (subst (λ output. StoppedBetween output told before ((work ends).settled x) (whole x) f new)
+  pub cuts_off : {lacks : Bool} {f : Fault} → Stops visible lacks bytes old new f
+      → CutsOff terms ends whole (effect visible old new) f
+  cuts_off {f = f} stops before x at = cut (stop.unjudged visible stops)
+      (subst (λ output. StoppedBetween output visible before ((work ends).settled x) (whole x) f new)
       (sym (ap (λ means. means.output) (on_means (stretch_of ends) (delim_of ends) (unit_of ends) (count_of ends))))
-      (rw (makes x at.holds) at (stop.between told at.outputs stops)))
+      (rw (makes x at.holds) at (stop.between visible at.outputs stops)))
 
 -- what waits after the piece
-waits_next : (ends : Ends) {x : List ℕ} (piece : List ℕ) → Holds ends x
+waits_next : (ends : Portion) {x : List ℕ} (piece : List ℕ) → Holds ends x
     → left_waiting ends piece ≡ waiting ends (x ++ piece)
 waits_next (ButLast kept) piece holds = grind (arith, common_steps, last_of-append)
 waits_next (Last kept) piece holds = grind (arith, common_steps, last_of-append)
 waits_next ends piece holds = refl
 
-waits_now : (ends : Ends) {next : Ends} {x : List ℕ} (piece : List ℕ) → SameAsked ends next
+waits_now : (ends : Portion) {next : Portion} {x : List ℕ} (piece : List ℕ) → SameAsked ends next
     → waiting_of next ≡ left_waiting ends piece → Holds ends x → waiting_of next ≡ waiting next (x ++ piece)
 waits_now ends {x} piece same waits holds =
     cc (waits, waits_next ends piece holds, same_for (λ s d u n. (work_in s d u n).waiting (x ++ piece)) same)
 
-left_now : (ends : Ends) {next : Ends} {x : List ℕ} (piece : List ℕ) → SameAsked ends next
+left_now : (ends : Portion) {next : Portion} {x : List ℕ} (piece : List ℕ) → SameAsked ends next
     → left_of next ≡ left_of ends - measure (delim_of ends) (unit_of ends) piece → Holds ends x
     → keeps (stretch_of next) ≡ false
     → left_of next ≡ front_in (stretch_of next) (count_of next) - measure (delim_of next) (unit_of next) (x ++ piece)
@@ -140,17 +143,18 @@ left_now ends {x = x} piece same left holds none =
       same_for (λ s d u n. front_in s n - measure d u (x ++ piece)) same,
     )
 
-missing_now : (ends : Ends) {next : Ends} {x : List ℕ} (piece : List ℕ) → SameAsked ends next
+missing_now : (ends : Portion) {next : Portion} {x : List ℕ} (piece : List ℕ) → SameAsked ends next
     → missing_of next ≡ missing_of ends - length piece → Holds ends x
     → missing_of next ≡ least_in (stretch_of next) - length (x ++ piece)
 missing_now ends {x = x} piece same missing holds =
     omega (arith, length-append x piece, holds.missing, ap least_in same.stretch)
 
-none_lacks : (ends : Ends) → keeps (stretch_of ends) ≡ false → may_lack ends ≡ false
+none_lacks : (ends : Portion) → keeps (stretch_of ends) ≡ false → may_lack ends ≡ false
 none_lacks (First count _) none = cc
 none_lacks ends none = cc
 
-full_lacks : (ends : Ends) (x : List ℕ) → waiting_of ends ≡ waiting ends x → FullLacksNone ends → unit_of ends ≡ Bytes
+full_lacks : (ends : Portion) (x : List ℕ) → waiting_of ends ≡ waiting ends x → FullLacksNone ends
+    → unit_of ends ≡ Bytes
     → count_of ends ≤ length x → may_lack ends ≡ false
 full_lacks (ButLast kept) x waits full bytes enough = grind (arith, common_steps)
 full_lacks (Last kept) x waits full bytes enough = grind (arith, common_steps)
@@ -168,7 +172,7 @@ past_after delim unit n x =
           (after_of delim unit n x),
     )
 
-past_next : (ends : Ends) {x : List ℕ} (piece : List ℕ) → Holds ends x
+past_next : (ends : Portion) {x : List ℕ} (piece : List ℕ) → Holds ends x
     → past_of ends + length (unused_of ends piece)
     ≡ past_in (stretch_of ends) (delim_of ends) (unit_of ends) (count_of ends) (x ++ piece)
 past_next (First count _) piece holds = grind (arith, common_steps, after_of-append, past_after)
@@ -176,7 +180,7 @@ past_next (Between span) {x} piece holds =
     omega (arith, came_all span holds, length-append x piece, length-drop (span.end - span.came) piece)
 past_next ends piece holds = refl
 
-pub takes_in : (ends : Ends) {next : Ends} (piece : List ℕ) → SameAsked ends next
+pub takes_in : (ends : Portion) {next : Portion} (piece : List ℕ) → SameAsked ends next
     → past_of next ≡ past_of ends + length (unused_of ends piece)
     → missing_of next ≡ missing_of ends - length piece
     → left_of next ≡ left_of ends - measure (delim_of ends) (unit_of ends) piece
@@ -215,58 +219,59 @@ between_exact end x true is = (λ yes. leb-true end (length x) (sym is), λ enou
 between_exact end x false is =
     (λ yes. absurd (false≢true yes), λ enough. absurd (false≢true (is ∙ le-leb end (length x) enough)))
 
-pub done_is_exact : (ends : Ends) {x : List ℕ} {full : Bool} → Holds ends x → full ≡ (work ends).is_complete x
+pub done_is_exact : (ends : Portion) {x : List ℕ} {full : Bool} → Holds ends x → full ≡ (work ends).is_complete x
     → IsTrue full ↔ is_done ends x
 done_is_exact (First count front) {x} {full} holds is = head_exact front.delim front.unit false count x full holds.byte is
 done_is_exact (ButLast kept) {x} {full} holds is = head_exact (kept_delim kept) (kept_unit kept) true (most_of kept) x full holds.byte is
 done_is_exact (Between span) {x} {full} holds is = between_exact span.end x full is
 done_is_exact ends holds is = grind (arith, common_steps)
 
-pub full_is : (ends : Ends) {x : List ℕ} → Holds ends x → is_full ends ≡ (work ends).is_complete x
+pub full_is : (ends : Portion) {x : List ℕ} → Holds ends x → is_full ends ≡ (work ends).is_complete x
 full_is (First count _) holds = grind (arith, common_steps)
 full_is (Between span) holds = ap (nat_le span.end) (came_all span holds)
 full_is ends holds = refl
 
 -- if memory may be lacking, something is kept
-pub lacks_kept : (ends : Ends) → may_lack ends ≡ true → keeps (stretch_of ends) ≡ true
+pub lacks_kept : (ends : Portion) → may_lack ends ≡ true → keeps (stretch_of ends) ≡ true
 lacks_kept (First count _) lacking = cc
 lacks_kept ends lacking = cc
 
 -- why a call stopped
-pub met : (told : Bool) (ends : Ends) (needs : Means → Needs) (Lacks : Type 0) (Fails : Verdict → Type 0)
+pub met : (visible : Bool) (ends : Portion) (needs : Means → Needs) (Lacks : Type 0) (Fails : Verdict → Type 0)
     {lacks : Bool} {bytes : List ℕ} {old new : List Slot} {f : Fault}
     → (lacks ≡ true → ((needs (on_output (keeps (stretch_of ends)))).memory ≡ true) × Lacks)
-    → IsTrue (is_writable old 0) → Stops told lacks bytes old new f
+    → IsTrue (is_writable old 0) → Stops visible lacks bytes old new f
     → IsMet (work ends).means (needs (work ends).means) Lacks Fails old new f
-met told ends needs Lacks Fails room can stops =
+met visible ends needs Lacks Fails room can stops =
     rw (on_means (stretch_of ends) (delim_of ends) (unit_of ends) (count_of ends))
-    (stop.met (on_output (keeps (stretch_of ends))) (needs (on_output (keeps (stretch_of ends)))) Lacks Fails told refl room can stops)
+    (stop.met (on_output (keeps (stretch_of ends))) (needs (on_output (keeps (stretch_of ends)))) Lacks Fails visible refl room can stops)
 
 -- how its end stopped
 
-pub ends_changed : (told : Bool) {ends : Ends} {missing : ℕ} {slots : List Slot} {f : Fault} → missing_of ends ≡ missing
-    → f ≡ fault_is.Verdict Changed → 0 < missing → EndsBadly told ends slots slots f
-ends_changed told are is some = rw is (changed (omega arith) refl)
+pub ends_changed : (visible : Bool) {ends : Portion} {missing : ℕ} {slots : List Slot} {f : Fault}
+    → missing_of ends ≡ missing
+    → f ≡ fault_is.Verdict Changed → 0 < missing → EndsBadly visible ends slots slots f
+ends_changed visible are is some = rw is (changed (omega arith) refl)
 
-pub ends_stopped : (told : Bool) {ends : Ends} {kept : Kept} {n : ℕ} {old new : List Slot} {f : Fault}
-    → ends ≡ Last kept → n ≡ length (held_of kept) → Stops told false (take n (held_of kept)) old new f
-    → EndsBadly told ends old new f
-ends_stopped told {kept = kept} {n} {f = f} is all stops =
+pub ends_stopped : (visible : Bool) {ends : Portion} {kept : Kept} {n : ℕ} {old new : List Slot} {f : Fault}
+    → ends ≡ Last kept → n ≡ length (held_of kept) → Stops visible false (take n (held_of kept)) old new f
+    → EndsBadly visible ends old new f
+ends_stopped visible {kept = kept} {n} {f = f} is all stops =
     rw is (stopped f (rw (take_all n (held_of kept) (omega arith)) at stops))
 
-pub ends_cut : (told : Bool) (ends : Ends) {old new : List Slot} {f : Fault} → EndsBadly told ends old new f
-    → CutsOff terms ends (work ends).whole (effect told old new) f
-ends_cut told (Between _) (changed _ same) before x at = judged refl _ at.outputs same
-ends_cut told ends (changed some same) before x at = absurd (omega arith)
-ends_cut told ends (stopped f stops) before x at = cuts_off told ends (due_at_end ends) (rest_out ends) stops before x at
+pub ends_cut : (visible : Bool) (ends : Portion) {old new : List Slot} {f : Fault} → EndsBadly visible ends old new f
+    → CutsOff terms ends (work ends).whole (effect visible old new) f
+ends_cut visible (Between _) (changed _ same) before x at = judged refl _ at.outputs same
+ends_cut visible ends (changed some same) before x at = absurd (omega arith)
+ends_cut visible ends (stopped f stops) before x at = cuts_off visible ends (due_at_end ends) (rest_out ends) stops before x at
 
-pub ends_met : (told : Bool) (ends : Ends) {old new : List Slot} {f : Fault} → IsTrue (is_writable old 0)
-    → EndsBadly told ends old new f → IsMetThere terms ends old new f
-ends_met told (Between span) can (changed some same) =
+pub ends_met : (visible : Bool) (ends : Portion) {old new : List Slot} {f : Fault} → IsTrue (is_writable old 0)
+    → EndsBadly visible ends old new f → IsMetThere terms ends old new f
+ends_met visible (Between span) can (changed some same) =
     λ x holds. fewer_came span.end x (omega (arith, came_all span holds))
-ends_met told ends can (changed some same) = absurd (omega arith)
-ends_met told ends can (stopped f stops) =
-    met told ends (λ means. means.closing) _ (EndsThere terms ends) (λ never. absurd (cc)) can stops
+ends_met visible ends can (changed some same) = absurd (omega arith)
+ends_met visible ends can (stopped f stops) =
+    met visible ends (λ means. means.closing) _ (EndsThere terms ends) (λ never. absurd (cc)) can stops
 
 -- what a call owes for its result, from what the call within it gave
 
@@ -278,28 +283,28 @@ on_ok_each (Err f) also is too three = tt
 -- what is passed over of an input before any piece is as a piece with which nothing is written
 
 -- with no byte nothing is written
-pub silent_none : (ends : Ends) → WritesNothing ends []
+pub silent_none : (ends : Portion) → WritesNothing ends []
 silent_none (FromNth _ front) = (stays front front.unit).0
 silent_none (Between span) = (omega arith, inl refl)
 silent_none ends = refl
 
-pub passed_none : (ends : Ends) → ends ≡ passed ends []
+pub passed_none : (ends : Portion) → ends ≡ passed ends []
 passed_none (FromNth count front) = ap (FromNth count) (stays front front.unit).1
 passed_none (Between span) = ap (λ came. Between (record span { came = came })) (omega arith)
 passed_none ends = refl
 
-pub passed_front : {told : Bool} {slot count n : ℕ} {ends next : Ends} {front now : Front} {old new : List Source}
+pub passed_front : {visible : Bool} {slot count n : ℕ} {ends next : Portion} {front now : Front} {old new : List Source}
     → ends ≡ FromNth n front → next ≡ FromNth n now
-    → PassesOver told slot count (λ x. (after_of front.delim front.unit front.left x ≡ [])
+    → PassesOver visible slot count (λ x. (after_of front.delim front.unit front.left x ≡ [])
     × (now ≡ front_after front x)) old new
-    → PassesOver told slot count (λ x. WritesNothing ends x × (next ≡ passed ends x)) old new
+    → PassesOver visible slot count (λ x. WritesNothing ends x × (next ≡ passed ends x)) old new
 passed_front is after passes = passes_so _ passes (λ x long keeps. rw (is, after, keeps.1) (keeps.0, refl))
 
-pub passed_span : {told : Bool} {slot count : ℕ} {ends next : Ends} {span now : Span} {old new : List Source}
+pub passed_span : {visible : Bool} {slot count : ℕ} {ends next : Portion} {span now : Span} {old new : List Source}
     → ends ≡ Between span → next ≡ Between now
-    → PassesOver told slot count (λ x. (length x ≤ span.from) × ((x ≡ []) ⊎ (length x < span.end))
+    → PassesOver visible slot count (λ x. (length x ≤ span.from) × ((x ≡ []) ⊎ (length x < span.end))
     × (now ≡ record span { came = span.came + length x })) old new
-    → PassesOver told slot count (λ x. WritesNothing ends x × (next ≡ passed ends x)) old new
+    → PassesOver visible slot count (λ x. WritesNothing ends x × (next ≡ passed ends x)) old new
 passed_span is after passes =
     passes_so _ passes (λ x long keeps. rw (is, after, keeps.2) ((keeps.0, keeps.1), refl))
 
@@ -307,7 +312,7 @@ passed_span is after passes =
 pub none_before : (from end : ℕ) (x : List ℕ) → length x ≤ from → bytes_between from end x ≡ []
 none_before from end x few = drop_all from (take end x) (omega (arith, length-take end x))
 
-took_in : (ends : Ends) {x : List ℕ} → Holds ends [] → terms.size ends ≡ 0 → WritesNothing ends x
+took_in : (ends : Portion) {x : List ℕ} → Holds ends [] → terms.size ends ≡ 0 → WritesNothing ends x
     → TookIn terms ends (passed ends x) x
 took_in (FromNth count front) {x} fresh none silent = record {
   same = refl;
@@ -344,15 +349,15 @@ took_in ends fresh none silent = rw silent (record {
   going = inl refl;
 })
 
-pub loads : (told : Bool) {slot count : ℕ} {ends next : Ends} {old new : List Source} → Holds ends []
+pub loads : (visible : Bool) {slot count : ℕ} {ends next : Portion} {old new : List Source} → Holds ends []
     → terms.size ends ≡ 0
-    → PassesOver told slot count (λ x. WritesNothing ends x × (next ≡ passed ends x)) old new
-    → PassesOver told slot count (TookIn terms ends next) old new
-loads told {ends = ends} fresh none passes =
+    → PassesOver visible slot count (λ x. WritesNothing ends x × (next ≡ passed ends x)) old new
+    → PassesOver visible slot count (TookIn terms ends next) old new
+loads visible {ends = ends} fresh none passes =
     passes_so _ passes (λ x long keeps. rw keeps.1 (took_in ends fresh none keeps.0))
 
 -- What waits in an engine that was fed a text.
-module _ (engine : GuardState Ends) (x : List ℕ) (holds : HoldsIn Holds engine x) where
+module _ (engine : EngineState Portion) (x : List ℕ) (holds : HoldsIn Holds engine x) where
   pub head_waits : stretch_of engine.stage ≡ all_but_last
       → waiting_of engine.stage ≡ last_of (delim_of engine.stage) (unit_of engine.stage) (count_of engine.stage) x
   head_waits is = holds.within.waits ∙ ap (λ s. (work_in s (delim_of engine.stage) (unit_of engine.stage) (count_of engine.stage)).waiting x) is
@@ -472,7 +477,7 @@ spare_so same spare = record {
   enough = rw same at spare.enough;
 }
 
-pub spare_here : (ends : Ends) {x : List ℕ} → Holds ends x → IsSpare (work ends) x (past_of ends)
+pub spare_here : (ends : Portion) {x : List ℕ} → Holds ends x → IsSpare (work ends) x (past_of ends)
 spare_here (First count front) {x} holds = spare_so refl
     (subst (IsSpare (head_work front.delim front.unit false count) x) (sym (holds.past ∙ past_after front.delim front.unit count x))
     (first_used front.delim front.unit count))
@@ -518,7 +523,7 @@ few_spare delim Lines count x piece spare is going enough within =
     let few = few_between delim x piece spare.used spare.rest spare.joined past in
     omega (arith, length-append {A = ℕ}, ap length spare.joined)
 
-pub may_get : (ends : Ends) → MayGet terms ends (wanted_by ends)
+pub may_get : (ends : Portion) → MayGet terms ends (wanted_by ends)
 may_get (First count front) x piece after n holds going within same later spare = elim spare.enough [
   | inl none ↦ omega (arith, ap length none)
   | inr complete ↦ few_spare front.delim front.unit count x piece spare (holds.left refl)
@@ -531,7 +536,7 @@ may_get (Between span) x piece after n holds going within same later spare = eli
 ]
 may_get ends x piece after n holds going within same later spare = grind (arith, common_steps)
 
-pub wants_some : (ends : Ends) {x : List ℕ} → Holds ends x → (work ends).is_complete x ≡ false → 0 < wanted_by ends
+pub wants_some : (ends : Portion) {x : List ℕ} → Holds ends x → (work ends).is_complete x ≡ false → 0 < wanted_by ends
 wants_some (First count _) holds going = grind (arith, common_steps)
 wants_some (Between span) {x} holds going =
     omega (arith, leb-false span.end (length x) going, came_all span holds)

@@ -22,10 +22,12 @@ use Rattle.seg_core.{
     LinesOf.{joined-lines_of, lines_of-append},
   },
 }
-use Rattle.ports_core.{
-  specs.{Slot.changed_at, Source.{Content, ShowsOf, Source, count_shown, is_readable, looks}, Inputs.HasLooked},
-  proofs.LoadLemmas.{looked_again, looked_once, looked_readable},
+use Rattle.ports_core.specs.{
+  Slot.changed_at,
+  Source.{Content, ShowsOf, Source, count_shown, is_readable, looks},
+  Inputs.HasLooked,
 }
+use Rattle.ports_core.proofs.InputsLemmas.{looked_again, looked_once, looked_readable}
 use Rattle.ends_core.{specs.{Ends.last_of, Shown.{SeenLast, place_of}}, proofs.AgreedLemmas.none_last}
 
 -- Where the last lines of a text begin
@@ -158,23 +160,25 @@ looked_block {most} size buffer so_far can few is = looked_again {least = most} 
 
 -- What is known of the text that an input shows, of which its end was looked at from a place on: this number of delimiters is still wanted
 -- before it. If bytes aren't visible, the input may show any text with that end.
-pub record SeenFrom (told : Bool) (left : Content) (delim count wanted end len : ℕ) : Type 0 where
+pub record SeenFrom (visible : Bool) (left : Content) (delim count wanted end len : ℕ) : Type 0 where
   pub text : List ℕ
-  pub shown : told ≡ true → left.shown ≡ Some text
+  pub shown : visible ≡ true → left.shown ≡ Some text
   pub long : len ≡ length text
   pub still : IsWanted delim count wanted end text
 
 -- before any look: a text of this length
-text_shown : (told : Bool) {len : ℕ} (shown : Option (List ℕ)) → (told ≡ true → Some len ≡ option_map length shown)
-    → (text : List ℕ) × (told ≡ true → shown ≡ Some text) × (len ≡ length text)
+text_shown : (visible : Bool) {len : ℕ} (shown : Option (List ℕ))
+    → (visible ≡ true → Some len ≡ option_map length shown)
+    → (text : List ℕ) × (visible ≡ true → shown ≡ Some text) × (len ≡ length text)
 text_shown false {len} shown counted = (replicate len 0, λ never. absurd (cc), sym (length-replicate len 0))
 text_shown true {len} None counted = absurd (none-some len (sym (counted refl)))
 text_shown true (Some text) counted = (text, λ tells. refl, let same = counted refl in cc)
 
-pub seen_none : (told : Bool) {left : Content} (delim count : ℕ) {len : ℕ} → (told ≡ true → Some len ≡ count_shown left)
-    → SeenFrom told left delim count count (len - 1) len
-seen_none told {left} delim count {len} counted =
-    let text = text_shown told left.shown counted in record {
+pub seen_none : (visible : Bool) {left : Content} (delim count : ℕ) {len : ℕ}
+    → (visible ≡ true → Some len ≡ count_shown left)
+    → SeenFrom visible left delim count count (len - 1) len
+seen_none visible {left} delim count {len} counted =
+    let text = text_shown visible left.shown counted in record {
       text = text.0;
       shown = text.1;
       long = text.2;
@@ -190,10 +194,10 @@ but_one_end {k} x y within same also =
     ∙ ap (λ n. drop k (take n y)) (omega arith)
 
 -- a look shows a block of the text
-pub block_seen : (told : Bool) {left : Content} {delim count wanted end len : ℕ} (from size : ℕ) {block : List ℕ}
-    → SeenFrom told left delim count wanted end len → from + size ≡ end → end ≤ len - 1 → length block ≡ size
-    → (told ≡ true → ShowsOf left from block)
-    → (seen : SeenFrom told left delim count wanted end len) × (block ≡ take size (drop from seen.text))
+pub block_seen : (visible : Bool) {left : Content} {delim count wanted end len : ℕ} (from size : ℕ) {block : List ℕ}
+    → SeenFrom visible left delim count wanted end len → from + size ≡ end → end ≤ len - 1 → length block ≡ size
+    → (visible ≡ true → ShowsOf left from block)
+    → (seen : SeenFrom visible left delim count wanted end len) × (block ≡ take size (drop from seen.text))
 block_seen true from size seen place within long shows =
     let (text, is, there) = shows refl in
     let shown = seen.shown refl in
@@ -224,13 +228,14 @@ place_is : (delim : ℕ) (unit : Counted) (n : ℕ) {at : ℕ} (text : List ℕ)
     → drop at text ≡ last_of delim unit n text → at ≡ place_of delim unit n text
 place_is delim unit n {at} text within is = omega (arith, sym (ap length is) ∙ length-drop at text)
 
-module _ {told : Bool} {left : Content} {delim count wanted end len : ℕ} where
+module _ {visible : Bool} {left : Content} {delim count wanted end len : ℕ} where
   -- the wanted delimiter stands in a block
-  pub found_in : (from size : ℕ) {at : ℕ} {block : List ℕ} → SeenFrom told left delim count wanted end len
-      → from + size ≡ end → 0 < end → end ≤ len - 1 → length block ≡ size → (told ≡ true → ShowsOf left from block)
-      → BeginsAt delim wanted block at → SeenLast told left delim Lines count (record { place = from + at; len = len })
+  pub found_in : (from size : ℕ) {at : ℕ} {block : List ℕ} → SeenFrom visible left delim count wanted end len
+      → from + size ≡ end → 0 < end → end ≤ len - 1 → length block ≡ size → (visible ≡ true → ShowsOf left from block)
+      → BeginsAt delim wanted block at
+      → SeenLast visible left delim Lines count (record { place = from + at; len = len })
   found_in from size seen place some within long shows begins =
-      let now = block_seen told from size seen place within long shows in
+      let now = block_seen visible from size seen place within long shows in
       let text = now.0.text in
       let many = now.0.long in
       let there = begins_in from size text now.0.still place (omega arith) now.1 begins in
@@ -242,11 +247,11 @@ module _ {told : Bool} {left : Content} {delim count wanted end len : ℕ} where
       }
 
   -- the wanted delimiter doesn't stand in a block
-  pub seen_more : (from size : ℕ) {found : ℕ} {block : List ℕ} → SeenFrom told left delim count wanted end len
-      → from + size ≡ end → end ≤ len - 1 → length block ≡ size → (told ≡ true → ShowsOf left from block)
-      → FallsShort delim wanted block found → SeenFrom told left delim count (wanted - found) from len
+  pub seen_more : (from size : ℕ) {found : ℕ} {block : List ℕ} → SeenFrom visible left delim count wanted end len
+      → from + size ≡ end → end ≤ len - 1 → length block ≡ size → (visible ≡ true → ShowsOf left from block)
+      → FallsShort delim wanted block found → SeenFrom visible left delim count (wanted - found) from len
   seen_more from size seen place within long shows short =
-      let now = block_seen told from size seen place within long shows in
+      let now = block_seen visible from size seen place within long shows in
       let many = now.0.long in record {
         text = now.0.text;
         shown = now.0.shown;
@@ -255,8 +260,8 @@ module _ {told : Bool} {left : Content} {delim count wanted end len : ℕ} where
       }
 
   -- the walk came to the front: all lines are among the last
-  pub found_all : SeenFrom told left delim count wanted end len → end ≡ 0 → 0 < wanted
-      → SeenLast told left delim Lines count (record { place = 0; len = len })
+  pub found_all : SeenFrom visible left delim count wanted end len → end ≡ 0 → 0 < wanted
+      → SeenLast visible left delim Lines count (record { place = 0; len = len })
   found_all seen front some = record {
     text = seen.text;
     shown = seen.shown;
@@ -265,11 +270,11 @@ module _ {told : Bool} {left : Content} {delim count wanted end len : ℕ} where
   }
 
 -- none are wanted
-pub found_none : (told : Bool) {left : Content} (delim : ℕ) {count len : ℕ} → count ≡ 0
-    → (told ≡ true → Some len ≡ count_shown left)
-    → SeenLast told left delim Lines count (record { place = len; len = len })
-found_none told {left} delim none counted =
-    let text = text_shown told left.shown counted in record {
+pub found_none : (visible : Bool) {left : Content} (delim : ℕ) {count len : ℕ} → count ≡ 0
+    → (visible ≡ true → Some len ≡ count_shown left)
+    → SeenLast visible left delim Lines count (record { place = len; len = len })
+found_none visible {left} delim none counted =
+    let text = text_shown visible left.shown counted in record {
       text = text.0;
       shown = text.1;
       place = omega (arith, none_last delim Lines text.0, ap (λ n. length (last_of delim Lines n text.0)) none);
@@ -277,11 +282,11 @@ found_none told {left} delim none counted =
     }
 
 -- bytes need no look
-pub found_bytes : (told : Bool) {left : Content} (delim count : ℕ) {len : ℕ}
-    → (told ≡ true → Some len ≡ count_shown left)
-    → SeenLast told left delim Bytes count (record { place = len - count; len = len })
-found_bytes told {left} delim count {len} counted =
-    let text = text_shown told left.shown counted in record {
+pub found_bytes : (visible : Bool) {left : Content} (delim count : ℕ) {len : ℕ}
+    → (visible ≡ true → Some len ≡ count_shown left)
+    → SeenLast visible left delim Bytes count (record { place = len - count; len = len })
+found_bytes visible {left} delim count {len} counted =
+    let text = text_shown visible left.shown counted in record {
       text = text.0;
       shown = text.1;
       place = omega (arith, length-drop (length text.0 - count) text.0);

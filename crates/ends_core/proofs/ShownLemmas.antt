@@ -10,8 +10,8 @@ use Rattle.std.proofs.{
   Math.Seq.take-append_seam,
 }
 use Rattle.seg_core.specs.declared.unit.Unit.{Unit as Counted}
-use Rattle.ports_core.{
-  specs.{Agreed.{ArePlaced, IsAgreed, IsUndecided, Spot, spot, spots_from}, Part.only_out},
+use Rattle.engine_core.{
+  specs.{Agreed.{ArePlaced, IsAgreed, IsUndecided, Spot, spot, spots_from}, Written.only_out},
   proofs.AgreedLemmas.{IsStretch, agreed_now, common, same_spots, spot_in, spot_past, stretch_placed},
 }
 use Rattle.ends_core.specs.{

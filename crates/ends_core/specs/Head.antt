@@ -1,6 +1,6 @@
 -- The first part of an input, as an engine writes it: POSIX.1-2017, XCU head; the option -c is GNU's.
 use Rattle.std.specs.Prelude.{◌≡◌, ℕ, ◌<◌, ◌&&◌, not, nat_le, Bool, false, List, [], ◌++◌, All, if◌then◌else◌}
-use Rattle.ports_core.specs.{Part.only_out, Work.{Work, on_output, always_well}}
+use Rattle.engine_core.specs.{Written.only_out, Work.{Work, on_output, always_well}}
 use Rattle.seg_core.specs.declared.unit.Unit.{Unit as Counted, TheVariants.{Lines, Bytes}}
 use Rattle.ends_core.specs.Ends.{measure, last_of, head_of}
 

@@ -1,6 +1,6 @@
 -- Where the bytes of an input go: `head` and `tail` write one stretch of it to standard output, and nothing else.
 use Rattle.std.specs.Prelude.{ℕ, ◌-◌, nat_lt, Bool, List, [], ◌∷◌, length, if◌then◌else◌}
-use Rattle.ports_core.specs.Agreed.{Spot, spots_from}
+use Rattle.engine_core.specs.Agreed.{Spot, spots_from}
 use Rattle.seg_core.specs.declared.unit.Unit.{Unit as Counted}
 use Rattle.ends_core.specs.{Ends.{head_of, tail_of}, Shown.bytes_between}
 

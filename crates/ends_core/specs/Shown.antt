@@ -6,12 +6,8 @@ use Rattle.std.specs.{
   Prelude.{length, take, drop, if◌then◌else◌},
 }
 use Rattle.seg_core.specs.declared.unit.Unit.{Unit as Counted}
-use Rattle.ports_core.specs.{
-  Part.only_out,
-  Source.Content,
-  Work.{Work, on_output},
-  declared.verdict.Verdict.{Verdict, TheVariants.Changed},
-}
+use Rattle.engine_core.specs.{Written.only_out, Work.{Work, on_output}}
+use Rattle.ports_core.specs.{Source.Content, declared.verdict.Verdict.{Verdict, TheVariants.Changed}}
 use Rattle.ends_core.specs.{declared.find.Found.Found, Ends.last_of, Head.head_work, Tail.tail_work}
 
 -- an input that showed n bytes and ends with fewer has changed
@@ -62,8 +58,9 @@ tail_in delim unit from_nth n shown = tail_work delim unit from_nth n
 
 -- What was found of the last n lines or bytes of an input: where they begin, and how many bytes the text has that it
 -- shows. If bytes aren't visible, that is some text.
-pub record SeenLast (told : Bool) (left : Content) (delim : ℕ) (unit : Counted) (n : ℕ) (found : Found) : Type 0 where
+pub record SeenLast (visible : Bool) (left : Content) (delim : ℕ) (unit : Counted) (n : ℕ) (found : Found)
+    : Type 0 where
   pub text : List ℕ
-  pub shown : told ≡ true → left.shown ≡ Some text
+  pub shown : visible ≡ true → left.shown ≡ Some text
   pub place : found.place ≡ place_of delim unit n text
   pub len : found.len ≡ length text

@@ -1,9 +1,10 @@
 -- The one stage of `head` and `tail`, as contracts see it.
 use Rattle.std.specs.Prelude.{◌≡◌, ℕ, ◌-◌, ◌<◌, ◌≤◌, Bool, true, false, List, [], length, IsTrue}
-use Rattle.ports_core.specs.{Work.Work, Slot.is_writable, Engine.Terms}
+use Rattle.engine_core.specs.{Work.Work, Engine.Terms}
+use Rattle.ports_core.specs.Slot.{is_writable}
 use Rattle.seg_core.specs.declared.unit.Unit.{Unit as Counted, TheVariants.{Lines, Bytes}}
 use Rattle.ends_core.specs.{
-  declared.ends.Ends.{Ends, TheVariants.{First, ButLast, FromNth, Last, Between}},
+  declared.ends.Portion.{Portion, TheVariants.{First, ButLast, FromNth, Last, Between}},
   Ends.{first_of, measure},
   Head.{head_work, IsDone},
   Tail.tail_work,
@@ -44,14 +45,14 @@ front_in from_the_nth n = n - 1
 front_in the_last n = n
 front_in (between from end) n = from
 
-abbrev pub stretch_of : Ends → Stretch
+abbrev pub stretch_of : Portion → Stretch
 stretch_of (First count front) = the_first
 stretch_of (ButLast kept) = all_but_last
 stretch_of (FromNth count front) = from_the_nth
 stretch_of (Last kept) = the_last
 stretch_of (Between span) = between span.from span.end
 
-abbrev pub unit_of : Ends → Counted
+abbrev pub unit_of : Portion → Counted
 unit_of (First count front) = front.unit
 unit_of (ButLast kept) = kept_unit kept
 unit_of (FromNth count front) = front.unit
@@ -59,7 +60,7 @@ unit_of (Last kept) = kept_unit kept
 unit_of (Between span) = Bytes
 
 -- the byte with which lines end, if lines are counted
-abbrev pub delim_of : Ends → ℕ
+abbrev pub delim_of : Portion → ℕ
 delim_of (First count front) = front.delim
 delim_of (ButLast kept) = kept_delim kept
 delim_of (FromNth count front) = front.delim
@@ -67,7 +68,7 @@ delim_of (Last kept) = kept_delim kept
 delim_of (Between span) = 0
 
 -- how many lines or bytes were asked for
-abbrev pub count_of : Ends → ℕ
+abbrev pub count_of : Portion → ℕ
 count_of (First count front) = count
 count_of (ButLast kept) = most_of kept
 count_of (FromNth count front) = count
@@ -75,14 +76,14 @@ count_of (Last kept) = most_of kept
 count_of (Between span) = span.end
 
 -- what a stage was asked for; only lines have a delimiter
-pub record IsAsked (stretch : Stretch) (unit : Counted) (count delim : ℕ) (ends : Ends) : Type 0 where
+pub record IsAsked (stretch : Stretch) (unit : Counted) (count delim : ℕ) (ends : Portion) : Type 0 where
   pub stretch_is : stretch_of ends ≡ stretch
   pub unit_is : unit_of ends ≡ unit
   pub count_is : count_of ends ≡ count
   pub delim_is : unit ≡ Lines → delim_of ends ≡ delim
 
 -- how many lines or bytes at the front are still to come
-abbrev pub left_of : Ends → ℕ
+abbrev pub left_of : Portion → ℕ
 left_of (First count front) = front.left
 left_of (ButLast kept) = 0
 left_of (FromNth count front) = front.left
@@ -90,7 +91,7 @@ left_of (Last kept) = 0
 left_of (Between span) = span.from - span.came
 
 -- how many bytes came in after the last byte that is written
-abbrev pub past_of : Ends → ℕ
+abbrev pub past_of : Portion → ℕ
 past_of (First count front) = front.past
 past_of (ButLast kept) = 0
 past_of (FromNth count front) = 0
@@ -106,7 +107,7 @@ least_in the_last = 0
 least_in (between from end) = end
 
 -- how many bytes of an unchanged input are still to come
-abbrev pub missing_of : Ends → ℕ
+abbrev pub missing_of : Portion → ℕ
 missing_of (First count front) = 0
 missing_of (ButLast kept) = 0
 missing_of (FromNth count front) = 0
@@ -122,7 +123,7 @@ past_in the_last delim unit n x = 0
 past_in (between from end) delim unit n x = length x - end
 
 -- the bytes that wait
-abbrev pub waiting_of : Ends → List ℕ
+abbrev pub waiting_of : Portion → List ℕ
 waiting_of (First count front) = []
 waiting_of (ButLast kept) = held_of kept
 waiting_of (FromNth count front) = []
@@ -130,21 +131,21 @@ waiting_of (Last kept) = held_of kept
 waiting_of (Between span) = []
 
 -- whether there may be no memory for more waiting bytes
-abbrev pub may_lack : Ends → Bool
+abbrev pub may_lack : Portion → Bool
 may_lack (First count front) = false
 may_lack (ButLast kept) = may_lack_of kept
 may_lack (FromNth count front) = false
 may_lack (Last kept) = may_lack_of kept
 may_lack (Between span) = false
 
-abbrev pub work : Ends → Work
+abbrev pub work : Portion → Work
 work ends = work_in (stretch_of ends) (delim_of ends) (unit_of ends) (count_of ends)
 
-abbrev pub waiting : Ends → List ℕ → List ℕ
+abbrev pub waiting : Portion → List ℕ → List ℕ
 waiting ends x = (work ends).waiting x
 
 -- the stage may have been fed x
-pub record Holds (ends : Ends) (x : List ℕ) : Type 0 where
+pub record Holds (ends : Portion) (x : List ℕ) : Type 0 where
   -- the delimiter is a byte
   pub byte : delim_of ends < 256
   pub left : keeps (stretch_of ends) ≡ false
@@ -165,11 +166,11 @@ done_in from_the_nth delim unit n x = ⊥
 done_in the_last delim unit n x = ⊥
 done_in (between from end) delim unit n x = end ≤ length x
 
-abbrev pub is_done : Ends → List ℕ → Type 0
+abbrev pub is_done : Portion → List ℕ → Type 0
 is_done ends x = done_in (stretch_of ends) (delim_of ends) (unit_of ends) (count_of ends) x
 
 -- how many bytes the stage has to count
-abbrev pub size_of : Ends → ℕ
+abbrev pub size_of : Portion → ℕ
 size_of (First count front) = front.past
 size_of (ButLast kept) = length (held_of kept)
 size_of (FromNth count front) = 0
@@ -177,7 +178,7 @@ size_of (Last kept) = length (held_of kept)
 size_of (Between span) = span.came
 
 -- what the stage owes; it writes to standard output alone
-abbrev pub terms : Terms Ends
+abbrev pub terms : Terms Portion
 terms = record {
   Holds = Holds;
   work = work;

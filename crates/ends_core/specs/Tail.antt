@@ -1,6 +1,6 @@
 -- The last part of an input, as an engine writes it: POSIX.1-2017, XCU tail.
 use Rattle.std.specs.Prelude.{ℕ, Bool, not, true, false, List, [], if◌then◌else◌}
-use Rattle.ports_core.specs.{Part.{nothing, only_out}, Work.{Work, on_output, always_well}}
+use Rattle.engine_core.specs.{Written.{nothing, only_out}, Work.{Work, on_output, always_well}}
 use Rattle.seg_core.specs.declared.unit.Unit.{Unit as Counted}
 use Rattle.ends_core.specs.Ends.{last_of, tail_of}
 

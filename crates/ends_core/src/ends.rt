@@ -2,12 +2,8 @@
 ghost use Rattle.std.specs.{
   Prelude.{◌≡◌, ◌+◌, ◌-◌, ◌^◌, ◌<◌, ◌≤◌, ℕ, List, [], true, false, if◌then◌else◌, length, IsTrue, IfOk, IfErr, OnOk},
 };
-ghost use Rattle.ports_core.specs.{
-  Slot.{is_writable, told_of, with_written},
-  Source.is_readable,
-  Guard.HoldsIn,
-  Inputs.PassesOver,
-};
+ghost use Rattle.ports_core.specs.{Slot.{is_writable, visible_of, with_written}, Source.is_readable, Inputs.PassesOver};
+ghost use Rattle.engine_core.specs.EngineState.{HoldsIn};
 ghost use Rattle.ends_core.specs.{
   Ends.measure,
   Head.head_work,
@@ -28,14 +24,15 @@ use crate::Unit;
 use crate::front::{Front, pass_after, pass_front};
 use crate::kept::Kept;
 use crate::span::Span;
-use ports_core::{Fault, Guarded, Inputs, Outs, Stage};
+use engine_core::{Engine, Stage};
+use ports_core::{Fault, Inputs, Outs};
 use std::alloc::Global;
 
 /// Writes a part of an input, each byte as soon as nothing that follows can change that it is written. For the first, from number n on, and
 /// between two places it takes no memory. For all but the last, and for the last, it takes as much as the last lines or bytes of what came
 /// in; of bytes no more once as many came in as are kept.
 #[derive(Drop)]
-pub enum Ends {
+pub enum Portion {
     /// The first lines or bytes: how many were asked for, and how many are still to come.
     First(u64, Front),
     /// All but the last lines or bytes, which are kept.
@@ -68,7 +65,7 @@ impl Head {
         but_last: bool,
         count: u64,
         delim: u8,
-    ) -> Result<Guarded<Ends>, Fault>
+    ) -> Result<Engine<Portion>, Fault>
         ensures holds { IfOk result (λ head. HoldsIn Holds head []) }
         ensures asked { IfOk result (λ head.
             IsAsked (if but_last then all_but_last else the_first) unit count delim head.stage) }
@@ -78,21 +75,21 @@ impl Head {
     {
         if but_last {
             let kept = Kept::open(alloc, unit, count, delim)?;
-            return Ok(Guarded::new(Ends::ButLast(kept)));
+            return Ok(Engine::new(Portion::ButLast(kept)));
         }
         let front = Front::new(unit, delim, count);
-        Ok(Guarded::new(Ends::First(count, front)))
+        Ok(Engine::new(Portion::First(count, front)))
     }
 
     /// An engine that writes the first `place` bytes of an input that showed as many before its last lines or bytes. It takes no memory,
     /// and its `close` gives `Changed` if fewer came.
-    pub fn up_to(place: u64) -> Guarded<Ends>
+    pub fn up_to(place: u64) -> Engine<Portion>
         ensures holds { HoldsIn Holds result [] }
         ensures does { (delim : ℕ) (unit : Counted) (n : ℕ) (text : List ℕ) → place_of delim unit n text ≡ place
             → work result.stage ≡ head_shown delim unit n text }
         ensures bound { result.fed < 2 ^ 63 }
     {
-        Guarded::new(Ends::Between(Span {
+        Engine::new(Portion::Between(Span {
             from: 0,
             end: place,
             came: 0,
@@ -113,7 +110,7 @@ impl Tail {
         from_nth: bool,
         count: u64,
         delim: u8,
-    ) -> Result<Guarded<Ends>, Fault>
+    ) -> Result<Engine<Portion>, Fault>
         ensures holds { IfOk result (λ tail. HoldsIn Holds tail []) }
         ensures asked { IfOk result (λ tail.
             IsAsked (if from_nth then from_the_nth else the_last) unit count delim tail.stage) }
@@ -123,21 +120,21 @@ impl Tail {
     {
         if from_nth {
             let front = Front::new(unit, delim, count.saturating_sub(1));
-            return Ok(Guarded::new(Ends::FromNth(count, front)));
+            return Ok(Engine::new(Portion::FromNth(count, front)));
         }
         let kept = Kept::open(alloc, unit, count, delim)?;
-        Ok(Guarded::new(Ends::Last(kept)))
+        Ok(Engine::new(Portion::Last(kept)))
     }
 
     /// An engine that writes the bytes of an input from `place` up to `len`: the last lines or bytes of what it showed, which were `len`
     /// bytes. Whatever comes after these is not written. It takes no memory, and its `close` gives `Changed` if fewer came.
-    pub fn after(place: u64, len: u64) -> Guarded<Ends>
+    pub fn after(place: u64, len: u64) -> Engine<Portion>
         ensures holds { HoldsIn Holds result [] }
         ensures does { (delim : ℕ) (unit : Counted) (n : ℕ) (text : List ℕ) → place_of delim unit n text ≡ place
             → length text ≡ len → work result.stage ≡ tail_shown delim unit n text }
         ensures bound { result.fed < 2 ^ 63 }
     {
-        Guarded::new(Ends::Between(Span {
+        Engine::new(Portion::Between(Span {
             from: place,
             end: len,
             came: 0,
@@ -145,7 +142,7 @@ impl Tail {
     }
 }
 
-impl Stage for Ends {
+impl Stage for Portion {
     ghost terms = { terms };
 
     /// Takes in a piece, and writes to standard output what is decided now, of what waited and of the piece. What no
@@ -166,15 +163,15 @@ impl Stage for Ends {
         ensures missing { missing_of self.new ≡ missing_of self.old - length piece.now }
         ensures waits { OnOk result (waiting_of self.new ≡ left_waiting self.old piece.now) }
         ensures full { OnOk result (FullLacksNone self.new) }
-        ensures wrote { Writes O.told (may_lack self.old) (due self.old piece.now) (O.slots outs.old)
+        ensures wrote { Writes O.visible (may_lack self.old) (due self.old piece.now) (O.slots outs.old)
             (O.slots outs.new) result }
     {
         match self {
-            Ends::First(_, front) => pass_front(front, piece, outs),
-            Ends::ButLast(kept) => kept.pass(piece, outs),
-            Ends::FromNth(_, front) => pass_after(front, piece, outs),
-            Ends::Last(kept) => kept.take_in(piece),
-            Ends::Between(span) => span.pass(piece, outs),
+            Portion::First(_, front) => pass_front(front, piece, outs),
+            Portion::ButLast(kept) => kept.pass(piece, outs),
+            Portion::FromNth(_, front) => pass_after(front, piece, outs),
+            Portion::Last(kept) => kept.take_in(piece),
+            Portion::Between(span) => span.pass(piece, outs),
         }
     }
 
@@ -183,14 +180,15 @@ impl Stage for Ends {
     fn load<I: Inputs>(&mut self, slot: usize, most: usize, inputs: &mut I) -> u64
         requires input { IsTrue (is_readable (I.sources inputs.old) slot) }
         requires none { size_of self.old ≡ 0 }
-        ensures passes { PassesOver I.told slot result (λ x. WritesNothing self.old x × (self.new ≡ passed self.old x))
+        ensures passes { PassesOver I.visible slot result
+            (λ x. WritesNothing self.old x × (self.new ≡ passed self.old x))
             (I.sources inputs.old) (I.sources inputs.new) }
         ensures laid { I.laid inputs.new ≡ I.laid inputs.old }
     {
         match self {
-            Ends::FromNth(_, front) => front.pass_over(slot, most, inputs),
-            Ends::Between(span) => span.pass_over(slot, most, inputs),
-            Ends::First(_, _) | Ends::ButLast(_) | Ends::Last(_) => 0,
+            Portion::FromNth(_, front) => front.pass_over(slot, most, inputs),
+            Portion::Between(span) => span.pass_over(slot, most, inputs),
+            Portion::First(_, _) | Portion::ButLast(_) | Portion::Last(_) => 0,
         }
     }
 
@@ -205,16 +203,16 @@ impl Stage for Ends {
         ensures bound { size_of self.new ≤ size_of self.old }
         ensures whole { OnOk result (missing_of self.old ≡ 0) }
         ensures out { OnOk result (O.slots outs.new
-            ≡ with_written 0 (told_of O.told (due_at_end self.old)) (O.slots outs.old)) }
-        ensures cut { IfErr result (EndsBadly O.told self.old (O.slots outs.old) (O.slots outs.new)) }
+            ≡ with_written 0 (visible_of O.visible (due_at_end self.old)) (O.slots outs.old)) }
+        ensures cut { IfErr result (EndsBadly O.visible self.old (O.slots outs.old) (O.slots outs.new)) }
     {
         match self {
-            Ends::First(_, _) | Ends::ButLast(_) | Ends::FromNth(_, _) => Ok(()),
-            Ends::Last(kept) => {
+            Portion::First(_, _) | Portion::ButLast(_) | Portion::FromNth(_, _) => Ok(()),
+            Portion::Last(kept) => {
                 let all = kept.len();
                 kept.write_front(all, outs)
             }
-            Ends::Between(span) => span.finish(),
+            Portion::Between(span) => span.finish(),
         }
     }
 
@@ -227,9 +225,9 @@ impl Stage for Ends {
         ensures { result ≡ is_full self.now }
     {
         match self {
-            Ends::First(_, front) => front.left == 0,
-            Ends::Between(span) => span.end <= span.came,
-            Ends::ButLast(_) | Ends::FromNth(_, _) | Ends::Last(_) => false,
+            Portion::First(_, front) => front.left == 0,
+            Portion::Between(span) => span.end <= span.came,
+            Portion::ButLast(_) | Portion::FromNth(_, _) | Portion::Last(_) => false,
         }
     }
 
@@ -237,8 +235,8 @@ impl Stage for Ends {
         ensures { result ≡ length (waiting_of self.now) }
     {
         match self {
-            Ends::First(_, _) | Ends::FromNth(_, _) | Ends::Between(_) => 0,
-            Ends::ButLast(kept) | Ends::Last(kept) => kept.len(),
+            Portion::First(_, _) | Portion::FromNth(_, _) | Portion::Between(_) => 0,
+            Portion::ButLast(kept) | Portion::Last(kept) => kept.len(),
         }
     }
 
@@ -248,9 +246,9 @@ impl Stage for Ends {
         ensures { result ≡ wanted_by self.now }
     {
         match self {
-            Ends::First(_, front) => front.wanted(),
-            Ends::Between(span) => span.missing(),
-            Ends::ButLast(_) | Ends::FromNth(_, _) | Ends::Last(_) => u64::MAX,
+            Portion::First(_, front) => front.wanted(),
+            Portion::Between(span) => span.missing(),
+            Portion::ButLast(_) | Portion::FromNth(_, _) | Portion::Last(_) => u64::MAX,
         }
     }
 
@@ -258,9 +256,9 @@ impl Stage for Ends {
         ensures { result ≡ past_of self.now }
     {
         match self {
-            Ends::First(_, front) => front.past,
-            Ends::Between(span) => span.came.saturating_sub(span.end),
-            Ends::ButLast(_) | Ends::FromNth(_, _) | Ends::Last(_) => 0,
+            Portion::First(_, front) => front.past,
+            Portion::Between(span) => span.came.saturating_sub(span.end),
+            Portion::ButLast(_) | Portion::FromNth(_, _) | Portion::Last(_) => 0,
         }
     }
 

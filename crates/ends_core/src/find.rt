@@ -31,9 +31,9 @@ pub fn find_last<I: Inputs>(
     requires room { 0 < length buffer.old }
     requires input { IsTrue (is_readable (I.sources inputs.old) slot) }
     ensures found { IfSome result
-        (λ found. SeenLast I.told (source_at (I.sources inputs.old) slot).left delim unit count found) }
+        (λ found. SeenLast I.visible (source_at (I.sources inputs.old) slot).left delim unit count found) }
     ensures none { IfNone result
-        (I.told ≡ true → (source_at (I.sources inputs.old) slot).left.shown ≡ None) }
+        (I.visible ≡ true → (source_at (I.sources inputs.old) slot).left.shown ≡ None) }
     ensures looked { HasLooked (length buffer.old) slot (I.sources inputs.old) (I.sources inputs.new) }
     ensures laid { I.laid inputs.new ≡ I.laid inputs.old }
 {
@@ -66,12 +66,12 @@ fn find_lines<I: Inputs>(
 ) -> Option<u64>
     requires room { 0 < length buffer.old }
     requires input { IsTrue (is_readable (I.sources inputs.old) slot) }
-    requires shown { I.told ≡ true → Some len ≡ count_shown (source_at (I.sources inputs.old) slot).left }
+    requires shown { I.visible ≡ true → Some len ≡ count_shown (source_at (I.sources inputs.old) slot).left }
     ensures found { IfSome result
-        (λ place. SeenLast I.told (source_at (I.sources inputs.old) slot).left delim Unit.Lines count
+        (λ place. SeenLast I.visible (source_at (I.sources inputs.old) slot).left delim Unit.Lines count
         (record { place = place; len = len })) }
     ensures none { IfNone result
-        (I.told ≡ true → (source_at (I.sources inputs.old) slot).left.shown ≡ None) }
+        (I.visible ≡ true → (source_at (I.sources inputs.old) slot).left.shown ≡ None) }
     ensures looked { HasLooked (length buffer.old) slot (I.sources inputs.old) (I.sources inputs.new) }
     ensures laid { I.laid inputs.new ≡ I.laid inputs.old }
 {

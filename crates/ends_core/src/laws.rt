@@ -11,14 +11,14 @@ ghost use Rattle.ends_core.specs.{
   Stage.{Holds, all_but_last, count_of, delim_of, terms, keeps, may_lack, stretch_of, the_last, unit_of, waiting_of},
   Stage.work,
   Tail.{tail_waiting, tail_work},
-  declared.ends.Ends.Ends,
+  declared.ends.Portion.Portion,
 };
-ghost use Rattle.ports_core.specs.{
+ghost use Rattle.engine_core.specs.{
   Agreed.{ArePlaced, CanCome, IsAgreed, IsUndecided, NoFewerWait},
   Work.IsNeeded,
-  Guard.{GuardState, HoldsIn, IsRefusedWith},
-  Slot.Slot,
+  EngineState.{EngineState, HoldsIn, IsRefusedWith},
 };
+ghost use Rattle.ports_core.specs.Slot.{Slot};
 
 use crate::Unit;
 use ports_core::{Fault, Verdict};
@@ -32,7 +32,8 @@ pub fn head_goes_on(unit: Unit, delim: u8)
     ensures but_last { (n : ℕ) (x y : List ℕ)
         → but_last_of delim unit n (x ++ y)
         ≡ but_last_of delim unit n x ++ but_last_of delim unit n (last_of delim unit n x ++ y) }
-    ensures waits { (head : GuardState Ends) (x : List ℕ) → HoldsIn Holds head x → stretch_of head.stage ≡ all_but_last
+    ensures waits { (head : EngineState Portion) (x : List ℕ) → HoldsIn Holds head x
+        → stretch_of head.stage ≡ all_but_last
         → waiting_of head.stage ≡ last_of (delim_of head.stage) (unit_of head.stage) (count_of head.stage) x }
 {
     let _ = (unit, delim);
@@ -43,7 +44,8 @@ pub fn head_goes_on(unit: Unit, delim: u8)
 pub fn nothing_is_lost(unit: Unit, delim: u8)
     ensures first { (n : ℕ) (x : List ℕ) → first_of delim unit n x ++ after_of delim unit n x ≡ x }
     ensures last { (n : ℕ) (x : List ℕ) → but_last_of delim unit n x ++ last_of delim unit n x ≡ x }
-    ensures waits { (head : GuardState Ends) (x : List ℕ) → HoldsIn Holds head x → stretch_of head.stage ≡ all_but_last
+    ensures waits { (head : EngineState Portion) (x : List ℕ) → HoldsIn Holds head x
+        → stretch_of head.stage ≡ all_but_last
         → ((work head.stage).settled x).out ++ waiting_of head.stage ≡ x }
 {
     let _ = (unit, delim);
@@ -72,7 +74,7 @@ pub fn tail_goes_on(unit: Unit, delim: u8)
         ≡ tail_of delim unit true n x ++ after_of delim unit (n - 1 - measure delim unit x) y }
     ensures last { (n : ℕ) (x y : List ℕ)
         → last_of delim unit n (x ++ y) ≡ last_of delim unit n (last_of delim unit n x ++ y) }
-    ensures waits { (tail : GuardState Ends) (x : List ℕ) → HoldsIn Holds tail x → stretch_of tail.stage ≡ the_last
+    ensures waits { (tail : EngineState Portion) (x : List ℕ) → HoldsIn Holds tail x → stretch_of tail.stage ≡ the_last
         → waiting_of tail.stage ≡ last_of (delim_of tail.stage) (unit_of tail.stage) (count_of tail.stage) x }
     ensures few { (n : ℕ) (x : List ℕ) → size delim unit (last_of delim unit n x) ≤ n }
 {
@@ -141,11 +143,12 @@ pub fn shown_is_settled(unit: Unit, delim: u8)
 /// on. Nor if bytes wait, once as many came in as are to wait. Then `feed` fails only if standard output breaks, or if the input is too
 /// long.
 pub fn full_windows_lack_nothing()
-    ensures full { (engine : GuardState Ends) (x : List ℕ) → HoldsIn Holds engine x → unit_of engine.stage ≡ Unit.Bytes
+    ensures full { (engine : EngineState Portion) (x : List ℕ) → HoldsIn Holds engine x
+        → unit_of engine.stage ≡ Unit.Bytes
         → count_of engine.stage ≤ length x → may_lack engine.stage ≡ false }
-    ensures none { (engine : GuardState Ends) (x : List ℕ) → HoldsIn Holds engine x
+    ensures none { (engine : EngineState Portion) (x : List ℕ) → HoldsIn Holds engine x
         → keeps (stretch_of engine.stage) ≡ false → may_lack engine.stage ≡ false }
-    ensures fails { (engine : GuardState Ends) (x piece : List ℕ) (old new : List Slot) (why : Fault)
+    ensures fails { (engine : EngineState Portion) (x piece : List ℕ) (old new : List Slot) (why : Fault)
         → HoldsIn Holds engine x → may_lack engine.stage ≡ false → IsRefusedWith terms piece engine old new why
         → (why ≡ Fault.Write 0) ⊎ (why ≡ Fault.TooLong) }
 {}

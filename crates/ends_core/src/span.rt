@@ -25,7 +25,7 @@ impl Span {
         requires writable { IsTrue (is_writable (O.slots outs.old) 0) }
         requires fits { self.old.came + length piece.now < 2 ^ 64 }
         ensures came { self.new ≡ record self.old { came = self.old.came + length piece.now } }
-        ensures wrote { Writes O.told false
+        ensures wrote { Writes O.visible false
             (bytes_between (self.old.from - self.old.came) (self.old.end - self.old.came) piece.now)
             (O.slots outs.old) (O.slots outs.new) result }
     {
@@ -44,7 +44,7 @@ impl Span {
     pub fn pass_over<I: Inputs>(&mut self, slot: usize, most: usize, inputs: &mut I) -> u64
         requires input { IsTrue (is_readable (I.sources inputs.old) slot) }
         requires fresh { self.old.came ≡ 0 }
-        ensures passes { PassesOver I.told slot result
+        ensures passes { PassesOver I.visible slot result
             (λ x. (length x ≤ self.old.from) × ((x ≡ []) ⊎ (length x < self.old.end))
             × (self.new ≡ record self.old { came = self.old.came + length x }))
             (I.sources inputs.old) (I.sources inputs.new) }

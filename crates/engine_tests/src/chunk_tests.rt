@@ -1,11 +1,13 @@
 //! Chunks of an input, and one turn of its lines, row by row.
 ghost use Rattle.std.specs.Prelude.{◌≤◌, ◌<◌, [], length, IfOk, IfSome, IsTrue};
-ghost use Rattle.ports_core.specs.{Guard.HoldsIn, Slot.is_writable};
+ghost use Rattle.engine_core.specs.EngineState.{HoldsIn};
+ghost use Rattle.ports_core.specs.Slot.{is_writable};
 ghost use Rattle.split_core.specs.{Split.TellsNoSizes, Alike.as_if, Ways.{Ready, terms}};
 
 use crate::play::{Step, close, feed, has_files, play};
+use engine_core::{Engine, Tells};
 use mem_core::MemOut;
-use ports_core::{Alphabet, Fault, Guarded, Naming, Numbering, Outs, Tells, Verdict};
+use ports_core::{Alphabet, Fault, Naming, Numbering, Outs, Verdict};
 use seg_core::unit::Unit;
 use split_core::{Chunks, Splitter, Way};
 use std::alloc::Global;
@@ -548,7 +550,7 @@ pub(crate) fn open(
     elide: bool,
     tells: Tells,
     outs: &mut MemOut,
-) -> Result<Guarded<Splitter>, Fault>
+) -> Result<Engine<Splitter>, Fault>
     requires tells { TellsNoSizes tells }
     requires streams { 2 ≤ length outs.old }
     requires output { IsTrue (is_writable outs.old 0) }

@@ -8,8 +8,9 @@ use crate::chunks_plain::{Wanted, plain_so_far, plain_whole};
 use crate::play::{close, feed};
 use crate::round_tests::has_name;
 use crate::test_texts::{DELIMITERS, Short, pieces_of, short_texts};
+use engine_core::{Engine, Tells};
 use mem_core::MemOut;
-use ports_core::{Fault, Guarded, Outs, Tells};
+use ports_core::{Fault, Outs};
 use split_core::{Chunks, Splitter, Way};
 use std::alloc::{AllocError, Global};
 use std::process::Abort;
@@ -297,7 +298,7 @@ fn agrees(alloc: Global, job: Job, pieces: &[&[u8]], wanted: &[Wanted]) -> Resul
 }
 
 fn gives(
-    engine: &mut Guarded<Splitter>,
+    engine: &mut Engine<Splitter>,
     outs: &mut MemOut,
     pieces: &[&[u8]],
     wanted: &[Wanted],

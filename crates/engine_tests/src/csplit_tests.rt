@@ -5,8 +5,9 @@ ghost use Rattle.csplit_core.specs.CsplitState.{IsReady};
 
 use crate::play::{feed, feed_and_close, has_files};
 use csplit_core::{Csplitter, Operands, Style, read_operands};
+use engine_core::Engine;
 use mem_core::MemOut;
-use ports_core::{Base, Calling, Fault, Filling, Form, Guarded, Outs, Verdict};
+use ports_core::{Base, Calling, Fault, Filling, Form, Outs, Verdict};
 use std::alloc::{AllocError, Global};
 use std::process::Abort;
 use std::test::Fail;
@@ -543,7 +544,7 @@ pub(crate) fn open<'o>(
     style: Style,
     operands: &'o Operands,
     outs: &mut MemOut,
-) -> Result<Guarded<Csplitter<'o>>, Fault>
+) -> Result<Engine<Csplitter<'o>>, Fault>
     requires streams { 2 ≤ length outs.old }
     requires output { IsTrue (is_writable outs.old 0) }
     ensures { IfOk result (λ engine. IsReady engine.stage outs.new) }

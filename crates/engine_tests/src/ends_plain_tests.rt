@@ -5,9 +5,10 @@ ghost use Rattle.ports_core.specs.Slot.{is_writable};
 use crate::ends_plain::{Asked, Side, plain};
 use crate::play::{close, feed_all, open_ends};
 use crate::test_texts::{DELIMITERS, Short, short_texts};
-use ends_core::{Ends, Unit};
+use ends_core::{Portion, Unit};
+use engine_core::Engine;
 use mem_core::MemOut;
-use ports_core::{Fault, Guarded};
+use ports_core::Fault;
 use std::alloc::Global;
 use std::test::Fail;
 
@@ -88,7 +89,7 @@ fn agrees(alloc: Global, asked: Asked, pieces: &[&[u8]], wanted: &[u8]) -> Resul
 }
 
 fn writes(
-    engine: &mut Guarded<Ends>,
+    engine: &mut Engine<Portion>,
     outs: &mut MemOut,
     pieces: &[&[u8]],
     settled: &[u8],

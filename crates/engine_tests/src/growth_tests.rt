@@ -14,10 +14,11 @@ use crate::play::{close, feed, feed_all, open_ends, open_splitter};
 use crate::tee_tests::pass as pass_on;
 use crate::told_tests::open as open_telling;
 use csplit_core::{OperandFaultKind, read_operands};
-use ends_core::{Ends, Head, Tail, Unit};
+use ends_core::{Head, Portion, Tail, Unit};
+use engine_core::{Engine, Stage, Tells};
 use follow_core::{Follow, Notice, Start, notice_line};
 use mem_core::{Edit, MemOut, MemWatch};
-use ports_core::{Alphabet, Calling, Fault, Guarded, Mode, Naming, Numbering, Outs, Stage, Tells};
+use ports_core::{Alphabet, Calling, Fault, Mode, Naming, Numbering, Outs};
 use split_core::{Chunks, Cut, Limit, Splitter, Way};
 use std::alloc::Global;
 use std::process::Abort;
@@ -227,7 +228,7 @@ fn asked(side: Side, unit: Unit, count: u64) -> Asked {
     }
 }
 
-fn open_cut(alloc: Global, cut: Cut, outs: &mut MemOut) -> Result<Guarded<Splitter>, Fault>
+fn open_cut(alloc: Global, cut: Cut, outs: &mut MemOut) -> Result<Engine<Splitter>, Fault>
     requires { 2 ≤ length outs.old }
     ensures { IfOk result (λ splitter. Ready splitter.stage outs.new) }
 {
@@ -265,7 +266,7 @@ fn cuts(
 /// Feeds an engine and closes it. After a fault it is over, and the outputs stay.
 fn goes<S: Stage>(
     rt: &impl Abort,
-    engine: &mut Guarded<S>,
+    engine: &mut Engine<S>,
     outs: &mut MemOut,
     pieces: &[&[u8]],
 ) -> Result<(), Fault>
@@ -282,7 +283,7 @@ fn goes<S: Stage>(
     Ok(())
 }
 
-fn stays_over<S: Stage>(rt: &impl Abort, engine: &mut Guarded<S>, outs: &mut MemOut)
+fn stays_over<S: Stage>(rt: &impl Abort, engine: &mut Engine<S>, outs: &mut MemOut)
     requires { engine.old.is_over ≡ false → S.terms.Ready engine.old.stage outs.old }
 {
     let before = sizes(outs);
@@ -459,7 +460,7 @@ fn fill(
 
 fn feed_more(
     rt: &impl Abort,
-    engine: &mut Guarded<Ends>,
+    engine: &mut Engine<Portion>,
     outs: &mut MemOut,
     first: &[u8],
     more: &[u8],

@@ -1,13 +1,15 @@
 //! What stands before a tail that counts from the front, or before one chunk, is passed over, in texts that are longer than a
 //! read.
 ghost use Rattle.std.specs.Prelude.{[], List};
-ghost use Rattle.ports_core.specs.{Guard.HoldsIn, Slot.Slot};
+ghost use Rattle.engine_core.specs.EngineState.{HoldsIn};
+ghost use Rattle.ports_core.specs.Slot.{Slot};
 
 use crate::chunk_tests::{CHANGED, LINES as LINES_OF_THREE, THREE, open as open_chunks};
 use crate::play::{Step, play};
 use ends_core::{Tail, Unit};
+use engine_core::{Engine, Stage, Tells};
 use mem_core::{MemIn, MemOut};
-use ports_core::{Guarded, Inputs, Stage, Tells};
+use ports_core::Inputs;
 use split_core::{Chunks, Way};
 use std::alloc::Global;
 use std::process::Abort;
@@ -101,7 +103,7 @@ fn load_row(rt: &impl Abort, alloc: Global, number: usize, row: &Row<'_>) -> Res
 pub(crate) fn takes_in<S: Stage>(
     rt: &impl Abort,
     alloc: Global,
-    engine: &mut Guarded<S>,
+    engine: &mut Engine<S>,
     bytes: &[u8],
     shown: &[u8],
     taken: u64,

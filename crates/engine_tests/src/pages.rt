@@ -5,11 +5,13 @@ mod followed_file;
 mod operand_count;
 mod text_parts;
 mod text_sections;
+mod whole_text;
 
 use crate::csplit_tests::{Options, style_of};
 use crate::play::has_files;
 use copied_twice::copy_twice;
 use csplit_core::read_operands;
+use ends_core::{Head, Unit};
 use first_lines::write_first_lines;
 use followed_file::follow_file;
 use mem_core::{Edit, MemOut, MemWatch};
@@ -18,6 +20,7 @@ use ports_core::Calling;
 use std::test::Fail;
 use text_parts::write_parts;
 use text_sections::write_sections;
+use whole_text::take_text;
 
 #[test]
 fn writes_first_lines(rt: HostRuntime) -> Result<(), Fail> {
@@ -71,5 +74,14 @@ fn follows_a_file(rt: HostRuntime) -> Result<(), Fail> {
     let mut outs = MemOut::new(rt.alloc())?;
     assert_eq!(rt; follow_file(rt.alloc(), 2, &mut watch, &mut outs), 0);
     assert_eq!(rt; outs.bytes(0), b"b\nc\n".as_slice());
+    Ok(())
+}
+
+#[test]
+fn takes_a_text(rt: HostRuntime) -> Result<(), Fail> {
+    let mut outs = MemOut::new(rt.alloc())?;
+    let mut head = Head::open(rt.alloc(), Unit::Lines, false, 1, b'\n')?;
+    take_text(&mut head, b"a\nb\n", &mut outs)?;
+    assert_eq!(rt; outs.bytes(0), b"a\n".as_slice());
     Ok(())
 }

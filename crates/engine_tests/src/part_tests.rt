@@ -6,8 +6,9 @@ ghost use Rattle.split_core.specs.Ways.{Ready};
 use crate::part_plain::plain_parts;
 use crate::play::{Step, close, feed, has_files, open_splitter, play};
 use crate::test_texts::{DELIMITERS, Short, pieces_of, short_texts};
+use engine_core::Engine;
 use mem_core::MemOut;
-use ports_core::{Alphabet, Fault, Guarded, Naming, Numbering, Outs, Verdict};
+use ports_core::{Alphabet, Fault, Naming, Numbering, Outs, Verdict};
 use split_core::{Cut, Limit, Splitter};
 use std::alloc::Global;
 use std::process::Abort;
@@ -365,7 +366,7 @@ fn open_with(
     cut: Cut,
     naming: Naming,
     outs: &mut MemOut,
-) -> Result<Guarded<Splitter>, Fault>
+) -> Result<Engine<Splitter>, Fault>
     requires streams { 2 ≤ length outs.old }
     ensures { IfOk result (λ splitter. Ready splitter.stage outs.new) }
 {
@@ -376,7 +377,7 @@ fn open_with(
 }
 
 /// A splitter whose files have the names xaa, xab and so on.
-fn open(alloc: Global, limit: Limit, outs: &mut MemOut) -> Result<Guarded<Splitter>, Fault>
+fn open(alloc: Global, limit: Limit, outs: &mut MemOut) -> Result<Engine<Splitter>, Fault>
     requires { 2 ≤ length outs.old }
     ensures { IfOk result (λ splitter. Ready splitter.stage outs.new) }
 {
@@ -463,7 +464,7 @@ fn agrees_in_pieces(
 }
 
 fn fills(
-    splitter: &mut Guarded<Splitter>,
+    splitter: &mut Engine<Splitter>,
     outs: &mut MemOut,
     pieces: &[&[u8]],
     files: &[&[u8]],

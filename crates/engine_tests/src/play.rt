@@ -1,14 +1,15 @@
 //! Tests as tables: what is done with an engine step by step, and what must be so between.
 ghost use Rattle.std.specs.Prelude.{◌≡◌, ◌≤◌, [], false, length, IfOk};
 ghost use Rattle.ends_core.specs.Stage.{Holds};
-ghost use Rattle.ports_core.specs.Guard.{HoldsIn};
+ghost use Rattle.engine_core.specs.EngineState.{HoldsIn};
 ghost use Rattle.seg_core.specs.Cut.{IsPositive};
 ghost use Rattle.split_core.specs.{Split.HasNames, Ways.Ready};
 
 use crate::ends_plain::{Asked, Side};
-use ends_core::{Ends, Head, Tail};
+use ends_core::{Head, Portion, Tail};
+use engine_core::{Engine, Stage, Tells};
 use mem_core::MemOut;
-use ports_core::{Fault, Guarded, Naming, Outs, Stage, Tells};
+use ports_core::{Fault, Naming, Outs};
 use split_core::{Cut, Splitter, Way};
 use std::alloc::Global;
 use std::process::Abort;
@@ -45,7 +46,7 @@ pub(crate) enum Step<'a> {
 /// Takes all steps of a row with an engine, one after another.
 pub(crate) fn play<S: Stage>(
     rt: &impl Abort,
-    engine: &mut Guarded<S>,
+    engine: &mut Engine<S>,
     outs: &mut MemOut,
     row: usize,
     steps: &[Step<'_>],
@@ -60,7 +61,7 @@ pub(crate) fn play<S: Stage>(
 }
 
 /// Takes a step with an engine, and returns whether that came of it which must.
-fn take<S: Stage>(engine: &mut Guarded<S>, outs: &mut MemOut, step: &Step<'_>) -> bool
+fn take<S: Stage>(engine: &mut Engine<S>, outs: &mut MemOut, step: &Step<'_>) -> bool
     requires { engine.old.is_over ≡ false → S.terms.Ready engine.old.stage outs.old }
     ensures { engine.new.is_over ≡ false → S.terms.Ready engine.new.stage outs.new }
 {
@@ -79,7 +80,7 @@ fn take<S: Stage>(engine: &mut Guarded<S>, outs: &mut MemOut, step: &Step<'_>) -
 }
 
 /// Opens an engine of `head` or `tail`.
-pub(crate) fn open_ends(alloc: Global, asked: Asked) -> Result<Guarded<Ends>, Fault>
+pub(crate) fn open_ends(alloc: Global, asked: Asked) -> Result<Engine<Portion>, Fault>
     ensures { IfOk result (λ ends. HoldsIn Holds ends []) }
 {
     match asked.side {
@@ -97,7 +98,7 @@ pub(crate) fn open_splitter(
     naming: Naming,
     elide: bool,
     outs: &mut MemOut,
-) -> Result<Guarded<Splitter>, Fault>
+) -> Result<Engine<Splitter>, Fault>
     requires some { IsPositive cut }
     requires enough { HasNames cut naming }
     requires streams { 2 ≤ length outs.old }
@@ -116,7 +117,7 @@ pub(crate) fn open_splitter(
 
 /// Feeds an engine a piece, also one that is over.
 pub(crate) fn feed<S: Stage>(
-    engine: &mut Guarded<S>,
+    engine: &mut Engine<S>,
     outs: &mut MemOut,
     piece: &[u8],
 ) -> Result<(), Fault>
@@ -128,7 +129,7 @@ pub(crate) fn feed<S: Stage>(
 
 /// Feeds an engine these pieces, also one that is over.
 pub(crate) fn feed_all<S: Stage>(
-    engine: &mut Guarded<S>,
+    engine: &mut Engine<S>,
     outs: &mut MemOut,
     pieces: &[&[u8]],
 ) -> Result<(), Fault>
@@ -143,7 +144,7 @@ pub(crate) fn feed_all<S: Stage>(
 
 /// Feeds an engine these pieces, and closes it.
 pub(crate) fn feed_and_close<S: Stage>(
-    engine: &mut Guarded<S>,
+    engine: &mut Engine<S>,
     outs: &mut MemOut,
     pieces: &[&[u8]],
 ) -> Result<(), Fault>
@@ -154,7 +155,7 @@ pub(crate) fn feed_and_close<S: Stage>(
 }
 
 /// Closes an engine, also one that is over.
-pub(crate) fn close<S: Stage>(engine: &mut Guarded<S>, outs: &mut MemOut) -> Result<(), Fault>
+pub(crate) fn close<S: Stage>(engine: &mut Engine<S>, outs: &mut MemOut) -> Result<(), Fault>
     requires { engine.old.is_over ≡ false → S.terms.Ready engine.old.stage outs.old }
     ensures { engine.new.is_over ≡ false → S.terms.Ready engine.new.stage outs.new }
 {
@@ -162,7 +163,7 @@ pub(crate) fn close<S: Stage>(engine: &mut Guarded<S>, outs: &mut MemOut) -> Res
 }
 
 /// Whether what a step says is so. Nothing is said by one that does something.
-fn is_so<S: Stage>(engine: &Guarded<S>, outs: &MemOut, step: &Step<'_>) -> bool {
+fn is_so<S: Stage>(engine: &Engine<S>, outs: &MemOut, step: &Step<'_>) -> bool {
     match step {
         Step::Waits(count) => engine.held() == *count,
         Step::Done(done) => engine.done() == *done,

@@ -6,8 +6,9 @@ ghost use Rattle.split_core.specs.Ways.{Ready};
 use crate::play::{Step, close, feed_all, open_splitter, play};
 use crate::round_plain::plain;
 use crate::test_texts::{DELIMITERS, Short, pieces_of, short_texts};
+use engine_core::Engine;
 use mem_core::MemOut;
-use ports_core::{Alphabet, Fault, Guarded, Naming, Numbering, Outs};
+use ports_core::{Alphabet, Fault, Naming, Numbering, Outs};
 use split_core::{Cut, Splitter};
 use std::alloc::Global;
 use std::process::Abort;
@@ -219,7 +220,7 @@ fn deals(
     job: Job,
     text: &[u8],
     pieces: &[&[u8]],
-    engine: &mut Guarded<Splitter>,
+    engine: &mut Engine<Splitter>,
     outs: &mut MemOut,
 ) -> Result<bool, Fault>
     requires { engine.old.is_over ≡ false → Ready engine.old.stage outs.old }
@@ -262,7 +263,7 @@ fn start(
     elide: bool,
     delim: u8,
     outs: &mut MemOut,
-) -> Result<Guarded<Splitter>, Fault>
+) -> Result<Engine<Splitter>, Fault>
     requires some { 0 < count }
     requires streams { 2 ≤ length outs.old }
     ensures ready { IfOk result (λ engine. Ready engine.stage outs.new) }

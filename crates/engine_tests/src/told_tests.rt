@@ -7,8 +7,9 @@ ghost use Rattle.split_core.specs.{Split.HasNames, Ways.Ready};
 
 use crate::play::{Step, close, feed, has_files, play};
 use crate::test_texts::{DELIMITERS, Short, short_texts};
+use engine_core::{Engine, Tells};
 use mem_core::MemOut;
-use ports_core::{Alphabet, Fault, Guarded, Naming, Numbering, Outs, Tells, Verdict};
+use ports_core::{Alphabet, Fault, Naming, Numbering, Outs, Verdict};
 use split_core::{Cut, Limit, Splitter, Way};
 use std::alloc::{AllocError, Global};
 use std::process::Abort;
@@ -160,7 +161,7 @@ pub(crate) fn open(
     cut: Cut,
     elide: bool,
     outs: &mut MemOut,
-) -> Result<Guarded<Splitter>, Fault>
+) -> Result<Engine<Splitter>, Fault>
     requires streams { 2 ≤ length outs.old }
     requires output { IsTrue (is_writable outs.old 0) }
     ensures { IfOk result (λ splitter. Ready splitter.stage outs.new) }
@@ -180,7 +181,7 @@ fn open_telling(
     naming: Naming,
     elide: bool,
     outs: &mut MemOut,
-) -> Result<Guarded<Splitter>, Fault>
+) -> Result<Engine<Splitter>, Fault>
     requires some { IsPositive cut }
     requires enough { HasNames cut naming }
     requires streams { 2 ≤ length outs.old }
@@ -262,7 +263,7 @@ fn tells_on_short(alloc: Global, delim: u8, short: &Short) -> Result<bool, Fault
 
 fn tells_in_pieces(
     alloc: Global,
-    splitter: &mut Guarded<Splitter>,
+    splitter: &mut Engine<Splitter>,
     outs: &mut MemOut,
     pieces: &[&[u8]],
 ) -> Result<bool, Fault>

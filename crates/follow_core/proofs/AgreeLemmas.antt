@@ -10,10 +10,8 @@ use Rattle.std.proofs.{
   Common.{◌≡◌, ℕ, Bool, true, false, List, [], ◌∷◌, ◌++◌, length, Some, refl, sym, ◌∙◌, ap, arith, length-append},
   Common.{◌⊎◌, inl, inr, ◌<◌, Option, None, subst, rules},
 }
-use Rattle.ports_core.{
-  specs.Part.IsBeginning,
-  proofs.{InputsLemmas.changed_elsewhere, SlotLemmas.length-changed_at, PartLemmas.{begins_itself, begins_trans}},
-}
+use Rattle.engine_core.{specs.Written.IsBeginning, proofs.WrittenLemmas.{begins_itself, begins_trans}}
+use Rattle.ports_core.proofs.{InputsLemmas.changed_elsewhere, SlotLemmas.length-changed_at}
 use Rattle.watch_core.{
   specs.{
     Snapshot.Snapshot,

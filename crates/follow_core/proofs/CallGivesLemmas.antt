@@ -42,12 +42,12 @@ given_so fate None events so given = so (Some sound) events given
 given_so fate (Some (Broke why)) events so given = so (Some fate) events given
 given_so fate (Some (Over why)) events so (all, is, begins) = (all, so None all is, begins)
 
-module _ {told is_opened : Bool} {fate : Fate} {name : List ℕ} where
+module _ {visible is_opened : Bool} {fate : Fate} {name : List ℕ} where
   -- a relation of events may be replaced by what follows from it
   pub gives_over : {One Both : Option Fate → List Event → Type 0} {other : Fate} {old new : Moment} {why : Fault}
       → ((events : List Event) → One None events → Both None events)
-      → Yields told One fate is_opened name old new (Some (Over why))
-      → Yields told Both other is_opened name old new (Some (Over why))
+      → Yields visible One fate is_opened name old new (Some (Over why))
+      → Yields visible Both other is_opened name old new (Some (Over why))
   gives_over so ends = record {
     events = ends.events;
     given = (ends.given.0, so ends.given.0 ends.given.1, ends.given.2);
@@ -56,22 +56,22 @@ module _ {told is_opened : Bool} {fate : Fate} {name : List ℕ} where
 
   abbrev pub gives_so : {One Both : Option Fate → List Event → Type 0} {old new : Moment} {stop : Option Stop}
       → ((reach : Option Fate) (events : List Event) → One reach events → Both reach events)
-      → Yields told One fate is_opened name old new stop → Yields told Both fate is_opened name old new stop
+      → Yields visible One fate is_opened name old new stop → Yields visible Both fate is_opened name old new stop
   gives_so {stop = stop} so ends =
       record { events = ends.events; given = given_so fate stop ends.events so ends.given; came = ends.came }
 
   -- the watched names don't matter
   pub gives_at : {Is : Option Fate → List Event → Type 0} {old new : Moment} {watched names : List Watched}
-      {stop : Option Stop} → Yields told Is fate is_opened name old new stop
-      → Yields told Is fate is_opened name (record old { watched = watched }) (record new { watched = names }) stop
+      {stop : Option Stop} → Yields visible Is fate is_opened name old new stop
+      → Yields visible Is fate is_opened name (record old { watched = watched }) (record new { watched = names }) stop
   gives_at ends = record { events = ends.events; given = ends.given; came = ends.came }
 
   -- if the first of two steps was done, both end as the second does
   pub gives_both : {One Two Both : Option Fate → List Event → Type 0} {first : Fate} {old mid new : Moment}
       {stop : Option Stop}
       → ((reach : Option Fate) (events more : List Event) → One (Some sound) events → Two reach more
-      → Both reach (events ++ more)) → Yields told One first is_opened name old mid None
-      → Yields told Two fate false name mid new stop → Yields told Both fate is_opened name old new stop
+      → Both reach (events ++ more)) → Yields visible One first is_opened name old mid None
+      → Yields visible Two fate false name mid new stop → Yields visible Both fate is_opened name old new stop
   gives_both {Two = Two} {Both} {stop = stop} join one two = record {
     events = one.events ++ two.events;
     given = by stop two.events two.given;
@@ -90,11 +90,13 @@ fails_not {fate} broke is = let same : fate ≡ sound = cc in
     false≢true (subst (λ those. is_some (broken_by those) ≡ true) same broke)
 
 -- a stop of the first of two steps stops both
-pub gives_early : {told is_opened : Bool} {One Both : Option Fate → List Event → Type 0} {fate : Fate} {name : List ℕ}
+pub gives_early : {visible is_opened : Bool} {One Both : Option Fate → List Event → Type 0} {fate : Fate}
+    {name : List ℕ}
     {old new : Moment} (place : ℕ) (watched watched_new : List Watched) (stop : Stop)
     → Keeps place watched watched_new fate (Some stop)
     → ((reach : Option Fate) (events : List Event) → (reach ≡ Some sound → ⊥) → One reach events → Both reach events)
-    → Yields told One fate is_opened name old new (Some stop) → Yields told Both fate is_opened name old new (Some stop)
+    → Yields visible One fate is_opened name old new (Some stop)
+    → Yields visible Both fate is_opened name old new (Some stop)
 gives_early place watched watched_new (Broke why) keeps so ends = record {
   events = ends.events;
   given = so _ ends.events (fails_not keeps.0.broke) ends.given;
@@ -102,20 +104,21 @@ gives_early place watched watched_new (Broke why) keeps so ends = record {
 }
 gives_early place watched watched_new (Over why) keeps so ends = gives_over (λ events. so None events (λ is. absurd (cc))) ends
 
-module _ {told : Bool} {Is : Option Fate → List Event → Type 0} {name : List ℕ} {now : Moment} where
+module _ {visible : Bool} {Is : Option Fate → List Event → Type 0} {name : List ℕ} {now : Moment} where
   abbrev pub gives_none : (fate : Fate) {watched : List Watched} → Is (Some sound) []
-      → Yields told Is fate false name now (record now { watched = watched }) None
+      → Yields visible Is fate false name now (record now { watched = watched }) None
   gives_none fate is = record { events = []; given = is; came = came_none }
 
   -- a call failed before anything was given
   pub gives_failed : (fate : Fate) {watched : List Watched} {why : Fault} → Is (Some fate) []
-      → Yields told Is fate false name now (record now { watched = watched }) (Some (Broke why))
+      → Yields visible Is fate false name now (record now { watched = watched }) (Some (Broke why))
   gives_failed fate is = record { events = []; given = is; came = came_none }
 
 -- Bytes that were written are one event.
 
-one_event : {told opened : Bool} {name bytes : List ℕ} {old new : Pen} {over : Option Fault}
-    → Came told opened name bytes [] old new over → Came told opened name (bytes_in (gives bytes ∷ [])) [] old new over
+one_event : {visible opened : Bool} {name bytes : List ℕ} {old new : Pen} {over : Option Fault}
+    → Came visible opened name bytes [] old new over
+    → Came visible opened name (bytes_in (gives bytes ∷ [])) [] old new over
 one_event {bytes = bytes} came = rw (append-nil bytes) came
 
 -- A header alone is no event.
@@ -125,9 +128,9 @@ none_put None is = is
 none_put (Some why) {bytes = []} is = refl
 none_put (Some why) {bytes = byte ∷ bytes} (rest, is) = absurd (cc)
 
-pub header_only : {told is_opened : Bool} {name : List ℕ} {old new : Moment} (over : Option Fault)
-    → Puts told is_opened name [] old.pen new.pen over
-    → Yields told (Are []) sound is_opened name old new (option_map Over over)
+pub header_only : {visible is_opened : Bool} {name : List ℕ} {old new : Moment} (over : Option Fault)
+    → Puts visible is_opened name [] old.pen new.pen over
+    → Yields visible (Are []) sound is_opened name old new (option_map Over over)
 header_only None put = record { events = []; given = refl; came = rw (none_put None put.are) at put.came }
 header_only (Some why) put =
     record { events = []; given = ([], refl, begins_none); came = rw (none_put (Some why) put.are) at put.came }
@@ -135,11 +138,11 @@ header_only (Some why) put =
 -- Copying, read by read.
 
 -- a read that gave these bytes into a buffer with room
-pub read_saw : {told : Bool} (snapshot : Snapshot) (known : Watched) {at n : ℕ} {old new : List ℕ} → n ≤ length old
+pub read_saw : {visible : Bool} (snapshot : Snapshot) (known : Watched) {at n : ℕ} {old new : List ℕ} → n ≤ length old
     → length new ≡ length old → 0 < length old
-    → (told ≡ true → GaveFrom (open_contents snapshot known) at old new n)
+    → (visible ≡ true → GaveFrom (open_contents snapshot known) at old new n)
     → Found snapshot known.name (reads_as known.opened at (take n new))
-    → Saw told snapshot known.name (reads_as known.opened at (take n new))
+    → Saw visible snapshot known.name (reads_as known.opened at (take n new))
 read_saw snapshot known {at} {n} {old} {new} few long room gave found = (
   found,
   λ t. (
@@ -154,8 +157,8 @@ read_saw snapshot known {at} {n} {old} {new} few long room gave found = (
 pub record Copied (see : Sight) (known : Watched) (from : ℕ) (name : List ℕ) (old new : Moment) (at : ℕ)
     (over : Option Fault) : Type 0 where
   pub bytes : List ℕ
-  pub puts : Puts see.told false name bytes old.pen new.pen over
-  pub read : AreRead see.told_in see.snapshot known.name known.opened from bytes at
+  pub puts : Puts see.visible false name bytes old.pen new.pen over
+  pub read : AreRead see.visible_in see.snapshot known.name known.opened from bytes at
 
 module _ {see : Sight} {known : Watched} {from : ℕ} {name : List ℕ} {old : Moment} where
   pub copied_none : Copied see known from name old old from None
@@ -164,10 +167,10 @@ module _ {see : Sight} {known : Watched} {from : ℕ} {name : List ℕ} {old : M
   -- one piece more was copied, or a beginning of it
   pub copied_more : {at n : ℕ} {read_old read_new : List ℕ} {mid new : Moment} (tail : List ℕ) {over : Option Fault}
       → n ≤ length read_old → length read_new ≡ length read_old → 0 < length read_old
-      → (see.told_in ≡ true → GaveFrom (open_contents see.snapshot known) at read_old read_new n)
+      → (see.visible_in ≡ true → GaveFrom (open_contents see.snapshot known) at read_old read_new n)
       → Found see.snapshot known.name (reads_as known.opened at (take n read_new))
       → Copied see known from name old mid at None
-      → Puts see.told false name (take n (read_new ++ tail)) mid.pen new.pen over
+      → Puts see.visible false name (take n (read_new ++ tail)) mid.pen new.pen over
       → Copied see known from name old new (at + n) over
   copied_more {n = n} {read_new = read_new} tail few long room gave found so_far put = record {
     bytes = so_far.bytes ++ take n (read_new ++ tail);
@@ -179,30 +182,31 @@ module _ {see : Sight} {known : Watched} {from : ℕ} {name : List ℕ} {old : M
 
 -- How the outputs can be used after a call.
 
-use_after : (told : Bool) (text : List ℕ) (output error : Slot) (others new : List Slot) (stop : Option Stop)
-    → CameTo told text (output ∷ error ∷ others) new (over_by stop) → CanPrint (output ∷ error ∷ others)
+use_after : (visible : Bool) (text : List ℕ) (output error : Slot) (others new : List Slot) (stop : Option Stop)
+    → CameTo visible text (output ∷ error ∷ others) new (over_by stop) → CanPrint (output ∷ error ∷ others)
     → CanGoOn stop new
-use_after told text output error others new None is can = search rules
-use_after told text output error others new (Some (Broke why)) is can = search rules
-use_after told text output error others new (Some (Over why)) (short_broke n part) can = grind (arith, common_steps)
-use_after told text output error others new (Some (Over why)) (no_room n within is) can = grind (arith, common_steps)
+use_after visible text output error others new None is can = search rules
+use_after visible text output error others new (Some (Broke why)) is can = search rules
+use_after visible text output error others new (Some (Over why)) (short_broke n part) can = grind (arith, common_steps)
+use_after visible text output error others new (Some (Over why)) (no_room n within is) can = grind (arith, common_steps)
 
-came_can : {told is_opened : Bool} {name bytes : List ℕ} {lines : List Remark} {old new : Pen} (stop : Option Stop)
-    → Came told is_opened name bytes lines old new (over_by stop) → CanPrint old.slots → CanGoOn stop new.slots
-came_can {told} {lines = lines} {old = old} {new} stop came can = by old.slots refl can where
+came_can : {visible is_opened : Bool} {name bytes : List ℕ} {lines : List Remark} {old new : Pen} (stop : Option Stop)
+    → Came visible is_opened name bytes lines old new (over_by stop) → CanPrint old.slots → CanGoOn stop new.slots
+came_can {visible} {lines = lines} {old = old} {new} stop came can = by old.slots refl can where
   by : (slots : List Slot) → old.slots ≡ slots → CanPrint slots → CanGoOn stop new.slots
   by [] is can = search rules
   by (output ∷ []) is can = search rules
   by (output ∷ error ∷ others) is can = let (last, said, text) = came.slots output error others is in
-      use_after told _ _ _ _ _ stop text (can.0, ap is_open (tells_state told _ lines error last said) ∙ can.1)
+      use_after visible _ _ _ _ _ stop text (can.0, ap is_open (tells_state visible _ lines error last said) ∙ can.1)
 
-pub puts_can : {told is_opened : Bool} {name due : List ℕ} {old new : Pen} (over : Option Fault)
-    → Puts told is_opened name due old new over → CanPrint old.slots → CanGoOn (option_map Over over) new.slots
+pub puts_can : {visible is_opened : Bool} {name due : List ℕ} {old new : Pen} (over : Option Fault)
+    → Puts visible is_opened name due old new over → CanPrint old.slots → CanGoOn (option_map Over over) new.slots
 puts_can None put can = came_can None put.came can
 puts_can (Some why) put can = came_can (Some (Over why)) put.came can
 
-pub ends_can : {told is_opened : Bool} {Is : Option Fate → List Event → Type 0} {fate : Fate} {name : List ℕ}
-    {old new : Moment} {stop : Option Stop} → Yields told Is fate is_opened name old new stop → CanPrint old.pen.slots
+pub ends_can : {visible is_opened : Bool} {Is : Option Fate → List Event → Type 0} {fate : Fate} {name : List ℕ}
+    {old new : Moment} {stop : Option Stop} → Yields visible Is fate is_opened name old new stop
+    → CanPrint old.pen.slots
     → CanGoOn stop new.pen.slots
 ends_can {stop = stop} ends can = came_can stop ends.came can
 
@@ -252,23 +256,23 @@ broke_at {place} {old} {fate} how is same fault (reason, broken) = record {
 pub broke_why : {place : ℕ} {old new : List Watched} {fate : Fate} {fault : Fault} {why : Reason}
     → IsTrue (is_watchable old place) → (broke : BrokeAt place old new fate fault)
     → (is_some (watched_at new place).failed ≡ true → why ≡ (watched_at new place).reason) → why ≡ broke.reason
-broke_why {place} {old} {new} {fate} can broke told =
-    told (ap (λ (w : Watched). is_some w.failed) there ∙ broke.broke) ∙ ap (λ (w : Watched). w.reason) there where
+broke_why {place} {old} {new} {fate} can broke visible =
+    visible (ap (λ (w : Watched). is_some w.failed) there ∙ broke.broke) ∙ ap (λ (w : Watched). w.reason) there where
       there : watched_at new place
           ≡ record (watched_at old place) { opened = None; failed = broken_by fate; reason = broke.reason }
       there = rw broke.names (changed_there no_name place _ old (watchable_within old place can))
 
 -- a file was opened, and then a call on it kept the names or broke this name: that is one call that follows the name
-pub follows_from : {told : Bool} {led file : Option ℕ} (place : ℕ) (old : List Watched) {mid : List Watched}
+pub follows_from : {visible : Bool} {led file : Option ℕ} (place : ℕ) (old : List Watched) {mid : List Watched}
     (new : List Watched) (fate : Fate)
-    (stop : Option Stop) → mid ≡ changed_at place (opens file) old → (stop ≡ None → told ≡ true → file ≡ led)
-    → Keeps place mid new fate stop → Follows told led place old new fate stop
+    (stop : Option Stop) → mid ≡ changed_at place (opens file) old → (stop ≡ None → visible ≡ true → file ≡ led)
+    → Keeps place mid new fate stop → Follows visible led place old new fate stop
 follows_from {file} place old new fate stop opened leads given = grind (arith, common_steps, changed_at-again)
 
 -- what was found about the length of an open file is known of the name
-pub is_held : {told : Bool} (by_name : Bool) (snapshot : Snapshot) (name : List ℕ) (opened : Option ℕ) {len : ℕ}
-    → is_some opened ≡ true → Saw told snapshot name (holds_many opened len)
-    → IsLong told by_name snapshot name opened len
+pub is_held : {visible : Bool} (by_name : Bool) (snapshot : Snapshot) (name : List ℕ) (opened : Option ℕ) {len : ℕ}
+    → is_some opened ≡ true → Saw visible snapshot name (holds_many opened len)
+    → IsLong visible by_name snapshot name opened len
 is_held by_name snapshot name None some saw = absurd (false≢true some)
 is_held by_name snapshot name (Some file) some saw = saw
 
@@ -277,7 +281,7 @@ is_held by_name snapshot name (Some file) some saw = saw
 module _ {see : Sight} {name : List ℕ} {from place len : ℕ} {old : Moment} where
   pub copies_all : (at : ℕ) {mid : Moment} {watched : List Watched}
       → Copied see (watched_at old.watched place) from name old mid at None
-      → (len ≤ at) ⊎ Saw see.told_in see.snapshot (watched_at old.watched place).name
+      → (len ≤ at) ⊎ Saw see.visible_in see.snapshot (watched_at old.watched place).name
       (reads_as (watched_at old.watched place).opened at [])
       → watched ≡ old.watched → Copies see from place name len old (record mid { watched = watched }) None
   copies_all at copied over same = record {

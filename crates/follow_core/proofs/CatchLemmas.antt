@@ -38,12 +38,12 @@ seen_file snapshot None = refl
 seen_file snapshot (Some file) = refl
 
 -- what changed, as the code finds it
-pub change_seen : {told : Bool} (snapshot : Snapshot) {old now : List Watched} (place : ℕ) {found : Option Seen}
+pub change_seen : {visible : Bool} (snapshot : Snapshot) {old now : List Watched} (place : ℕ) {found : Option Seen}
     {id : Option ℕ} {result : Option Notice}
     → result ≡ change_between id (option_map (λ (file : Seen). file.id) found) → id ≡ (watched_at now place).opened
-    → now ≡ old → (told ≡ true → Finds snapshot (watched_at old place).name found)
+    → now ≡ old → (visible ≡ true → Finds snapshot (watched_at old place).name found)
     → Found snapshot (watched_at old place).name (leads_to (option_map (λ (file : Seen). file.id) found))
-    → (led : Option ℕ) × Saw told snapshot (watched_at old place).name (leads_to led)
+    → (led : Option ℕ) × Saw visible snapshot (watched_at old place).name (leads_to led)
     × (change_between (watched_at old place).opened led ≡ result)
 change_seen snapshot {old} place {found = found} is opened same finds seen = (
   option_map (λ (file : Seen). file.id) found,
@@ -53,9 +53,10 @@ change_seen snapshot {old} place {found = found} is opened same finds seen = (
 )
 
 -- what is known of a name whether or not names are followed; that it leads nowhere is known only if they are
-pub long_by : {told : Bool} (snapshot : Snapshot) {name : List ℕ} (held : ℕ) {by_name : Bool} (opened : Option ℕ)
-    → (opened ≡ None → by_name ≡ true → Saw told snapshot name (leads_to None) ⊎ Saw told snapshot name (opens_as None))
-    → IsLong told false snapshot name opened held → IsLong told by_name snapshot name opened held
+pub long_by : {visible : Bool} (snapshot : Snapshot) {name : List ℕ} (held : ℕ) {by_name : Bool} (opened : Option ℕ)
+    → (opened ≡ None → by_name ≡ true
+    → Saw visible snapshot name (leads_to None) ⊎ Saw visible snapshot name (opens_as None))
+    → IsLong visible false snapshot name opened held → IsLong visible by_name snapshot name opened held
 long_by snapshot held None lost long = lost refl
 long_by snapshot held (Some file) lost long = long
 
@@ -74,7 +75,7 @@ module _ {see : Sight} {place : ℕ} {name : List ℕ} {position : ℕ} {old : M
 
   -- the name leads to the open file
   pub leads_same : {led : Option ℕ} → (watched_at old.watched place).name ≡ name
-      → Saw see.told_in see.snapshot (watched_at old.watched place).name (leads_to led)
+      → Saw see.visible_in see.snapshot (watched_at old.watched place).name (leads_to led)
       → change_between (watched_at old.watched place).opened led ≡ None → watched ≡ old.watched
       → Leads see true place name position old (record old { watched = watched }) (Ok position)
   leads_same {led = led} named saw none same = record {
@@ -92,9 +93,10 @@ module _ {see : Sight} {place : ℕ} {name : List ℕ} {position : ℕ} {old : M
 pub leads_opened : {see : Sight} {is_there : Bool} {place : ℕ} {name : List ℕ} {position : ℕ} {old mid new : Moment}
     {notice : Notice} {result : Result ℕ Stop} → IsTrue (is_watchable old.watched place)
     → (watched_at old.watched place).name ≡ name
-    → Changed see.told_in see.snapshot (watched_at old.watched place).name (watched_at old.watched place).opened notice
-    → Yields see.told (Are (notes notice ∷ [])) sound false name old mid None
-    → Reopens see.told_in see.snapshot old.watched mid.watched place is_there
+    → Changed see.visible_in see.snapshot (watched_at old.watched place).name
+    (watched_at old.watched place).opened notice
+    → Yields see.visible (Are (notes notice ∷ [])) sound false name old mid None
+    → Reopens see.visible_in see.snapshot old.watched mid.watched place is_there
     → Adds see place name 0 mid new result → Leads see true place name position old new result
 leads_opened {see} {place = place} {name} {old = old} {mid} {new} {result = result} can named changed line reopens adds =
     record {
@@ -105,17 +107,17 @@ leads_opened {see} {place = place} {name} {old = old} {mid} {new} {result = resu
       follows = follows_from place old.watched new.watched adds.fate (stop_in result) reopens.names
           (λ none t. reopens.leads t ∙ ap see.snapshot.leads named) adds.keeps;
     } where
-      saw : Saw see.told_in see.snapshot (watched_at old.watched place).name (opens_as reopens.file)
+      saw : Saw see.visible_in see.snapshot (watched_at old.watched place).name (opens_as reopens.file)
       saw = (reopens.opens, reopens.leads)
 
       here : watched_at mid.watched place ≡ record (watched_at old.watched place) { opened = reopens.file }
       here = opened_now place old.watched reopens.names can
 
       by : (result : Result ℕ Stop)
-          → IfOk result (IsLong see.told_in false see.snapshot (watched_at old.watched place).name reopens.file)
+          → IfOk result (IsLong see.visible_in false see.snapshot (watched_at old.watched place).name reopens.file)
           → Keeps place mid.watched new.watched adds.fate (stop_in result)
           → let now = watched_at new.watched place in
-          IfOk result (IsLong see.told_in true see.snapshot now.name now.opened)
+          IfOk result (IsLong see.visible_in true see.snapshot now.name now.opened)
       by (Ok len) long same = rw (same, here) (long_by see.snapshot len reopens.file (λ none is. inr (rw none at saw)) long)
       by (Err stop) long keeps = tt
 
@@ -126,7 +128,7 @@ module _ {see : Sight} {place : ℕ} {name : List ℕ} {position : ℕ} {old : M
     fate = adds.fate;
     ends = gives_early place old.watched new.watched stop adds.keeps (λ reach events. came_early) adds.ends;
     long = tt;
-    follows = follows_from {told = see.told_in}
+    follows = follows_from {visible = see.visible_in}
         {led = open_after_look by_name name (watched_at old.watched place).opened see.snapshot} place old.watched
         new.watched adds.fate (Some stop) (sym (opens_same old.watched place)) (λ none. absurd (cc)) adds.keeps;
   }

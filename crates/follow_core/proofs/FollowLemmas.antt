@@ -31,15 +31,15 @@ use Rattle.watch_core.specs.{Watched.{Watched, opens, watched_at}, declared.watc
 
 -- A look at one name after another.
 
-pub nothing_shared : {told : Bool} {printer : PrinterState} {slots : List Slot}
-    → AllShared told printer [] slots printer slots
-nothing_shared {told} {printer} {slots} = record { printer_is = refl; slots = search rules }
+pub nothing_shared : {visible : Bool} {printer : PrinterState} {slots : List Slot}
+    → AllShared visible printer [] slots printer slots
+nothing_shared {visible} {printer} {slots} = record { printer_is = refl; slots = search rules }
 
 -- Further shares.
 
-pub all_both : {told : Bool} {printer mid after : PrinterState} {shares more : List Share} {old now new : List Slot}
-    → AllShared told printer shares old mid now
-    → AllShared told mid more now after new → AllShared told printer (shares ++ more) old after new
+pub all_both : {visible : Bool} {printer mid after : PrinterState} {shares more : List Share} {old now new : List Slot}
+    → AllShared visible printer shares old mid now
+    → AllShared visible mid more now after new → AllShared visible printer (shares ++ more) old after new
 all_both {printer} {shares} {more} all rest = record {
   printer_is = rw (rest.printer_is, all.printer_is, last-append printer.headers printer.last shares more) refl;
   slots = wrote_after _ _ _ _ _ _ _ None (sym (text-append printer.headers printer.last shares more))
@@ -77,10 +77,10 @@ names_next names {place} within = let next : place + 1 ≡ suc place = omega ari
     rw (next, take-suc (texts names) place [] (rw (length_texts names) within), text_there names within) refl
 
 -- what a look gives for one name more
-one_given : {told : Bool} {ways : Ways} {looks : List Look} {look : Look} (from : ℕ) (names : List (List ℕ))
-    {name : List ℕ} {shares : List Share} {share : Share} → AreAtLook told ways looks look from names shares
-    → IsGiven told ways looks look (from + length names) name share
-    → AreAtLook told ways looks look from (names ++ name ∷ []) (shares ++ share ∷ [])
+one_given : {visible : Bool} {ways : Ways} {looks : List Look} {look : Look} (from : ℕ) (names : List (List ℕ))
+    {name : List ℕ} {shares : List Share} {share : Share} → AreAtLook visible ways looks look from names shares
+    → IsGiven visible ways looks look (from + length names) name share
+    → AreAtLook visible ways looks look from (names ++ name ∷ []) (shares ++ share ∷ [])
 one_given from [] no_names given = let e : from + 0 ≡ from = omega arith in names_more (rw e at given) no_names
 one_given from (first ∷ names) (names_more is rest) given =
     let e : from + suc (length names) ≡ (from + 1) + length names = omega arith in
@@ -114,8 +114,8 @@ visited_more {see} {ways} {looks} {now} {one} {place} {mid = mid} {new} {failed 
 
   -- each other name stands as before
   stays : (looks : List Look) (other : ℕ) → (other ≡ place → ⊥)
-      → StandsAmong see.told_in ways looks now mid.watched other
-      → StandsAmong see.told_in ways looks (set now place one) new.watched other
+      → StandsAmong see.visible_in ways looks now mid.watched other
+      → StandsAmong see.visible_in ways looks (set now place one) new.watched other
   stays looks other elsewhere stands = rw (
     get_or-set_other now place other one no_state elsewhere,
     visits.others.others (ways.first + other) (λ at. elsewhere (omega arith)),
@@ -123,7 +123,7 @@ visited_more {see} {ways} {looks} {now} {one} {place} {mid = mid} {new} {failed 
 
   there : (all : List Visit) → IsFront (sofar.visits ++ visited.visit ∷ []) all → (other : ℕ) → other < place + 1
       → (other ≡ place) ⊎ (other ≡ place → ⊥)
-      → StandsAmong see.told_in ways (looks ++ record { snapshot = see.snapshot; visits = all } ∷ [])
+      → StandsAmong see.visible_in ways (looks ++ record { snapshot = see.snapshot; visits = all } ∷ [])
       (set now place one) new.watched other
   there all front other below (inr elsewhere) = stays (looks ++ record { snapshot = see.snapshot; visits = all } ∷ []) other elsewhere
       (sofar.done all (front_before sofar.visits visited.visit front) other (omega arith))
@@ -144,11 +144,12 @@ pub unbroken_watched : {ways : Ways} {looks : List Look} {place : ℕ} {name : L
 unbroken_watched named unbroken kept = grind (arith, common_steps, none_of, met_none)
 
 -- each name is watched as the looks say, however it stands
-pub watched_there : (told : Bool) {ways : Ways} {looks : List Look} {place : ℕ} (name : List ℕ) (watched : Watched)
-    (standing : Standing) → Stands told ways looks place name watched standing → IsWatched ways looks place name watched
-watched_there told {place} name watched New stands = grind (arith, common_steps, unbroken_watched)
-watched_there told name watched (Followed position) stands = unbroken_watched stands.named stands.unbroken stands.kept
-watched_there told name watched Left stands = elim stands.why [
+pub watched_there : (visible : Bool) {ways : Ways} {looks : List Look} {place : ℕ} (name : List ℕ) (watched : Watched)
+    (standing : Standing) → Stands visible ways looks place name watched standing
+    → IsWatched ways looks place name watched
+watched_there visible {place} name watched New stands = grind (arith, common_steps, unbroken_watched)
+watched_there visible name watched (Followed position) stands = unbroken_watched stands.named stands.unbroken stands.kept
+watched_there visible name watched Left stands = elim stands.why [
   | inl (dropped, broke, closed) ↦ record { named = stands.named; broke = broke; closed = λ is. closed }
   | inr missed ↦ unbroken_watched stands.named missed.unbroken missed.kept
 ]
@@ -170,10 +171,10 @@ pub visited_short : {see : Sight} {ways : Ways} {looks : List Look} {now : List 
     {old mid new : Moment} {before : Bool} {why : Fault} → place < length now
     → VisitsBy see ways (ways.first + place) (state_at now place) mid standing new (Err why)
     → VisitedTo see ways looks place now old mid before → length new.watched ≡ ways.first + length now
-    → (whole part : List Share) × Begun see.told_in ways (texts now) looks see.snapshot new.watched whole part
+    → (whole part : List Share) × Begun see.visible_in ways (texts now) looks see.snapshot new.watched whole part
     × (printed : PrinterState) × (reached : List Slot)
-    × AllShared see.told old.pen.printer whole old.pen.slots printed reached
-    × AllShort see.told printed part reached new.pen.slots why
+    × AllShared see.visible old.pen.printer whole old.pen.slots printed reached
+    × AllShort see.visible printed part reached new.pen.slots why
 visited_short {see} {ways} {looks} {now} {place = place} {mid = mid} {new} {why = why} within visits sofar many = (
   sofar.shares,
   stopped.1.share ∷ [],
@@ -204,7 +205,7 @@ visited_short {see} {ways} {looks} {now} {place = place} {mid = mid} {new} {why 
   look : Look
   look = record { snapshot = see.snapshot; visits = sofar.visits }
 
-  share_is : see.told_in ≡ true
+  share_is : see.visible_in ≡ true
       → share_by ways (state_at now place).text looks look sound_visit
       ≡ share_of ways looks look number (get_or (texts now) place [])
   share_is t =
@@ -214,10 +215,10 @@ visited_short {see} {ways} {looks} {now} {place = place} {mid = mid} {new} {why 
   watched_now : (other : ℕ) → other < length now → (other < place) ⊎ (place ≤ other)
       → IsWatched ways (looks ++ look ∷ []) (ways.first + other) (state_at now other).text
       (watched_at mid.watched (ways.first + other))
-  watched_now other inside (inl less) = watched_there see.told_in _ _ (state_at now other).standing (sofar.done sofar.visits front other less)
+  watched_now other inside (inl less) = watched_there see.visible_in _ _ (state_at now other).standing (sofar.done sofar.visits front other less)
   watched_now other inside (inr more) =
       let count = sofar.count in
-      let is = watched_there see.told_in _ _ (state_at now other).standing (sofar.rest other more inside) in record {
+      let is = watched_there see.visible_in _ _ (state_at now other).standing (sofar.rest other more inside) in record {
         named = is.named;
         broke = broken_sound looks look (ap (λ (v : Visit). v.fate) (get_or_past sofar.visits (ways.first + other) sound_visit (omega arith))) is.broke;
         closed = is.closed;
@@ -226,7 +227,7 @@ visited_short {see} {ways} {looks} {now} {place = place} {mid = mid} {new} {why 
   -- the name at which the look was stopped isn't broken
   unbroken : (other : ℕ) → other ≡ place → (watched_at mid.watched (ways.first + other)).failed ≡ None
   unbroken other at = rw at (none_failed (watched_at mid.watched number)
-      ((watched_there see.told_in _ _ (state_at now place).standing (sofar.rest place (omega arith) within)).broke.call
+      ((watched_there see.visible_in _ _ (state_at now place).standing (sofar.rest place (omega arith) within)).broke.call
       ∙ none_of (failed_in number looks) stopped.0))
 
   still : (other : ℕ) → other < length now

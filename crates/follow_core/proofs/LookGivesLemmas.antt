@@ -65,22 +65,22 @@ use Rattle.watch_core.specs.declared.watch.Broken.TheVariants as broken
 pub record Looked (see : Sight) (ways : Ways) (before : List Look) (name : List ℕ) (old new : Moment)
     (has_failed : Bool) (visit : Visit) : Type 0 where
   pub share : Share
-  pub is_share : see.told_in ≡ true → (visits : List Visit)
+  pub is_share : see.visible_in ≡ true → (visits : List Visit)
       → share ≡ share_by ways name before (seeing see.snapshot visits) visit
-  pub found : IsFound see.told_in ways before see.snapshot name visit share
-      ⊎ IsMissing see.told_in before see.snapshot name visit share
+  pub found : IsFound see.visible_in ways before see.snapshot name visit share
+      ⊎ IsMissing see.visible_in before see.snapshot name visit share
   pub failed : is_some share.failure ≡ has_failed
-  pub shared : Shared see.told share old.pen new.pen None
+  pub shared : Shared see.visible share old.pen new.pen None
 
 -- the message of a failure is written after what was given
-said_after : {told opened : Bool} {name bytes : List ℕ} (line : Remark) {lines : List Remark} {old mid : Pen}
+said_after : {visible opened : Bool} {name bytes : List ℕ} (line : Remark) {lines : List Remark} {old mid : Pen}
     {slots : List Slot}
-    → Came told opened name bytes lines old mid None
-    → OnError (Tells told old.printer.calling line) mid.slots slots
-    → Came told opened name bytes (lines ++ line ∷ []) old (record mid { slots = slots }) None
-said_after {told} {opened} {name} {bytes} line {old = old} came says = record {
+    → Came visible opened name bytes lines old mid None
+    → OnError (Tells visible old.printer.calling line) mid.slots slots
+    → Came visible opened name bytes (lines ++ line ∷ []) old (record mid { slots = slots }) None
+said_after {visible} {opened} {name} {bytes} line {old = old} came says = record {
   printer_is = came.printer_is;
-  slots = wrote_after _ _ _ _ _ _ _ None (append-nil (text_under old.printer opened name bytes)) refl came.slots (wrote_line told _ line says);
+  slots = wrote_after _ _ _ _ _ _ _ None (append-nil (text_under old.printer opened name bytes)) refl came.slots (wrote_line visible _ line says);
 }
 
 fault_line : (name : List ℕ) (visit : Visit) → is_some (broken_by visit.fate) ≡ true
@@ -99,23 +99,24 @@ Fits first by_name seeks can None = Unit {0}
 Fits first by_name seeks can (Some fate) = (can_meet first by_name seeks fate ≡ true)
     × ((not (is_unopened fate) && first) ≡ first) × ((fate ≡ sound) ⊎ (can ≡ true))
 
-read_fits : {told : Bool} {snapshot : Snapshot} {name : List ℕ} {file : Option ℕ} {from len : ℕ} {reach : Option Fate}
-    {events : List Event} (first by_name seeks : Bool) → ReadOn told snapshot name file from len reach events
+read_fits : {visible : Bool} {snapshot : Snapshot} {name : List ℕ} {file : Option ℕ} {from len : ℕ}
+    {reach : Option Fate}
+    {events : List Event} (first by_name seeks : Bool) → ReadOn visible snapshot name file from len reach events
     → Fits first by_name seeks (snapshot.breaks name) reach
 read_fits first by_name seeks (read_all read over) = (refl, refl, inl refl)
 read_fits first by_name seeks (read_part read below can) = (refl, refl, inr can)
 read_fits first by_name seeks read_none = tt
 read_fits first by_name seeks (read_some read) = tt
 
-caught_fits : {told : Bool} {snapshot : Snapshot} {name : List ℕ} {file : Option ℕ} {seen : ℕ} {reach : Option Fate}
-    {events : List Event} (by_name seeks : Bool) → Caught told snapshot name file seen reach events
+caught_fits : {visible : Bool} {snapshot : Snapshot} {name : List ℕ} {file : Option ℕ} {seen : ℕ} {reach : Option Fate}
+    {events : List Event} (by_name seeks : Bool) → Caught visible snapshot name file seen reach events
     → Fits false by_name seeks (snapshot.breaks name) reach
 caught_fits by_name seeks (not_open none) = (refl, refl, inl refl)
 caught_fits by_name seeks (not_measured some can) = (refl, refl, inr can)
 caught_fits by_name seeks (measured some saw read) = read_fits false by_name seeks read
 
-led_fits : {told by_name : Bool} {snapshot : Snapshot} {name : List ℕ} {opened : Option ℕ} {reach : Option Fate}
-    {events : List Event} (seeks : Bool) → LedTo told by_name snapshot name opened reach events
+led_fits : {visible by_name : Bool} {snapshot : Snapshot} {name : List ℕ} {opened : Option ℕ} {reach : Option Fate}
+    {events : List Event} (seeks : Bool) → LedTo visible by_name snapshot name opened reach events
     → Fits false by_name seeks (snapshot.breaks name) reach
 led_fits seeks (not_asked by) = (refl, refl, inl refl)
 led_fits seeks (not_led by can) = (by, refl, inr can)
@@ -124,9 +125,9 @@ led_fits seeks (not_told by changed) = tt
 led_fits seeks (not_opened by changed can) = (by, refl, inr can)
 led_fits {by_name = by_name} seeks (opened_there by changed saw caught) = caught_fits by_name seeks caught
 
-look_fits : {told : Bool} {ways : Ways} {snapshot : Snapshot} {name : List ℕ} {reach : Option Fate}
+look_fits : {visible : Bool} {ways : Ways} {snapshot : Snapshot} {name : List ℕ} {reach : Option Fate}
     {events : List Event}
-    (looks : List Look) → LookGives told ways looks snapshot name reach events
+    (looks : List Look) → LookGives visible ways looks snapshot name reach events
     → Fits (is_first looks) ways.by_name ways.seeks (snapshot.breaks name) reach
 look_fits [] (at_first file saw not_begun) = tt
 look_fits [] (at_first file saw (first_unmeasured can)) = (refl, refl, inr can)
@@ -162,9 +163,10 @@ shared_as opened name events failure = record { name = name; is_opened = opened;
 
 module _ {see : Sight} {ways : Ways} {before : List Look} {name : List ℕ} {old mid : Moment} where
   -- all that is due was given
-  pub looked_whole : {fate : Fate} (ends : Yields see.told (LookGives see.told_in ways before see.snapshot name) fate
+  pub looked_whole : {fate : Fate}
+      (ends : Yields see.visible (LookGives see.visible_in ways before see.snapshot name) fate
       (is_first before) name old mid None)
-      → (see.told_in ≡ true → IsShown ways before see.snapshot name fate None ends.events)
+      → (see.visible_in ≡ true → IsShown ways before see.snapshot name fate None ends.events)
       → Looked see ways before name old mid false sound_visit
   looked_whole ends shown = record {
     share = shared_as (is_first before) name ends.events None;
@@ -183,10 +185,11 @@ module _ {see : Sight} {ways : Ways} {before : List Look} {name : List ℕ} {old
   -- a call failed: what comes before it was given, and the message follows
   pub looked_broke : (place : ℕ) {slots : List Slot} {fault : Fault} (visit : Visit)
       → is_some (broken_by visit.fate) ≡ true → fault ≡ fault_by place visit.fate
-      → (ends : Yields see.told (LookGives see.told_in ways before see.snapshot name) visit.fate (is_first before) name
+      → (ends : Yields see.visible (LookGives see.visible_in ways before see.snapshot name) visit.fate
+      (is_first before) name
       old mid (Some (Broke fault)))
-      → (see.told_in ≡ true → IsShown ways before see.snapshot name visit.fate (Some (Broke fault)) ends.events)
-      → SaysFailed see.told old.pen.printer.calling name visit.why fault mid.pen.slots slots
+      → (see.visible_in ≡ true → IsShown ways before see.snapshot name visit.fate (Some (Broke fault)) ends.events)
+      → SaysFailed see.visible old.pen.printer.calling name visit.why fault mid.pen.slots slots
       → Looked see ways before name old (record mid { pen = record mid.pen { slots = slots } }) true visit
   looked_broke place visit broke is ends shown says =
       let line = fault_line name visit broke in let (met, openly, can) = look_fits before ends.given in record {
@@ -233,10 +236,11 @@ calls_find ways name (first ∷ looks) look fate events later = later_are {snaps
 pub record Gave (see : Sight) (ways : Ways) (looks : List Look) (place : ℕ) (name : List ℕ) (led : Option ℕ)
     (old new : Moment) (fate : Fate) (result : Result ℕ Stop) : Type 0 where
   pub kept : is_dropped place looks ≡ false
-  pub ends : Yields see.told (LookGives see.told_in ways looks see.snapshot name) fate (is_first looks) name old new
+  pub ends : Yields see.visible (LookGives see.visible_in ways looks see.snapshot name) fate
+      (is_first looks) name old new
       (stop_in result)
-  pub shown : see.told_in ≡ true → IsShown ways looks see.snapshot name fate (stop_in result) ends.events
-  pub last : see.told_in ≡ true → (ways.by_name ≡ false → is_some led ≡ true)
+  pub shown : see.visible_in ≡ true → IsShown ways looks see.snapshot name fate (stop_in result) ends.events
+  pub last : see.visible_in ≡ true → (ways.by_name ≡ false → is_some led ≡ true)
       × ((visits : List Visit) → led ≡ opened_in ways name (looks ++ seeing see.snapshot visits ∷ []))
 
 -- One look more.
@@ -256,13 +260,13 @@ kept_more place looks look {visit} kept at =
     ap is_some (failed_more place looks look (none_of (failed_in place looks) kept) at) ∙ some_call visit
 
 -- a name on which no call failed at the last look is looked at again
-through_stands : {told : Bool} {ways : Ways} (looks : List Look) (look : Look) {place : ℕ} {name : List ℕ}
+through_stands : {visible : Bool} {ways : Ways} (looks : List Look) (look : Look) {place : ℕ} {name : List ℕ}
     {file led : Option ℕ} {len : ℕ}
     (watched : Watched) → watched.name ≡ name → is_none watched.failed ≡ true → is_dropped place looks ≡ false
-    → fate_at place look ≡ sound → (told ≡ true → file ≡ led)
-    → (told ≡ true → (ways.by_name ≡ false → is_some led ≡ true) × (led ≡ opened_in ways name (looks ++ look ∷ [])))
-    → IsLong told ways.by_name look.snapshot name file len
-    → IsFollowed told ways (looks ++ look ∷ []) place name (record watched { opened = file }) len
+    → fate_at place look ≡ sound → (visible ≡ true → file ≡ led)
+    → (visible ≡ true → (ways.by_name ≡ false → is_some led ≡ true) × (led ≡ opened_in ways name (looks ++ look ∷ [])))
+    → IsLong visible ways.by_name look.snapshot name file len
+    → IsFollowed visible ways (looks ++ look ∷ []) place name (record watched { opened = file }) len
 through_stands looks look watched named can kept at leads last long = grind
     (arith, common_steps, none_of, not-true, failed_sound, begun_more, map-append, latest-last)
 
@@ -271,7 +275,7 @@ looked_visited : {see : Sight} {ways : Ways} {looks : List Look} {place : ℕ} {
     {has_failed : Bool} {standing : Standing} (visit : Visit) → is_dropped place looks ≡ false
     → Looked see ways looks name old new has_failed visit
     → ((visits : List Visit) → visit_at place (seeing see.snapshot visits) ≡ visit
-    → Stands see.told_in ways (looks ++ seeing see.snapshot visits ∷ []) place name (watched_at new.watched place)
+    → Stands see.visible_in ways (looks ++ seeing see.snapshot visits ∷ []) place name (watched_at new.watched place)
     standing)
     → Visited see ways looks place (record { text = name; standing = standing }) old new has_failed
 looked_visited visit kept looked stands = record {
@@ -323,10 +327,11 @@ module _ {see : Sight} {ways : Ways} {place : ℕ} {one : NameState} {old new : 
 
   -- no call on the name failed
   pub gave_through : {led : Option ℕ} {len : ℕ} (fate : Fate) → (watched_at old.watched place).name ≡ one.text
-      → IsTrue (is_watchable old.watched place) → Follows see.told_in led place old.watched new.watched fate None
+      → IsTrue (is_watchable old.watched place) → Follows see.visible_in led place old.watched new.watched fate None
       → ((looks : List Look) → StandsBefore see ways looks place one old
       → Gave see ways looks place one.text led old new fate (Ok len))
-      → (let now = watched_at new.watched place in IsLong see.told_in ways.by_name see.snapshot now.name now.opened len)
+      → (let now =
+      watched_at new.watched place in IsLong see.visible_in ways.by_name see.snapshot now.name now.opened len)
       → VisitsBy see ways place one old (Followed len) new (Ok false)
   gave_through {len = len} fate named can (file, is, leads) gave long =
       visits_by (Followed len) (opens file) is can (named, none_of (watched_at old.watched place).failed (not-true _ can))
@@ -337,12 +342,13 @@ module _ {see : Sight} {ways : Ways} {place : ℕ} {one : NameState} {old new : 
 
   pub gave_fails : {led : Option ℕ} {slots : List Slot} {why : Reason} (fate : Fate) (stop : Stop) {now : Standing}
       {result : Result Bool Fault} → (watched_at old.watched place).name ≡ one.text
-      → IsTrue (is_watchable old.watched place) → Follows see.told_in led place old.watched new.watched fate (Some stop)
+      → IsTrue (is_watchable old.watched place)
+      → Follows see.visible_in led place old.watched new.watched fate (Some stop)
       → ((looks : List Look) → StandsBefore see ways looks place one old
       → Gave see ways looks place one.text led old (record new { pen = record new.pen { slots = slots } }) fate
       (Err stop))
       → (is_some (watched_at new.watched place).failed ≡ true → why ≡ (watched_at new.watched place).reason)
-      → TellsStop (SaysFailed see.told new.pen.printer.calling one.text why) slots now new.pen.slots stop result
+      → TellsStop (SaysFailed see.visible new.pen.printer.calling one.text why) slots now new.pen.slots stop result
       → VisitsBy see ways place one old now new result
   gave_fails {slots = slots} fate (Broke fault) named can broke gave reason (tells, left, says) = rw (tells, left) (drops fate fault named can broke (λ looks stands.
       let made = gave looks stands in (
@@ -381,11 +387,12 @@ module _ {see : Sight} {ways : Ways} {place : ℕ} {one : NameState} {old new : 
 pub first_missing : {see : Sight} {ways : Ways} {place : ℕ} {name : List ℕ} {old : Moment} {watched : List Watched}
     {slots : List Slot} {is_there : Bool} {reason : Reason} {now : Standing}
     → now ≡ (if ways.by_name then Followed 0 else Left)
-    → Reopens see.told_in see.snapshot old.watched watched place is_there → is_there ≡ false
+    → Reopens see.visible_in see.snapshot old.watched watched place is_there → is_there ≡ false
     → (watched_at old.watched place).name ≡ name → IsTrue (is_watchable old.watched place)
-    → (see.told_in ≡ true → IsTrue (is_watchable watched place)
+    → (see.visible_in ≡ true → IsTrue (is_watchable watched place)
     → reason ≡ see.snapshot.missing (watched_at watched place).name)
-    → SaysOn see.told (tail_by old.pen.printer.calling) reason (failure_message (Open place) name) old.pen.slots slots
+    → SaysOn see.visible (tail_by old.pen.printer.calling) reason
+    (failure_message (Open place) name) old.pen.slots slots
     → VisitsBy see ways place (new_state name) old now (moment watched old.pen.printer slots) (Ok true)
 first_missing {see} {ways} {place} {name} {old} {watched} {slots} {reason = reason} is reopens gone named can why says =
     rw is (visits_by _ (opens None) (rw none at reopens.names) can (ready ways.by_name) (λ there looks fresh. rw fresh.0
@@ -393,16 +400,16 @@ first_missing {see} {ways} {place} {name} {old} {watched} {slots} {reason = reas
       none : reopens.file ≡ None
       none = none_of reopens.file (reopens.found ∙ gone)
 
-      nowhere : see.told_in ≡ true → see.snapshot.leads name ≡ None
+      nowhere : see.visible_in ≡ true → see.snapshot.leads name ≡ None
       nowhere t = sym (reopens.leads t ∙ ap see.snapshot.leads named) ∙ none
 
-      lost : Saw see.told_in see.snapshot name (opens_as None)
+      lost : Saw see.visible_in see.snapshot name (opens_as None)
       lost = (rw (none, named) at reopens.opens, λ t. sym (nowhere t))
 
       left : watched_at watched place ≡ opens None (watched_at old.watched place)
       left = rw (reopens.names, none) (changed_there no_name place (opens None) old.watched (watchable_within old.watched place can))
 
-      told : see.told_in ≡ true → reason ≡ see.snapshot.missing name
+      told : see.visible_in ≡ true → reason ≡ see.snapshot.missing name
       told t = why t (rw left can) ∙ ap see.snapshot.missing (ap (λ (w : Watched). w.name) left ∙ named)
 
       looked : Looked see ways [] name old (moment watched old.pen.printer slots) true (record { fate = sound; why = reason })
@@ -426,7 +433,7 @@ first_missing {see} {ways} {place} {name} {old} {watched} {slots} {reason = reas
       stands : (visits : List Visit)
           → visit_at place (seeing see.snapshot visits) ≡ record { fate = sound; why = reason } → (by_name : Bool)
           → ways.by_name ≡ by_name
-          → Stands see.told_in ways (seeing see.snapshot visits ∷ []) place name
+          → Stands see.visible_in ways (seeing see.snapshot visits ∷ []) place name
           (opens None (watched_at old.watched place))
           (if by_name then Followed 0 else Left)
       stands visits at true way = through_stands [] (seeing see.snapshot visits) (watched_at old.watched place) named can refl
@@ -452,7 +459,7 @@ pub first_unopened : {see : Sight} {ways : Ways} {place : ℕ} {name : List ℕ}
     → fault ≡ Open place → NameBreaks (λ file. broken.Open) place old.watched watched
     → see.snapshot.breaks (watched_at old.watched place).name ≡ true
     → (is_some (watched_at watched place).failed ≡ true → why ≡ (watched_at watched place).reason)
-    → TellsStop (SaysFailed see.told old.pen.printer.calling name why) old.pen.slots now slots (Broke fault) result
+    → TellsStop (SaysFailed see.visible old.pen.printer.calling name why) old.pen.slots now slots (Broke fault) result
     → VisitsBy see ways place (new_state name) old now (moment watched old.pen.printer slots)
     result
 first_unopened {place = place} {name} {old} {watched} {fault = fault} named can is call fails reason (tells, left, says) =
@@ -480,15 +487,15 @@ first_unopened {place = place} {name} {old} {watched} {fault = fault} named can 
 -- the file was opened; its start part was given under its header, or what comes before a call that failed
 pub first_gave : {see : Sight} {ways : Ways} {place : ℕ} {name : List ℕ} {inside : PrinterState} {old new : Moment}
     {mid : List Watched} {is_there : Bool} {fate : Fate} {result : Result ℕ Stop}
-    → inside ≡ old.pen.printer → (reopens : Reopens see.told_in see.snapshot old.watched mid place is_there)
+    → inside ≡ old.pen.printer → (reopens : Reopens see.visible_in see.snapshot old.watched mid place is_there)
     → is_there ≡ true → (watched_at old.watched place).name ≡ name
-    → Yields see.told (First see.told_in see.snapshot name reopens.file ways.seeks ways.start) fate true name
+    → Yields see.visible (First see.visible_in see.snapshot name reopens.file ways.seeks ways.start) fate true name
     (record old { pen = record old.pen { printer = inside } }) new (stop_in result)
     → (looks : List Look) → StandsBefore see ways looks place (new_state name) old
     → Gave see ways looks place name (see.snapshot.leads name) old new fate result
 first_gave {see} {ways} {name = name} {old = old} {new} {fate = fate} {result} viewed reopens there named gave looks fresh =
     let (file, is) = some_of reopens.file (reopens.found ∙ there) in
-    let saw : Saw see.told_in see.snapshot name (opens_as (Some file))
+    let saw : Saw see.visible_in see.snapshot name (opens_as (Some file))
     = (rw (is, named) at reopens.opens, λ t. rw (is, named) at (reopens.leads t)) in
     let ends = rw (viewed, is) at gave in rw fresh.0 (record {
       kept = refl;
@@ -508,20 +515,22 @@ first_gave {see} {ways} {name = name} {old = old} {new} {fate = fate} {result} v
       due : Due
       due = record { came = []; led = gives (ways.start (held_at see.snapshot (see.snapshot.leads name))) ∷ [] }
 
-pub first_long : {told_in : Bool} {snapshot : Snapshot} (told by_name : Bool) (seen : Snapshot) {place : ℕ} (len : ℕ)
-    {old mid new : List Watched} {is_there : Bool} → Reopens told_in snapshot old mid place is_there → is_there ≡ true
+pub first_long : {visible_in : Bool} {snapshot : Snapshot} (visible by_name : Bool) (seen : Snapshot) {place : ℕ}
+    (len : ℕ)
+    {old mid new : List Watched} {is_there : Bool} → Reopens visible_in snapshot old mid place is_there
+    → is_there ≡ true
     → IsTrue (is_watchable old place) → new ≡ mid
-    → IsLong told false seen (watched_at mid place).name (watched_at mid place).opened len
-    → IsLong told by_name seen (watched_at new place).name (watched_at new place).opened len
-first_long told by_name seen {place} len {old} reopens there can same long = rw same (long_by seen len _
+    → IsLong visible false seen (watched_at mid place).name (watched_at mid place).opened len
+    → IsLong visible by_name seen (watched_at new place).name (watched_at new place).opened len
+first_long visible by_name seen {place} len {old} reopens there can same long = rw same (long_by seen len _
     (λ none is. absurd (false≢true (ap is_some (sym none ∙ ap (λ (w : Watched). w.opened)
     (opened_now place old reopens.names can)) ∙ reopens.found ∙ there))) long)
 
 pub first_started : {see : Sight} {ways : Ways} {now : Snapshot} {place : ℕ} {name : List ℕ} {inside : PrinterState}
     {old mid new : Moment} {is_there : Bool} {result : Result ℕ Stop} → inside ≡ old.pen.printer
-    → Reopens see.told_in see.snapshot old.watched mid.watched place is_there → is_there ≡ true
+    → Reopens see.visible_in see.snapshot old.watched mid.watched place is_there → is_there ≡ true
     → (watched_at old.watched place).name ≡ name → IsTrue (is_watchable old.watched place) → now ≡ see.snapshot
-    → Yields see.told (Are []) sound true name (record old { pen = record old.pen { printer = inside } }) mid None
+    → Yields see.visible (Are []) sound true name (record old { pen = record old.pen { printer = inside } }) mid None
     → (starts : Starts (record see { snapshot = now }) ways.seeks ways.start place name mid new (stop_in result))
     → (looks : List Look) → StandsBefore see ways looks place (new_state name) old
     → Gave see ways looks place name (see.snapshot.leads name) old new starts.fate result
@@ -540,7 +549,8 @@ first_started {see} {now = now} {place} {name} {old = old} {mid} viewed reopens 
 -- a later look at a name whose file was seen up to some place
 pub later_gave : {see : Sight} {ways : Ways} {place : ℕ} {name : List ℕ} {position : ℕ} {old new : Moment}
     {result : Result ℕ Stop} → (again : LooksAgain see ways.by_name place name position old new result)
-    → (looks : List Look) → Stands see.told_in ways looks place name (watched_at old.watched place) (Followed position)
+    → (looks : List Look)
+    → Stands see.visible_in ways looks place name (watched_at old.watched place) (Followed position)
     → Gave see ways looks place name (open_after_look ways.by_name name (watched_at old.watched place).opened
     see.snapshot)
     old new again.fate result
@@ -590,7 +600,7 @@ module _ {see : Sight} {ways : Ways} {place : ℕ} {name : List ℕ} {position :
       → LooksAgain see ways.by_name place name position old (record new { pen = record new.pen { slots = slots } })
       (Err stop)
       → (is_some (watched_at new.watched place).failed ≡ true → why ≡ (watched_at new.watched place).reason)
-      → TellsStop (SaysFailed see.told new.pen.printer.calling name why) slots now new.pen.slots stop result
+      → TellsStop (SaysFailed see.visible new.pen.printer.calling name why) slots now new.pen.slots stop result
       → VisitsBy see ways place (record { text = name; standing = Followed position }) old now new result
   looks_short {stop = stop} again = gave_fails again.fate stop can.0 (rw can.1 refl) again.follows (later_gave again)
 
@@ -601,9 +611,9 @@ still_open : (name : List ℕ) (opened : Option ℕ) (snaps : List Snapshot)
 still_open name opened [] = refl
 still_open name opened (snapshot ∷ snaps) = still_open name opened snaps
 
-still_left : {told : Bool} {ways : Ways} (looks : List Look) (look : Look) {place : ℕ} {name : List ℕ}
-    {watched : Watched} → fate_at place look ≡ sound → IsLeft told ways looks place name watched
-    → IsLeft told ways (looks ++ look ∷ []) place name watched
+still_left : {visible : Bool} {ways : Ways} (looks : List Look) (look : Look) {place : ℕ} {name : List ℕ}
+    {watched : Watched} → fate_at place look ≡ sound → IsLeft visible ways looks place name watched
+    → IsLeft visible ways (looks ++ look ∷ []) place name watched
 still_left [] look fine left = absurd (false≢true (sym left.begun))
 still_left {ways} (before ∷ looks) look {place} {name} {watched} fine left = record {
   begun = refl;
@@ -626,7 +636,7 @@ still_left {ways} (before ∷ looks) look {place} {name} {watched} fine left = r
 }
 
 pub left_visited : {see : Sight} {ways : Ways} {place : ℕ} {name : List ℕ} {now : Moment} (looks : List Look)
-    → IsLeft see.told_in ways looks place name (watched_at now.watched place)
+    → IsLeft see.visible_in ways looks place name (watched_at now.watched place)
     → Visited see ways looks place (record { text = name; standing = Left }) now now false
 left_visited [] left = absurd (false≢true (sym left.begun))
 left_visited {see} {ways} {place} {name} (first ∷ looks) left = elim left.why [
@@ -648,8 +658,8 @@ left_visited {see} {ways} {place} {name} (first ∷ looks) left = elim left.why 
 
 -- Names on which no call can fail.
 
-sound_among : {told : Bool} {ways : Ways} {before : List Look} {look : Look} (from : ℕ) (names : List (List ℕ))
-    {shares : List Share} → AreAtLook told ways before look from names shares → (place : ℕ) → place < length names
+sound_among : {visible : Bool} {ways : Ways} {before : List Look} {look : Look} (from : ℕ) (names : List (List ℕ))
+    {shares : List Share} → AreAtLook visible ways before look from names shares → (place : ℕ) → place < length names
     → look.snapshot.breaks (get_or names place []) ≡ false → failed_in (from + place) before ≡ None
     → fate_at (from + place) look ≡ sound
 sound_among from [] given place within unbroken kept = absurd (omega arith)
@@ -663,11 +673,11 @@ none_breaks_before : {name : List ℕ} (looks : List Look) (look : Look) → Non
 none_breaks_before [] look none = (tt, none.0)
 none_breaks_before (first ∷ looks) look none = let rest = none_breaks_before looks look none.1 in ((none.0, rest.0), rest.1)
 
-pub names_stay : (told : Bool) (ways : Ways) (names : List (List ℕ)) (looks : List Look) (shares : List Share)
-    → AreFound told ways names looks shares → (place : ℕ) → place < length names
+pub names_stay : (visible : Bool) (ways : Ways) (names : List (List ℕ)) (looks : List Look) (shares : List Share)
+    → AreFound visible ways names looks shares → (place : ℕ) → place < length names
     → NoneBreaks (get_or names place []) looks → failed_in (ways.first + place) looks ≡ None
-names_stay told ways names looks shares no_looks place within none = refl
-names_stay told ways names looks shares (looks_more {looks = before} {look} {shares = given} found at_look) place within none =
+names_stay visible ways names looks shares no_looks place within none = refl
+names_stay visible ways names looks shares (looks_more {looks = before} {look} {shares = given} found at_look) place within none =
     let (so_far, unbroken) = none_breaks_before before look none in
-    let kept = names_stay told ways names before given found place within so_far in
+    let kept = names_stay visible ways names before given found place within so_far in
     failed_sound (ways.first + place) before look (sound_among ways.first names at_look place within unbroken kept) ∙ kept

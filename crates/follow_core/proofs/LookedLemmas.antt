@@ -49,9 +49,10 @@ added_at : (before : List Watched) (names : List (List ℕ)) {place : ℕ} → p
     → watched_at (before ++ map added names) (length before + place) ≡ added (slice_index_or names place [])
 added_at before names {place} within = grind (arith, common_steps, get_or-append-add, get_or-map)
 
-added_stand : (told : Bool) (ways : Ways) (before : List Watched) (names : List (List ℕ)) → ways.first ≡ length before
-    → AllStand told ways [] (map new_state names) (before ++ map added names)
-added_stand told ways before names first_is place within = grind (arith, common_steps, length-map, get_or-map, added_at)
+added_stand : (visible : Bool) (ways : Ways) (before : List Watched) (names : List (List ℕ))
+    → ways.first ≡ length before
+    → AllStand visible ways [] (map new_state names) (before ++ map added names)
+added_stand visible ways before names first_is place within = grind (arith, common_steps, length-map, get_or-map, added_at)
 
 added_ready : (names : List NameState) {first : ℕ} (before : List Watched) → (0 < length names → first ≡ length before)
     → AllReady names first (before ++ map added (texts names))
@@ -64,21 +65,21 @@ pub record IsAdded (old mid : FollowState) (watched watched_mid : List Watched) 
   pub watched_is : watched_mid ≡ watched ++ map added (texts old.names)
   pub first_is : 0 < length old.names → mid.first ≡ length watched
 
-pub added_begins : {told_in : Bool} {old mid : FollowState} {watched watched_mid : List Watched}
-    → IsAdded old mid watched watched_mid → BeginsLook told_in old watched mid watched_mid
-added_begins {told_in} {old} {mid} {watched} {watched_mid} is = record {
+pub added_begins : {visible_in : Bool} {old mid : FollowState} {watched watched_mid : List Watched}
+    → IsAdded old mid watched watched_mid → BeginsLook visible_in old watched mid watched_mid
+added_begins {visible_in} {old} {mid} {watched} {watched_mid} is = record {
   phase = ap (λ (f : FollowState). f.phase) is.mid_is;
   ready = rw (is.mid_is, is.watched_is) (added_ready old.names watched is.first_is);
   -- the names that others added stand before these names
   others = λ number other. search (rules, get_or_append_left);
-  holds = λ told asked looks slots holds.
+  holds = λ visible asked looks slots holds.
       let new : (looks ≡ []) × (old.names ≡ map new_state (texts old.names)) × (length watched ≡ asked.ways.first)
       = rw is.fresh at holds.stand in rw is.mid_is (record {
         way = holds.way;
         same = holds.same;
         numbered = λ looking some. is.first_is (rw (length_names old holds.same) some) ∙ new.2;
         stand = (
-          rw (new.0, new.1, is.watched_is) (added_stand told_in asked.ways watched (texts old.names) (sym new.2)),
+          rw (new.0, new.1, is.watched_is) (added_stand visible_in asked.ways watched (texts old.names) (sym new.2)),
           rw (is.watched_is, length-append, new.2, length-map, length-map) refl,
         );
         shares = holds.shares;
@@ -131,11 +132,11 @@ none_before by_name [] place within none = absurd (omega arith)
 none_before by_name (name ∷ names) zero within none = grind (arith, common_steps)
 none_before by_name (name ∷ names) (suc place) within none = grind (arith, common_steps, none_before by_name names place)
 
-no_more_of : (told : Bool) (ways : Ways) (looks : List Look) (place : ℕ) (name : List ℕ) (watched : Watched)
-    (standing : Standing) → Stands told ways looks place name watched standing → 0 < length looks
+no_more_of : (visible : Bool) (ways : Ways) (looks : List Look) (place : ℕ) (name : List ℕ) (watched : Watched)
+    (standing : Standing) → Stands visible ways looks place name watched standing → 0 < length looks
     → goes_on_as ways.by_name standing ≡ false
     → (is_some watched.failed ≡ true) ⊎ ((ways.by_name ≡ false) × (watched.opened ≡ None))
-no_more_of told ways looks place name watched standing stands some none = grind (arith, common_steps)
+no_more_of visible ways looks place name watched standing stands some none = grind (arith, common_steps)
 
 -- Why a look was stopped.
 
@@ -165,16 +166,16 @@ none_broken names before watched none first_is (rest, are) = rw none (
   sizes : length before + length names ≡ length watched + length rest
   sizes = rw (length-append, length-append, length-map) at (ap length are)
 
-module _ {told_in told : Bool} {asked : Asked} {looks : List Look} {follow : FollowState} {watched : List Watched}
-    {slots : List Slot} (holds : Holds told_in told asked looks (point follow watched slots)) where
+module _ {visible_in visible : Bool} {asked : Asked} {looks : List Look} {follow : FollowState} {watched : List Watched}
+    {slots : List Slot} (holds : Holds visible_in visible asked looks (point follow watched slots)) where
   pub none_going : 0 < length looks → any_goes_on follow.by_name follow.names ≡ false → NoneGoesOn asked.ways watched
   none_going some none = phase follow.phase holds.stand where
-    phase : (phase : Phase) → StandsIn told_in asked.ways looks follow.names watched phase
+    phase : (phase : Phase) → StandsIn visible_in asked.ways looks follow.names watched phase
         → NoneGoesOn asked.ways watched
     phase Fresh stand = absurd (let empty = ap length stand.0 in omega arith)
     phase Looking stand = λ place within.
         let inside : place < length follow.names = (let as_many = stand.1 in omega arith) in
-        no_more_of told_in asked.ways looks (asked.ways.first + place) _ (watched_at watched (asked.ways.first + place))
+        no_more_of visible_in asked.ways looks (asked.ways.first + place) _ (watched_at watched (asked.ways.first + place))
         (state_at follow.names place).standing (stand.0 place inside) some
         (rw (ap (λ (those : Ways). those.by_name) holds.way)
         (none_before follow.by_name follow.names place inside none))
@@ -182,7 +183,7 @@ module _ {told_in told : Bool} {asked : Asked} {looks : List Look} {follow : Fol
 
   pub watched_are : AreWatched asked.ways looks asked.names watched
   watched_are = phase follow.phase holds.stand where
-    phase : (phase : Phase) → StandsIn told_in asked.ways looks follow.names watched phase
+    phase : (phase : Phase) → StandsIn visible_in asked.ways looks follow.names watched phase
         → AreWatched asked.ways looks asked.names watched
     phase Fresh stand = none_broken asked.names watched watched stand.0 stand.2 (map added asked.names, refl)
     phase Looking stand =
@@ -192,14 +193,15 @@ module _ {told_in told : Bool} {asked : Asked} {looks : List Look} {follow : Fol
           λ place within.
               let inside : place < length follow.names = (let as_many = stand.1 in omega arith) in
               rw (← holds.same, text_there follow.names inside)
-              (watched_there told_in _ (watched_at watched (asked.ways.first + place)) (state_at follow.names place).standing
+              (watched_there visible_in _ (watched_at watched (asked.ways.first + place)) (state_at follow.names place).standing
               (stand.0 place inside)),
         )
     phase Over stand = absurd stand
 
   -- the names stand as the looks before left them
   stand_from : follow.phase ≡ Looking
-      → StandFrom told_in (ways_of follow.by_name follow.start asked.ways.first) looks follow.first follow.names watched
+      → StandFrom visible_in
+      (ways_of follow.by_name follow.start asked.ways.first) looks follow.first follow.names watched
   stand_from looking = let (stand, many) = rw looking at holds.stand in
       rw (← holds.way) (record {
         numbered = λ some. holds.numbered looking (rw (← length_names follow holds.same) some);
@@ -209,15 +211,16 @@ module _ {told_in told : Bool} {asked : Asked} {looks : List Look} {follow : Fol
 
 -- A look, by how following stood before.
 
-module _ {told_in told : Bool} {snapshot : Snapshot} {seen seen_new : List Snapshot} {old : FollowState}
+module _ {visible_in visible : Bool} {snapshot : Snapshot} {seen seen_new : List Snapshot} {old : FollowState}
     {new : FollowState} {watched watched_new : List Watched} {slots : List Slot} {why : Fault}
     (live : old.phase ≡ Over → ⊥) (can : CanLook old watched slots) (is : why ≡ fault.Memory)
     (same : seen_new ≡ seen) where
   -- there was no memory to begin a look: some names were added, or all, and no call was made on any
-  makes_none : ((asked : Asked) (looks : List Look) → Holds told_in told asked looks (point old watched slots)
+  makes_none : ((asked : Asked) (looks : List Look) → Holds visible_in visible asked looks (point old watched slots)
       → AreWatched asked.ways looks asked.names watched_new) → ((number : ℕ) → IsOther old watched number
       → watched_at watched_new number ≡ watched_at watched number)
-      → MakesLook told_in told snapshot seen (point old watched slots) seen_new (point new watched_new slots) (Err why)
+      → MakesLook visible_in visible snapshot seen (point old watched slots) seen_new (point new watched_new slots)
+      (Err why)
   makes_none unbroken others = record {
     looked = tt;
     stopped = λ asked looks holds. record {
@@ -242,7 +245,8 @@ module _ {told_in told : Bool} {snapshot : Snapshot} {seen seen_new : List Snaps
   }
 
   pub makes_few : old.phase ≡ Fresh → AddsSome (texts old.names) watched watched_new
-      → MakesLook told_in told snapshot seen (point old watched slots) seen_new (point new watched_new slots) (Err why)
+      → MakesLook visible_in visible snapshot seen (point old watched slots) seen_new (point new watched_new slots)
+      (Err why)
   makes_few fresh adds = makes_none
       (λ asked looks holds.
       let stand = rw fresh at holds.stand in
@@ -250,17 +254,18 @@ module _ {told_in told : Bool} {snapshot : Snapshot} {seen seen_new : List Snaps
       (λ number other. rw adds.kept.1 (get_or_append_left watched adds.kept.0 no_name number
       (subst (λ phase. IsOther (record old { phase = phase }) watched number) fresh other)))
 
-  pub makes_all : {mid : FollowState} {watched_mid : List Watched} → BeginsLook told_in old watched mid watched_mid
+  pub makes_all : {mid : FollowState} {watched_mid : List Watched} → BeginsLook visible_in old watched mid watched_mid
       → watched_new ≡ watched_mid
-      → MakesLook told_in told snapshot seen (point old watched slots) seen_new (point new watched_new slots) (Err why)
+      → MakesLook visible_in visible snapshot seen (point old watched slots) seen_new (point new watched_new slots)
+      (Err why)
   makes_all begins added_now = makes_none
-      (λ asked looks holds. rw added_now (watched_are (begins.holds told asked looks slots holds)))
+      (λ asked looks holds. rw added_now (watched_are (begins.holds visible asked looks slots holds)))
       (λ number other. rw added_now (begins.others number other).1)
 
 -- the names were looked at, after they were watched and the watch began a look
 module _ {see : Sight} {old mid : FollowState} {watched watched_mid : List Watched} {slots : List Slot}
     {names : List NameState} {new : Moment} (live : old.phase ≡ Over → ⊥) (can : CanLook old watched slots)
-    (begins : BeginsLook see.told_in old watched mid watched_mid) where
+    (begins : BeginsLook see.visible_in old watched mid watched_mid) where
   others : {result : Result Bool Fault}
       → VisitsAll see (ways_of mid.by_name mid.start) mid.first mid.names (moment watched_mid mid.printer slots) names
       new result → (number : ℕ) → IsOther old watched number
@@ -273,11 +278,11 @@ module _ {see : Sight} {old mid : FollowState} {watched watched_mid : List Watch
       → seen_new ≡ seen ++ see.snapshot ∷ []
       → VisitsAll see (ways_of mid.by_name mid.start) mid.first mid.names (moment watched_mid mid.printer slots) names
       new result
-      → MakesLook see.told_in see.told see.snapshot seen (point old watched slots) seen_new
+      → MakesLook see.visible_in see.visible see.snapshot seen (point old watched slots) seen_new
       (point (record mid { names = names; printer = new.pen.printer }) new.watched new.pen.slots) result
   makes_look (Ok failed) saw visits = record {
     looked = λ asked looks before.
-        let holds = begins.holds see.told asked looks slots before in
+        let holds = begins.holds see.visible asked looks slots before in
         let stood = stand_from holds begins.phase in
         let visited : VisitedTo see asked.ways looks (length mid.names) names (moment watched_mid mid.printer slots) new failed =
         rw holds.way (visits.visited asked.ways.first looks stood) in
@@ -291,7 +296,7 @@ module _ {see : Sight} {old mid : FollowState} {watched watched_mid : List Watch
             way = holds.way;
             same = visits.same ∙ holds.same;
             numbered = holds.numbered;
-            stand = subst (StandsIn see.told_in asked.ways (looks ++ look ∷ []) names new.watched) (sym begins.phase) (
+            stand = subst (StandsIn see.visible_in asked.ways (looks ++ look ∷ []) names new.watched) (sym begins.phase) (
               (λ place within. visited.done visited.visits front place (omega (arith, within, many))),
               rw (← many) (visits.count ∙ stood.many),
             );
@@ -314,7 +319,7 @@ module _ {see : Sight} {old mid : FollowState} {watched watched_mid : List Watch
   makes_look (Err why) saw visits = record {
     looked = tt;
     stopped = λ asked looks before.
-        let holds = begins.holds see.told asked looks slots before in
+        let holds = begins.holds see.visible asked looks slots before in
         let (whole, part, begun, printer, reached, shared, short) =
         visits.stopped asked.ways.first looks (stand_from holds begins.phase) in record {
           shares = holds.shares;
@@ -338,28 +343,28 @@ module _ {see : Sight} {old mid : FollowState} {watched watched_mid : List Watch
   }
 
 -- this many looks were made, and `going` says whether a further look can give something
-pub record Progress (told_in told : Bool) (asked : Asked) (shows : ℕ → Snapshot) (made : ℕ) (going : Bool)
+pub record Progress (visible_in visible : Bool) (asked : Asked) (shows : ℕ → Snapshot) (made : ℕ) (going : Bool)
     (now : Point) (seen : List Snapshot) : Type 0 where
   pub looks : List Look
   pub count : length looks ≡ made
   pub observed : seen ≡ snapshots looks
-  pub is_made : Made told_in asked.ways asked.names shows looks
-  pub alive : told_in ≡ true → 0 < length looks → is_alive asked.ways asked.names looks ≡ going
+  pub is_made : Made visible_in asked.ways asked.names shows looks
+  pub alive : visible_in ≡ true → 0 < length looks → is_alive asked.ways asked.names looks ≡ going
   pub ends : going ≡ false → NoneGoesOn asked.ways now.watched
-  pub holds : Holds told_in told asked looks now
+  pub holds : Holds visible_in visible asked looks now
 
-module _ {told_in told : Bool} {asked : Asked} {shows : ℕ → Snapshot} where
+module _ {visible_in visible : Bool} {asked : Asked} {shows : ℕ → Snapshot} where
   pub one_more : {made : ℕ} {now : ℕ → Snapshot} {old : Point} {new : FollowState} {seen seen_new : List Snapshot}
       {watched : List Watched} {slots : List Slot} {going : Bool}
-      → now ≡ shows → Progress told_in told asked shows made true old seen
-      → LooksOn told_in told (now (length seen)) old (point new watched slots)
-      → seen_new ≡ seen ++ now (length seen) ∷ [] → ((told : Bool) (asked : Asked) (looks : List Look)
-      (watched : List Watched) (slots : List Slot) → Holds true told asked looks (point new watched slots)
+      → now ≡ shows → Progress visible_in visible asked shows made true old seen
+      → LooksOn visible_in visible (now (length seen)) old (point new watched slots)
+      → seen_new ≡ seen ++ now (length seen) ∷ [] → ((visible : Bool) (asked : Asked) (looks : List Look)
+      (watched : List Watched) (slots : List Slot) → Holds true visible asked looks (point new watched slots)
       → going ≡ is_alive asked.ways asked.names looks)
-      → ((told_in told : Bool) (asked : Asked) (looks : List Look) (watched : List Watched) (slots : List Slot)
-      → Holds told_in told asked looks (point new watched slots) → 0 < length looks → going ≡ false
+      → ((visible_in visible : Bool) (asked : Asked) (looks : List Look) (watched : List Watched) (slots : List Slot)
+      → Holds visible_in visible asked looks (point new watched slots) → 0 < length looks → going ≡ false
       → NoneGoesOn asked.ways watched)
-      → Progress told_in told asked shows (made + 1) going (point new watched slots) seen_new
+      → Progress visible_in visible asked shows (made + 1) going (point new watched slots) seen_new
   one_more {now} {seen} {watched} {slots} same p looks_on more alive none =
       let (visits, holds) = looks_on asked p.looks p.holds in
       let look : Look = record { snapshot = now (length seen); visits = visits } in record {
@@ -378,16 +383,16 @@ module _ {told_in told : Bool} {asked : Asked} {shows : ℕ → Snapshot} where
           p.observed,
           p.alive,
         );
-        alive = λ t above. sym (alive told asked (p.looks ++ look ∷ []) watched slots (rw t at holds));
-        ends = none told_in told asked (p.looks ++ look ∷ []) watched slots holds
+        alive = λ t above. sym (alive visible asked (p.looks ++ look ∷ []) watched slots (rw t at holds));
+        ends = none visible_in visible asked (p.looks ++ look ∷ []) watched slots holds
             (let long = length-append p.looks (look ∷ []) in omega arith);
         holds = holds;
       }
 
   -- no further look was made: all that were asked for were made, or a further look could give nothing
   pub ended : {made count : ℕ} {going : Bool} {now : Point} {seen : List Snapshot} → made ≤ count
-      → (made < count → (0 < made) × (going ≡ false)) → Progress told_in told asked shows made going now seen
-      → LookedAll told_in told asked count shows now seen
+      → (made < count → (0 < made) × (going ≡ false)) → Progress visible_in visible asked shows made going now seen
+      → LookedAll visible_in visible asked count shows now seen
   ended within over p = let count = p.count in record {
     looks = p.looks;
     observed = p.observed;
@@ -419,9 +424,9 @@ until_found process shows from zero fewer = absurd (omega arith)
 until_found process shows from (suc left) fewer = grind (arith, common_steps, until_found process shows (from + 1) left)
 
 -- the greatest number of looks isn't less than the number of looks that were made
-pub most_made : (told : Bool) (process : Option ℕ) (shows : ℕ → Snapshot) (count made : ℕ) → made ≤ count
-    → (told ≡ true → made ≤ until_over process shows 0 count)
-    → (most : ℕ) × AreMost told process shows count most × (made ≤ most)
+pub most_made : (visible : Bool) (process : Option ℕ) (shows : ℕ → Snapshot) (count made : ℕ) → made ≤ count
+    → (visible ≡ true → made ≤ until_over process shows 0 count)
+    → (most : ℕ) × AreMost visible process shows count most × (made ≤ most)
 most_made false process shows count made within left = (
   count,
   record { are = λ t. absurd (false≢true t); within = omega arith; found = λ fewer. absurd (omega arith) },
@@ -438,10 +443,10 @@ most_made true process shows count made within left = (
 )
 
 -- if fewer looks were made than asked for, the greatest number of looks is at least one more
-pub most_more : {told : Bool} {process : Option ℕ} {shows : ℕ → Snapshot} {count made : ℕ}
-    → (told ≡ true → until_over process shows 0 count ≡ made + until_over process shows made (count - made))
-    → made < count → (most : ℕ) × AreMost told process shows count most × (made + 1 ≤ most)
-most_more {told} {process} {shows} {count} {made} is below = most_made told process shows count (made + 1) (omega arith)
+pub most_more : {visible : Bool} {process : Option ℕ} {shows : ℕ → Snapshot} {count made : ℕ}
+    → (visible ≡ true → until_over process shows 0 count ≡ made + until_over process shows made (count - made))
+    → made < count → (most : ℕ) × AreMost visible process shows count most × (made + 1 ≤ most)
+most_more {visible} {process} {shows} {count} {made} is below = most_made visible process shows count (made + 1) (omega arith)
     (λ t. let all = is t in let some = until_least process shows made (count - made) (omega arith) in omega arith)
 
 -- one look more, before which the process isn't gone
@@ -449,13 +454,13 @@ pub until_more : (process : Option ℕ) {shows now : ℕ → Snapshot} {made cou
     → until_over process shows 0 count ≡ made + until_over process shows made (count - made) → made < count
     → gone ≡ is_over process (now seen) → gone ≡ false → now ≡ shows → seen ≡ made
     → until_over process shows 0 count ≡ made + 1 + until_over process shows (made + 1) (count - (made + 1))
-until_more process {shows} {now} {made} {count} {seen} is below told runs same at = grind (arith, common_steps, until_step)
+until_more process {shows} {now} {made} {count} {seen} is below visible runs same at = grind (arith, common_steps, until_step)
 
 -- the last look, before which the process is gone
-pub until_last : {told : Bool} {process : Option ℕ} {shows now : ℕ → Snapshot} {made count seen : ℕ} {gone : Bool}
-    → (told ≡ true → until_over process shows 0 count ≡ made + until_over process shows made (count - made))
+pub until_last : {visible : Bool} {process : Option ℕ} {shows now : ℕ → Snapshot} {made count seen : ℕ} {gone : Bool}
+    → (visible ≡ true → until_over process shows 0 count ≡ made + until_over process shows made (count - made))
     → made < count → (IsTrue gone → IsTrue (is_over process (now seen))) → gone ≡ true → now ≡ shows → seen ≡ made
-    → AreMost told process shows count (made + 1)
+    → AreMost visible process shows count (made + 1)
 until_last {process} {shows} {now} {made} {count} {seen} is below found gone same at =
     let over : is_over process (shows made) ≡ true = ap (is_over process) (sym (λ i. same i (at i))) ∙ found gone in record {
       are = λ t. let all = is t in let one = last_is (count - made) (omega arith) over in omega arith;
@@ -469,7 +474,7 @@ until_last {process} {shows} {now} {made} {count} {seen} is below found gone sam
 -- A whole run.
 
 -- if no process is given, as many looks are made as are asked for
-pub as_many : {told_in : Bool} {shows : ℕ → Snapshot} {count most : ℕ} → AreMost told_in None shows count most
+pub as_many : {visible_in : Bool} {shows : ℕ → Snapshot} {count most : ℕ} → AreMost visible_in None shows count most
     → most ≡ count
 as_many {count = count} {most} are = elim (cases_lt most count) [
   | inl fewer ↦ absurd (false≢true (are.found fewer).2)
@@ -480,11 +485,11 @@ texts_of_new : (names : List (List ℕ)) → texts (map new_state names) ≡ nam
 texts_of_new [] = refl
 texts_of_new (name ∷ names) = ap (λ rest. name ∷ rest) (texts_of_new names)
 
-pub open_holds : {told_in told headers by_name : Bool} {calling : Calling} (method : Method) {start : Start}
+pub open_holds : {visible_in visible headers by_name : Bool} {calling : Calling} (method : Method) {start : Start}
     {names : List (List ℕ)} {follow : FollowState} {watched : List Watched} {slots : List Slot}
     → by_name ≡ is_by_name method → follow ≡ opened_follow calling by_name start headers names → watched ≡ []
     → slots ≡ streams
-    → Holds told_in told (asked_so calling method start headers names streams) [] (point follow watched slots)
+    → Holds visible_in visible (asked_so calling method start headers names streams) [] (point follow watched slots)
 open_holds method {names = names} by is unwatched fresh = rw (is, by, fresh) (record {
   way = refl;
   same = texts_of_new names;

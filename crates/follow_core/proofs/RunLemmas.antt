@@ -5,7 +5,7 @@ use Rattle.std.{
   proofs.Common.{◌≡◌, ℕ, Bool, true, false, List, [], ◌∷◌, ◌++◌, refl, sym, append_assoc, append-nil, Option, ◌||◌, ◌∙◌},
   proofs.Common.{arith, is_some},
 }
-use Rattle.ports_core.specs.Part.{IsBeginning}
+use Rattle.engine_core.specs.Written.{IsBeginning}
 use Rattle.follow_core.specs.{
   Version.{Version, Entry, version, gap, entries_later, entries_at_look, open_after_look, open_after_later},
   Run.{goes_on, runs_of, last_contents, whole_text, name_text, KeptFrom, AreKept},

@@ -26,9 +26,9 @@ pub contents_same : {seen seen_old : List Snapshot} {names names_old : List Watc
 contents_same {seen_old} {names} place saw same = cc
 
 -- the first `filled` bytes of the block are what the file has from a place on
-pub record Filling (told_in : Bool) (contents : List ℕ) (from filled : ℕ) (old now : List ℕ)
+pub record Filling (visible_in : Bool) (contents : List ℕ) (from filled : ℕ) (old now : List ℕ)
     (seen_old seen_now : List Snapshot) (watched_old watched_now : List Watched) : Type 0 where
-  pub are : told_in ≡ true → take filled now ≡ take filled (drop from contents)
+  pub are : visible_in ≡ true → take filled now ≡ take filled (drop from contents)
   pub within : filled ≤ length old
   pub seen_same : seen_now ≡ seen_old
   pub watched_same : watched_now ≡ watched_old
@@ -44,26 +44,30 @@ more_bytes contents {read_new} now from {filled} {n} within long few gave are = 
 room_of : (filled : ℕ) (now : List ℕ) → length (take (length now - filled) (drop filled now)) ≡ length now - filled
 room_of filled now = grind (arith, common_steps)
 
-pub fill_more : {told_in : Bool} {contents now_contents : List ℕ} {from filled n : ℕ}
+pub fill_more : {visible_in : Bool} {contents now_contents : List ℕ} {from filled n : ℕ}
     {old now read_new : List ℕ} {seen_old seen_now seen_new : List Snapshot}
     {watched_old watched_now watched_new : List Watched}
-    → Filling told_in contents from filled old now seen_old seen_now watched_old watched_now → now_contents ≡ contents
+    → Filling visible_in contents from filled old now seen_old seen_now watched_old watched_now
+    → now_contents ≡ contents
     → filled < length now → length now ≡ length old
     → length read_new ≡ length (take (length now - filled) (drop filled now))
     → n ≤ length (take (length now - filled) (drop filled now))
-    → (told_in ≡ true → GaveFrom now_contents (from + filled) (take (length now - filled) (drop filled now)) read_new n)
+    → (visible_in ≡ true
+    → GaveFrom now_contents (from + filled) (take (length now - filled) (drop filled now)) read_new n)
     → seen_new ≡ seen_now → watched_new ≡ watched_now
-    → Filling told_in contents from (filled + n) old
+    → Filling visible_in contents from (filled + n) old
     (put_mid filled (length now - filled) now read_new) seen_old seen_new watched_old watched_new
 fill_more {contents} {from} {filled} {n} {now} {read_new} f same less long wide few gave seen watched = grind
     (arith, common_steps, room_of, more_bytes)
 
 -- a read that gives nothing stands at the end of the file
-pub fill_ends : {told_in : Bool} {contents now_contents : List ℕ} {from filled : ℕ}
+pub fill_ends : {visible_in : Bool} {contents now_contents : List ℕ} {from filled : ℕ}
     {old now read_new : List ℕ} {seen_old seen_now : List Snapshot} {watched_old watched_now : List Watched}
-    → Filling told_in contents from filled old now seen_old seen_now watched_old watched_now → now_contents ≡ contents
-    → filled < length now → (told_in ≡ true
-    → GaveFrom now_contents (from + filled) (take (length now - filled) (drop filled now)) read_new 0) → told_in ≡ true
+    → Filling visible_in contents from filled old now seen_old seen_now watched_old watched_now
+    → now_contents ≡ contents
+    → filled < length now → (visible_in ≡ true
+    → GaveFrom now_contents (from + filled) (take (length now - filled) (drop filled now)) read_new 0)
+    → visible_in ≡ true
     → take filled (put_mid filled (length now - filled) now read_new) ≡ take (length old) (drop from contents)
 fill_ends {contents} {now_contents} {from} {filled} {now} {read_new} f same less gave is = grind (arith, common_steps)
 

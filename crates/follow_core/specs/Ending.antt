@@ -65,10 +65,10 @@ seen_first shows zero = []
 seen_first shows (suc n) = seen_first shows n ++ shows n ∷ []
 
 -- these looks were made in turn; if what they see is visible, more could come after each but the last
-pub record Made (told_in : Bool) (ways : Ways) (names : List (List ℕ)) (shows : ℕ → Snapshot)
+pub record Made (visible_in : Bool) (ways : Ways) (names : List (List ℕ)) (shows : ℕ → Snapshot)
     (looks : List Look) : Type 0 where
   pub saw : snapshots looks ≡ seen_first shows (length looks)
-  pub alive : told_in ≡ true → (n : ℕ) → 0 < n → n < length looks → is_alive ways names (take n looks) ≡ true
+  pub alive : visible_in ≡ true → (n : ℕ) → 0 < n → n < length looks → is_alive ways names (take n looks) ≡ true
 
 -- what a run of following leaves: what its looks saw, the watched names, and the outputs
 pub record Remains : Type 0 where
@@ -80,19 +80,19 @@ abbrev pub remains : List Snapshot → List Watched → List Slot → Remains
 remains seen watched slots = record { seen = seen; watched = watched; slots = slots }
 
 -- Some looks were made, the next look was stopped by a fault, and no other look was made.
-pub record StoppedIn (told_in told : Bool) (asked : Asked) (count : ℕ) (shows : ℕ → Snapshot) (left : Remains)
+pub record StoppedIn (visible_in visible : Bool) (asked : Asked) (count : ℕ) (shows : ℕ → Snapshot) (left : Remains)
     (why : Fault) : Type 0 where
   pub looks : List Look
   pub saw : SawOrNot (snapshots looks) (shows (length looks)) left.seen
-  pub made : Made told_in asked.ways asked.names shows looks
+  pub made : Made visible_in asked.ways asked.names shows looks
   pub within : length looks < count
-  pub alive : told_in ≡ true → 0 < length looks → is_alive asked.ways asked.names looks ≡ true
-  pub halted : Halted told_in told asked looks (shows (length looks)) left.watched left.slots why
+  pub alive : visible_in ≡ true → 0 < length looks → is_alive asked.ways asked.names looks ≡ true
+  pub halted : Halted visible_in visible asked looks (shows (length looks)) left.watched left.slots why
 
 -- the outputs got all text and all messages, and the status is 1 if anything failed, and 0 otherwise
-pub record LeavesFollowed (told : Bool) (calling : Calling) (followed : Followed) (first new : List Slot)
+pub record LeavesFollowed (visible : Bool) (calling : Calling) (followed : Followed) (first new : List Slot)
     (status : ℕ) : Type 0 where
-  pub wrote : Wrote told calling followed.out followed.messages first new
+  pub wrote : Wrote visible calling followed.out followed.messages first new
   pub status_is : status ≡ (if followed.has_failed then 1 else 0)
 
 -- whether it can be found before a look that sees this that the process is gone, if there is a process to ask for
@@ -109,8 +109,8 @@ until_over process shows from (suc left) =
 
 -- How many looks are made at most, of `count` that are asked for. If they are fewer, it was found before the last of
 -- them that the process is gone. If what looks see is visible, that is the first look before which it is gone.
-pub record AreMost (told_in : Bool) (process : Option ℕ) (shows : ℕ → Snapshot) (count most : ℕ) : Type 0 where
-  pub are : told_in ≡ true → most ≡ until_over process shows 0 count
+pub record AreMost (visible_in : Bool) (process : Option ℕ) (shows : ℕ → Snapshot) (count most : ℕ) : Type 0 where
+  pub are : visible_in ≡ true → most ≡ until_over process shows 0 count
   pub within : most ≤ count
   pub found : most < count → (last : ℕ) × (most ≡ suc last) × IsTrue (is_over process (shows last))
 
@@ -120,34 +120,36 @@ pub record AreMost (told_in : Bool) (process : Option ℕ) (shows : ℕ → Snap
 -- its own name. Or `tail` was called by its own name, and before a look that could give something nobody read standard
 -- output any more; it has exactly what the looks before give, and nothing is reported. Or there was no memory to begin;
 -- that is reported, and no look was made.
-pub data FollowEndsAs (told_in told : Bool) (asked : Asked) (count : ℕ) (shows : ℕ → Snapshot) (left : Remains)
+pub data FollowEndsAs (visible_in visible : Bool) (asked : Asked) (count : ℕ) (shows : ℕ → Snapshot) (left : Remains)
     (status : ℕ) : Type 0 where
   looked : (looks : List Look) (shares : List Share) → left.seen ≡ snapshots looks
-      → AreWatched asked.ways looks asked.names left.watched → Made told_in asked.ways asked.names shows looks
+      → AreWatched asked.ways looks asked.names left.watched → Made visible_in asked.ways asked.names shows looks
       → length looks ≤ count → (length looks < count → (0 < length looks)
-      × (told_in ≡ true → is_alive asked.ways asked.names looks ≡ false) × NoneGoesOn asked.ways left.watched)
-      → AreFound told_in asked.ways asked.names looks shares
-      → LeavesFollowed told asked.calling (made_from asked.headers None shares) asked.first left.slots status
-      → FollowEndsAs told_in told asked count shows left status
+      × (visible_in ≡ true → is_alive asked.ways asked.names looks ≡ false) × NoneGoesOn asked.ways left.watched)
+      → AreFound visible_in asked.ways asked.names looks shares
+      → LeavesFollowed visible asked.calling (made_from asked.headers None shares) asked.first left.slots status
+      → FollowEndsAs visible_in visible asked count shows left status
   stopped : (mid : List Slot) (fault : Fault)
-      → StoppedIn told_in told asked count shows (record left { slots = mid }) fault
-      → TellsOn told (tail_by asked.calling) fault mid left.slots
+      → StoppedIn visible_in visible asked count shows (record left { slots = mid }) fault
+      → TellsOn visible (tail_by asked.calling) fault mid left.slots
       → status ≡ status_after fault asked.calling (output_reason mid fault)
-      → FollowEndsAs told_in told asked count shows left status
+      → FollowEndsAs visible_in visible asked count shows left status
   -- Before a look it was seen that nobody reads standard output any more. No further look was made.
   unread : (looks : List Look) (shares : List Share) (before : List Slot) → asked.calling ≡ OwnName
       → left.seen ≡ snapshots looks → AreWatched asked.ways looks asked.names left.watched
-      → Made told_in asked.ways asked.names shows looks → length looks < count
-      → (told_in ≡ true → 0 < length looks → is_alive asked.ways asked.names looks ≡ true)
-      → AreFound told_in asked.ways asked.names looks shares
-      → Wrote told asked.calling (text_from asked.headers None shares) (messages_of shares) asked.first before
+      → Made visible_in asked.ways asked.names shows looks → length looks < count
+      → (visible_in ≡ true → 0 < length looks → is_alive asked.ways asked.names looks ≡ true)
+      → AreFound visible_in asked.ways asked.names looks shares
+      → Wrote visible asked.calling (text_from asked.headers None shares) (messages_of shares) asked.first before
       → left.slots ≡ with_broken Gone 0 before → status ≡ 141
-      → FollowEndsAs told_in told asked count shows left status
+      → FollowEndsAs visible_in visible asked count shows left status
   no_room : (why : Reason) → left.seen ≡ [] → left.watched ≡ []
-      → SaysOn told (tail_by asked.calling) why (message_of Memory []) asked.first left.slots → status ≡ 1
-      → FollowEndsAs told_in told asked count shows left status
+      → SaysOn visible (tail_by asked.calling) why (message_of Memory []) asked.first left.slots → status ≡ 1
+      → FollowEndsAs visible_in visible asked count shows left status
 
 -- how a run ends by these limits
-abbrev pub FollowEndsBy : Limits → (told_in told : Bool) → Asked → (ℕ → Snapshot) → Remains → (status : ℕ) → Type 0
-FollowEndsBy limits told_in told asked shows left status = (most : ℕ)
-    × AreMost told_in limits.process shows limits.looks most × FollowEndsAs told_in told asked most shows left status
+abbrev pub FollowEndsBy : Limits → (visible_in visible : Bool) → Asked → (ℕ → Snapshot) → Remains → (status : ℕ)
+    → Type 0
+FollowEndsBy limits visible_in visible asked shows left status = (most : ℕ)
+    × AreMost visible_in limits.process shows limits.looks most
+    × FollowEndsAs visible_in visible asked most shows left status

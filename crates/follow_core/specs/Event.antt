@@ -1,7 +1,7 @@
 -- What a look gives for a name, step by step: lines that report what it found, and bytes.
 use Rattle.std.specs.Prelude.{ℕ, ◌-◌, List, [], ◌∷◌, ◌++◌, Option, Some, None, drop, length, take, is_some, nat_lt}
 use Rattle.std.specs.Prelude.{if◌then◌else◌}
-use Rattle.ports_core.specs.Part.{IsBeginning}
+use Rattle.engine_core.specs.Written.{IsBeginning}
 use Rattle.watch_core.specs.Snapshot.{Snapshot}
 use Rattle.follow_core.specs.{
   declared.notice.Notice.{Notice, TheVariants.{Truncated, Replaced, Inaccessible, Appeared}},

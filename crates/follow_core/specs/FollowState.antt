@@ -75,11 +75,11 @@ IsOther follow watched number = elim follow.phase [
 -- Before the first look the names are new, and will be watched after those that are watched already. Then they are
 -- watched there, and each stands as after these looks.
 abbrev pub StandsIn : Bool → Ways → List Look → List NameState → List Watched → Phase → Type 0
-StandsIn told ways looks names watched Fresh = (looks ≡ []) × (names ≡ map new_state (texts names))
+StandsIn visible ways looks names watched Fresh = (looks ≡ []) × (names ≡ map new_state (texts names))
     × (length watched ≡ ways.first)
-StandsIn told ways looks names watched Looking = AllStand told ways looks names watched
+StandsIn visible ways looks names watched Looking = AllStand visible ways looks names watched
     × (length watched ≡ ways.first + length names)
-StandsIn told ways looks names watched Over = ⊥
+StandsIn visible ways looks names watched Over = ⊥
 
 -- What is asked of following: how `tail` was called, how these names are followed, and whether headers are written; and
 -- the outputs as they were before.
@@ -102,14 +102,14 @@ point follow watched slots = record { follow = follow; watched = watched; slots 
 
 -- These looks were made. The outputs got exactly what the looks give. Even if what looks see isn't visible, they give
 -- what their calls found.
-pub record Holds (told_in told : Bool) (asked : Asked) (looks : List Look) (now : Point) : Type 0 where
+pub record Holds (visible_in visible : Bool) (asked : Asked) (looks : List Look) (now : Point) : Type 0 where
   pub way : asked.ways ≡ ways_of now.follow.by_name now.follow.start asked.ways.first
   pub same : texts now.follow.names ≡ asked.names
   pub numbered : now.follow.phase ≡ Looking → 0 < length asked.names → now.follow.first ≡ asked.ways.first
-  pub stand : StandsIn told_in asked.ways looks now.follow.names now.watched now.follow.phase
+  pub stand : StandsIn visible_in asked.ways looks now.follow.names now.watched now.follow.phase
   pub shares : List Share
-  pub found : AreFound told_in asked.ways asked.names looks shares
-  pub shared : AllShared told (fresh_printer asked.calling asked.headers) shares asked.first now.follow.printer
+  pub found : AreFound visible_in asked.ways asked.names looks shares
+  pub shared : AllShared visible (fresh_printer asked.calling asked.headers) shares asked.first now.follow.printer
       now.slots
   pub failed : any_failed shares ≡ now.follow.has_failed
 
@@ -117,33 +117,34 @@ pub record Holds (told_in told : Bool) (asked : Asked) (looks : List Look) (now 
 -- this place, and no call on this name or a later name failed. The names before it have all that the look gives them,
 -- in `whole`. This name has a beginning of what the look gives it, the only share in `part`. Names broke exactly if one
 -- of these looks says so.
-pub data Begun (told_in : Bool) (ways : Ways) (names : List (List ℕ)) (looks : List Look) (snapshot : Snapshot)
+pub data Begun (visible_in : Bool) (ways : Ways) (names : List (List ℕ)) (looks : List Look) (snapshot : Snapshot)
     (watched : List Watched) : (whole part : List Share) → Type 0 where
-  nothing : AreWatched ways looks names watched → Begun told_in ways names looks snapshot watched [] []
+  nothing : AreWatched ways looks names watched → Begun visible_in ways names looks snapshot watched [] []
   up_to : (visits : List Visit) (place : ℕ) (shares : List Share) (share : Share)
       → length visits ≡ ways.first + place → place < length names
       → AreWatched ways (looks ++ record { snapshot = snapshot; visits = visits } ∷ []) names watched
-      → AreAtLook told_in ways looks (record { snapshot = snapshot; visits = visits }) ways.first (take place names)
+      → AreAtLook visible_in ways looks (record { snapshot = snapshot; visits = visits }) ways.first (take place names)
       shares
-      → IsBegun told_in ways looks snapshot (slice_index_or names place []) share
-      → (told_in ≡ true → BeginsShare share
+      → IsBegun visible_in ways looks snapshot (slice_index_or names place []) share
+      → (visible_in ≡ true → BeginsShare share
       (share_of ways looks (record { snapshot = snapshot; visits = visits }) (ways.first + place)
       (slice_index_or names place [])))
-      → Begun told_in ways names looks snapshot watched shares (share ∷ [])
+      → Begun visible_in ways names looks snapshot watched shares (share ∷ [])
 
 -- Following ended in the look after these, before the first name or at a name. The outputs got all that these looks
 -- give, all that this look gives for the names before that name, and a beginning of what it gives for that name.
-pub record Halted (told_in told : Bool) (asked : Asked) (looks : List Look) (snapshot : Snapshot)
+pub record Halted (visible_in visible : Bool) (asked : Asked) (looks : List Look) (snapshot : Snapshot)
     (watched : List Watched) (slots : List Slot) (why : Fault) : Type 0 where
   pub shares : List Share
-  pub found : AreFound told_in asked.ways asked.names looks shares
+  pub found : AreFound visible_in asked.ways asked.names looks shares
   pub whole : List Share
   pub part : List Share
-  pub begun : Begun told_in asked.ways asked.names looks snapshot watched whole part
+  pub begun : Begun visible_in asked.ways asked.names looks snapshot watched whole part
   pub printer : PrinterState
   pub reached : List Slot
-  pub shared : AllShared told (fresh_printer asked.calling asked.headers) (shares ++ whole) asked.first printer reached
-  pub short : AllShort told printer part reached slots why
+  pub shared : AllShared visible (fresh_printer asked.calling asked.headers)
+      (shares ++ whole) asked.first printer reached
+  pub short : AllShort visible printer part reached slots why
 
 -- why a look was stopped: there was no memory, or standard output broke in it, or following was over before
 pub data IsCause (old : FollowState) (slots slots_new : List Slot) : Fault → Type 0 where
@@ -156,15 +157,16 @@ abbrev pub SawOrNot : List Snapshot → Snapshot → List Snapshot → Type 0
 SawOrNot seen snapshot seen_new = (seen_new ≡ seen) ⊎ (seen_new ≡ seen ++ snapshot ∷ [])
 
 -- whatever looks were made before, one more look was made, which saw this
-abbrev pub LooksOn : (told_in told : Bool) → Snapshot → (old new : Point) → Type 0
-LooksOn told_in told snapshot old new = (asked : Asked) (looks : List Look) → Holds told_in told asked looks old
+abbrev pub LooksOn : (visible_in visible : Bool) → Snapshot → (old new : Point) → Type 0
+LooksOn visible_in visible snapshot old new = (asked : Asked) (looks : List Look)
+    → Holds visible_in visible asked looks old
     → (visits : List Visit)
-    × Holds told_in told asked (looks ++ record { snapshot = snapshot; visits = visits } ∷ []) new
+    × Holds visible_in visible asked (looks ++ record { snapshot = snapshot; visits = visits } ∷ []) new
 
 -- whatever looks were made before, the next look was stopped
-abbrev pub StopsOn : (told_in told : Bool) → Snapshot → Point → List Watched → List Slot → Fault → Type 0
-StopsOn told_in told snapshot old watched slots why = (asked : Asked) (looks : List Look)
-    → Holds told_in told asked looks old → Halted told_in told asked looks snapshot watched slots why
+abbrev pub StopsOn : (visible_in visible : Bool) → Snapshot → Point → List Watched → List Slot → Fault → Type 0
+StopsOn visible_in visible snapshot old watched slots why = (asked : Asked) (looks : List Look)
+    → Holds visible_in visible asked looks old → Halted visible_in visible asked looks snapshot watched slots why
 
 -- whether the name of this number goes on: it wasn't dropped, and it is followed by name or a file of it is open
 abbrev pub goes_on_at : Ways → List Look → ℕ → List ℕ → Bool

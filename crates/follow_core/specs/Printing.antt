@@ -1,7 +1,7 @@
 -- What is known to the code that writes the bytes of names, under headers, and messages.
 use Rattle.std.specs.Prelude.{◌≡◌, ℕ, ◌≤◌, Bool, List, Option, None, length, take}
 use Rattle.ports_core.specs.{
-  Slot.{Slot, with_written, told_of},
+  Slot.{Slot, with_written, visible_of},
   Write.BrokeAfter,
   declared.{calling.Calling.Calling, fault.Fault.Fault},
 }
@@ -19,7 +19,7 @@ abbrev pub fresh_printer : Calling → Bool → PrinterState
 fresh_printer calling headers = record { calling = calling; headers = headers; last = None }
 
 -- a beginning of the text was written before standard output broke, or before there was no memory
-pub data Short (told : Bool) (text : List ℕ) (old new : List Slot) : Fault → Type 0 where
-  broke : (n : ℕ) → BrokeAfter told old new 0 text n → Short told text old new (fault.Write 0)
-  no_room : (n : ℕ) → n ≤ length text → new ≡ with_written 0 (told_of told (take n text)) old
-      → Short told text old new fault.Memory
+pub data Short (visible : Bool) (text : List ℕ) (old new : List Slot) : Fault → Type 0 where
+  broke : (n : ℕ) → BrokeAfter visible old new 0 text n → Short visible text old new (fault.Write 0)
+  no_room : (n : ℕ) → n ≤ length text → new ≡ with_written 0 (visible_of visible (take n text)) old
+      → Short visible text old new fault.Memory

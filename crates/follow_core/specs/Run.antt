@@ -3,7 +3,7 @@ use Rattle.std.specs.{
   Prelude.{◌≡◌, ℕ, ◌==◌, Bool, true, false, ◌&&◌, nat_le, List, [], ◌∷◌, ◌++◌, length, drop, if◌then◌else◌},
   List.onto_first,
 }
-use Rattle.ports_core.specs.Part.{IsBeginning}
+use Rattle.engine_core.specs.Written.{IsBeginning}
 use Rattle.follow_core.specs.Version.{Version, Entry, version, gap}
 
 -- whether version w goes on from version v: it is the same file, and it didn't get shorter

@@ -2,7 +2,7 @@
 -- standard error gets lines.
 use Rattle.std.specs.Prelude.{◌≡◌, ℕ, Bool, true, List, ◌∷◌, Option, Some, None, IsTrue}
 use Rattle.ports_core.specs.{
-  Slot.{Slot, is_open, is_writable, slot_at, told_of, with_written},
+  Slot.{Slot, is_open, is_writable, slot_at, visible_of, with_written},
   declared.{calling.Calling.Calling, fault.Fault.Fault},
 }
 use Rattle.follow_core.specs.{
@@ -14,30 +14,30 @@ use Rattle.follow_core.specs.{
 
 -- standard output got the text, or a beginning of it before this fault
 abbrev pub CameTo : Bool → List ℕ → List Slot → List Slot → Option Fault → Type 0
-CameTo told text old new None = new ≡ with_written 0 (told_of told text) old
-CameTo told text old new (Some fault) = Short told text old new fault
+CameTo visible text old new None = new ≡ with_written 0 (visible_of visible text) old
+CameTo visible text old new (Some fault) = Short visible text old new fault
 
 -- standard output got the text, or a beginning of it before this fault; standard error got the lines of these remarks;
 -- no other output changed
 abbrev pub WroteBy : Bool → Calling → List ℕ → List Remark → List Slot → List Slot → Option Fault → Type 0
-WroteBy told calling text remarks old new fault = (output error : Slot) (others : List Slot)
-    → old ≡ output ∷ error ∷ others → (error_after : Slot) × TellsAll told calling remarks error error_after
-    × CameTo told text (output ∷ error_after ∷ others) new fault
+WroteBy visible calling text remarks old new fault = (output error : Slot) (others : List Slot)
+    → old ≡ output ∷ error ∷ others → (error_after : Slot) × TellsAll visible calling remarks error error_after
+    × CameTo visible text (output ∷ error_after ∷ others) new fault
 
 -- standard output got the text, and standard error the lines of the remarks
 abbrev pub Wrote : Bool → Calling → List ℕ → List Remark → List Slot → List Slot → Type 0
-Wrote told calling text remarks old new = WroteBy told calling text remarks old new None
+Wrote visible calling text remarks old new = WroteBy visible calling text remarks old new None
 
 -- the outputs got all shares, one after another
-pub record AllShared (told : Bool) (printer : PrinterState) (shares : List Share) (old : List Slot)
+pub record AllShared (visible : Bool) (printer : PrinterState) (shares : List Share) (old : List Slot)
     (after : PrinterState) (new : List Slot) : Type 0 where
   pub printer_is : after ≡ record printer { last = last_header_from printer.headers printer.last shares }
-  pub slots : Wrote told printer.calling (text_from printer.headers printer.last shares) (messages_of shares) old new
+  pub slots : Wrote visible printer.calling (text_from printer.headers printer.last shares) (messages_of shares) old new
 
 -- the outputs got the lines of all shares, and a beginning of their text before this fault
-pub record AllShort (told : Bool) (printer : PrinterState) (shares : List Share) (old new : List Slot)
+pub record AllShort (visible : Bool) (printer : PrinterState) (shares : List Share) (old new : List Slot)
     (fault : Fault) : Type 0 where
-  pub slots : WroteBy told printer.calling (text_from printer.headers printer.last shares) (messages_of shares) old
+  pub slots : WroteBy visible printer.calling (text_from printer.headers printer.last shares) (messages_of shares) old
       new (Some fault)
 
 -- standard error is open, broken or not

@@ -59,37 +59,38 @@ AreWatched ways looks names watched = (length watched ≤ ways.first + length na
     (slice_index_or names place []) (watched_at watched (ways.first + place)))
 
 -- The name is looked at again. The file is open that the looks left open, and `position` bytes of it were seen.
-pub record IsFollowed (told : Bool) (ways : Ways) (looks : List Look) (place : ℕ) (name : List ℕ) (watched : Watched)
+pub record IsFollowed (visible : Bool) (ways : Ways) (looks : List Look) (place : ℕ) (name : List ℕ) (watched : Watched)
     (position : ℕ) : Type 0 where
   pub named : watched.name ≡ name
   pub unbroken : watched.failed ≡ None
   pub kept : is_dropped place looks ≡ false
   pub begun : is_first looks ≡ false
-  pub stands : told ≡ true → watched.opened ≡ opened_in ways name looks
-  pub there : told ≡ true → ways.by_name ≡ false → is_some watched.opened ≡ true
-  pub long : IsLong told ways.by_name (latest (snapshots looks)) name watched.opened position
+  pub stands : visible ≡ true → watched.opened ≡ opened_in ways name looks
+  pub there : visible ≡ true → ways.by_name ≡ false → is_some watched.opened ≡ true
+  pub long : IsLong visible ways.by_name (latest (snapshots looks)) name watched.opened position
 
 -- the name was missing at the first look, and names aren't followed
-pub record IsMissed (told : Bool) (ways : Ways) (looks : List Look) (place : ℕ) (name : List ℕ)
+pub record IsMissed (visible : Bool) (ways : Ways) (looks : List Look) (place : ℕ) (name : List ℕ)
     (watched : Watched) : Type 0 where
   pub way : ways.by_name ≡ false
   pub unbroken : watched.failed ≡ None
   pub kept : is_dropped place looks ≡ false
   pub closed : watched.opened ≡ None
-  pub unopened : told ≡ true → open_after ways.by_name name (snapshots looks) ≡ None
+  pub unopened : visible ≡ true → open_after ways.by_name name (snapshots looks) ≡ None
 
 -- The name is looked at no more: a call on it failed, so it is broken, or it was missing at the first look.
-pub record IsLeft (told : Bool) (ways : Ways) (looks : List Look) (place : ℕ) (name : List ℕ)
+pub record IsLeft (visible : Bool) (ways : Ways) (looks : List Look) (place : ℕ) (name : List ℕ)
     (watched : Watched) : Type 0 where
   pub begun : is_first looks ≡ false
   pub named : watched.name ≡ name
   pub why : ((is_dropped place looks ≡ true) × BrokeIn ways looks place (failed_of watched) × (watched.opened ≡ None))
-      ⊎ IsMissed told ways looks place name watched
+      ⊎ IsMissed visible ways looks place name watched
 
 abbrev pub Stands : Bool → Ways → List Look → ℕ → List ℕ → Watched → Standing → Type 0
-Stands told ways looks place name watched New = (looks ≡ []) × (watched ≡ added name)
-Stands told ways looks place name watched (Followed position) = IsFollowed told ways looks place name watched position
-Stands told ways looks place name watched Left = IsLeft told ways looks place name watched
+Stands visible ways looks place name watched New = (looks ≡ []) × (watched ≡ added name)
+Stands visible ways looks place name watched (Followed position) =
+    IsFollowed visible ways looks place name watched position
+Stands visible ways looks place name watched Left = IsLeft visible ways looks place name watched
 
 -- no name that is watched from the number `first` on goes on: each broke, or has no open file and names aren't followed
 abbrev pub NoneGoesOn : Ways → List Watched → Type 0
@@ -99,10 +100,10 @@ NoneGoesOn ways watched = (place : ℕ) → ways.first + place < length watched
 
 -- the name at this place stands as after these looks
 abbrev pub StandsAmong : Bool → Ways → List Look → List NameState → List Watched → ℕ → Type 0
-StandsAmong told ways looks names watched place = Stands told ways looks (ways.first + place)
+StandsAmong visible ways looks names watched place = Stands visible ways looks (ways.first + place)
     (state_at names place).text (watched_at watched (ways.first + place)) (state_at names place).standing
 
 -- each name stands as after these looks
 abbrev pub AllStand : Bool → Ways → List Look → List NameState → List Watched → Type 0
-AllStand told ways looks names watched = (place : ℕ) → place < length names
-    → StandsAmong told ways looks names watched place
+AllStand visible ways looks names watched = (place : ℕ) → place < length names
+    → StandsAmong visible ways looks names watched place

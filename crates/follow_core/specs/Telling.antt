@@ -34,12 +34,12 @@ failure_message fault name = message_of fault (title name)
 -- An output got the line of a remark. The line of a failure has its reason if `tail` was called by its own name; if there
 -- is no memory for that line, the line that says so stands in its place.
 abbrev pub Tells : Bool → Calling → Remark → Slot → Slot → Type 0
-Tells told calling (found notice name) old new = Prints told (notice_of notice name) old new
-Tells told calling (failed failure name) old new =
-    SaysFor told (tail_by calling) failure.why (failure_message failure.fault name) old new
+Tells visible calling (found notice name) old new = Prints visible (notice_of notice name) old new
+Tells visible calling (failed failure name) old new =
+    SaysFor visible (tail_by calling) failure.why (failure_message failure.fault name) old new
 
 -- it got the lines of these remarks, one after another
 abbrev pub TellsAll : Bool → Calling → List Remark → Slot → Slot → Type 0
-TellsAll told calling [] old new = new ≡ old
-TellsAll told calling (remark ∷ remarks) old new =
-    (mid : Slot) × Tells told calling remark old mid × TellsAll told calling remarks mid new
+TellsAll visible calling [] old new = new ≡ old
+TellsAll visible calling (remark ∷ remarks) old new =
+    (mid : Slot) × Tells visible calling remark old mid × TellsAll visible calling remarks mid new

@@ -142,10 +142,10 @@ impl Follow {
     /// following: a later look returns `Failed`, and does nothing.
     pub fn look<W: Watch, O: Outs>(&mut self, watch: &mut W, outs: &mut O) -> Result<(), Fault>
         requires { CanLook self.old (W.watched watch.old) (O.slots outs.old) }
-        ensures looked { OnOk result (LooksOn W.told O.told (W.shows watch.old (length (W.seen watch.old)))
+        ensures looked { OnOk result (LooksOn W.visible O.visible (W.shows watch.old (length (W.seen watch.old)))
             (point self.old (W.watched watch.old) (O.slots outs.old))
             (point self.new (W.watched watch.new) (O.slots outs.new))) }
-        ensures stopped { IfErr result (StopsOn W.told O.told (W.shows watch.old (length (W.seen watch.old)))
+        ensures stopped { IfErr result (StopsOn W.visible O.visible (W.shows watch.old (length (W.seen watch.old)))
             (point self.old (W.watched watch.old) (O.slots outs.old)) (W.watched watch.new) (O.slots outs.new)) }
         ensures seen { OnOk result (W.seen watch.new
             ≡ W.seen watch.old ++ W.shows watch.old (length (W.seen watch.old)) ∷ []) }
@@ -184,11 +184,12 @@ impl Follow {
     /// Whether a further look can give something: some name wasn't dropped, and is followed by name or has its file
     /// open.
     pub fn alive(&self) -> bool
-        ensures alive { (told : Bool) (asked : Asked) (looks : List Look) (watched : List Watched) (slots : List Slot)
-            → Holds true told asked looks (point self.now watched slots)
+        ensures alive { (visible : Bool) (asked : Asked) (looks : List Look) (watched : List Watched)
+            (slots : List Slot)
+            → Holds true visible asked looks (point self.now watched slots)
             → result ≡ is_alive asked.ways asked.names looks }
-        ensures none { (told_in told : Bool) (asked : Asked) (looks : List Look) (watched : List Watched)
-            (slots : List Slot) → Holds told_in told asked looks (point self.now watched slots) → 0 < length looks
+        ensures none { (visible_in visible : Bool) (asked : Asked) (looks : List Look) (watched : List Watched)
+            (slots : List Slot) → Holds visible_in visible asked looks (point self.now watched slots) → 0 < length looks
             → result ≡ false → NoneGoesOn asked.ways watched }
     {
         any_goes_on(&self.names, self.by_name)
@@ -211,7 +212,7 @@ impl Follow {
     fn make_look<W: Watch, O: Outs>(&mut self, watch: &mut W, outs: &mut O) -> Result<bool, Fault>
         requires live { self.old.phase ≡ Phase.Over → ⊥ }
         requires can { CanLook self.old (W.watched watch.old) (O.slots outs.old) }
-        ensures makes { MakesLook W.told O.told (W.shows watch.old (length (W.seen watch.old))) (W.seen watch.old)
+        ensures makes { MakesLook W.visible O.visible (W.shows watch.old (length (W.seen watch.old))) (W.seen watch.old)
             (point self.old (W.watched watch.old) (O.slots outs.old)) (W.seen watch.new)
             (point self.new (W.watched watch.new) (O.slots outs.new)) result }
         ensures shows { W.shows watch.new ≡ W.shows watch.old }
@@ -240,7 +241,8 @@ impl Follow {
     /// `Memory` if there was none for a name.
     fn begin<W: Watch>(&mut self, watch: &mut W) -> Result<(), Fault>
         requires { CanBegin self.old (W.watched watch.old) }
-        ensures begins { OnOk result (BeginsLook W.told self.old (W.watched watch.old) self.new (W.watched watch.new)) }
+        ensures begins { OnOk result
+            (BeginsLook W.visible self.old (W.watched watch.old) self.new (W.watched watch.new)) }
         ensures err { IfErr result
             (λ fault. (fault ≡ Fault.Memory) × (self.old.phase ≡ Phase.Fresh)
             × AddsSome (texts self.old.names) (W.watched watch.old) (W.watched watch.new)) }

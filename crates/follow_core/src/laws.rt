@@ -70,8 +70,8 @@ pub fn calls_find_the_share()
 
 /// A name on which no call can fail isn't dropped: no call on it failed in these looks.
 pub fn forgiven_names_stay()
-    ensures { (told : Bool) (ways : Ways) (names : List (List ℕ)) (looks : List Look)
-        → OfEachName told ways names looks (λ number name. NoneBreaks name looks → failed_in number looks ≡ None) }
+    ensures { (visible : Bool) (ways : Ways) (names : List (List ℕ)) (looks : List Look)
+        → OfEachName visible ways names looks (λ number name. NoneBreaks name looks → failed_in number looks ≡ None) }
 {}
 
 /// If names are followed as long as they lead to a file, each look insists. Then a name that leads nowhere at one of

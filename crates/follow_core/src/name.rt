@@ -92,7 +92,7 @@ impl Name {
     ) -> Result<bool, Fault>
         requires ready { CanVisit self.old (watched_at (W.watched watch.old) place) }
         requires can { CanPrint (O.slots outs.old) }
-        ensures visits { Visits (sight W.told O.told (W.seen watch.old)) (ways_of by_name start) place self.old
+        ensures visits { Visits (sight W.visible O.visible (W.seen watch.old)) (ways_of by_name start) place self.old
             (moment (W.watched watch.old) visitor.old (O.slots outs.old)) self.new.standing
             (moment (W.watched watch.new) visitor.new (O.slots outs.new)) result }
         ensures same { self.new.text ≡ self.old.text }
@@ -187,7 +187,7 @@ pub(crate) fn visit_all<W: Watch, O: Outs>(
     requires ready { AllReady names.old first (W.watched watch.old) }
     requires fits { first + length names.old ≤ 2 ^ 64 }
     requires can { CanPrint (O.slots outs.old) }
-    ensures visits { VisitsAll (sight W.told O.told (W.seen watch.old)) (ways_of by_name start) first
+    ensures visits { VisitsAll (sight W.visible O.visible (W.seen watch.old)) (ways_of by_name start) first
         names.old (moment (W.watched watch.old) visitor.old (O.slots outs.old)) names.new
         (moment (W.watched watch.new) visitor.new (O.slots outs.new)) result }
     ensures seen { W.seen watch.new ≡ W.seen watch.old }

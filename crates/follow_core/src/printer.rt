@@ -2,7 +2,7 @@
 ghost use Rattle.std.specs.{
   Prelude.{◌≡◌, [], Some, IsTrue, IfErr, OnOk, if◌then◌else◌, string_bytes, option_map, is_none},
 };
-ghost use Rattle.ports_core.specs.{Slot.{is_writable, with_written, told_of}, Text.header_of};
+ghost use Rattle.ports_core.specs.{Slot.{is_writable, with_written, visible_of}, Text.header_of};
 ghost use Rattle.follow_core.specs.{
   Printing.{PrinterState, Short, fresh_printer},
   inner.Giving.{Puts, over_by, over_in, pen},
@@ -68,7 +68,7 @@ impl Printer {
         outs: &mut O,
     ) -> Result<(), Fault>
         requires { IsTrue (is_writable (O.slots outs.old) 0) }
-        ensures puts { Puts O.told opened name.now bytes.now (pen self.old (O.slots outs.old))
+        ensures puts { Puts O.visible opened name.now bytes.now (pen self.old (O.slots outs.old))
             (pen self.new (O.slots outs.new)) (over_by (over_in result)) }
         ensures writable { OnOk result (IsTrue (is_writable (O.slots outs.new) 0)) }
     {
@@ -97,13 +97,14 @@ impl Printer {
     fn show<O: Outs>(&mut self, due: bool, name: &str, outs: &mut O) -> Result<(), Fault>
         requires { IsTrue (is_writable (O.slots outs.old) 0) }
         ensures out { OnOk result (O.slots outs.new
-            ≡ with_written 0 (told_of O.told (if due then header_of (title name.now) (is_none self.old.last) else []))
+            ≡ with_written 0
+            (visible_of O.visible (if due then header_of (title name.now) (is_none self.old.last) else []))
             (O.slots outs.old)) }
         ensures last { OnOk result (self.new
             ≡ record self.old { last = if due then Some name.now else self.old.last }) }
         ensures writable { OnOk result (IsTrue (is_writable (O.slots outs.new) 0)) }
         ensures short { IfErr result
-            (Short O.told (if due then header_of (title name.now) (is_none self.old.last) else []) (O.slots outs.old)
+            (Short O.visible (if due then header_of (title name.now) (is_none self.old.last) else []) (O.slots outs.old)
             (O.slots outs.new)) }
     {
         if !due {

@@ -96,7 +96,7 @@ pub fn follow_files<W: Watch, O: Outs>(
     requires unseen { W.seen watch.old ≡ [] }
     requires unwatched { W.watched watch.old ≡ [] }
     requires outputs { O.slots outs.old ≡ streams }
-    ensures { FollowEndsBy limits W.told O.told
+    ensures { FollowEndsBy limits W.visible O.visible
         (asked_so calling method start headers (map (λ name. name.now) names.now) streams)
         (shows_by calling method (W.shows watch.old))
         (remains (W.seen watch.new) (W.watched watch.new) (O.slots outs.new)) result }
@@ -149,7 +149,7 @@ fn make_looks<W: Watch, O: Outs>(
     requires unseen { W.seen watch.old ≡ [] }
     requires can { CanLook follow.old (W.watched watch.old) (O.slots outs.old) }
     requires print { CanPrint (O.slots outs.old) }
-    ensures ends { LooksInTurn W.told O.told limits (W.shows watch.old)
+    ensures ends { LooksInTurn W.visible O.visible limits (W.shows watch.old)
         (point follow.old (W.watched watch.old) (O.slots outs.old))
         (point follow.new (W.watched watch.new) (O.slots outs.new)) (W.seen watch.new) result }
     ensures unread { result ≡ Ok End.Unread → calling ≡ Calling.OwnName }
@@ -191,7 +191,7 @@ fn is_unread<O: Outs>(calling: Calling, outs: &mut O) -> bool
 
 /// Whether the process that is waited for is gone, before the next look.
 fn has_ended<W: Watch>(process: Option<u32>, watch: &mut W) -> bool
-    ensures told { W.told ≡ true → result ≡ is_over process (W.shows watch.old (length (W.seen watch.old))) }
+    ensures told { W.visible ≡ true → result ≡ is_over process (W.shows watch.old (length (W.seen watch.old))) }
     ensures found { IsTrue result → IsTrue (is_over process (W.shows watch.old (length (W.seen watch.old)))) }
     ensures watched { W.watched watch.new ≡ W.watched watch.old }
     ensures seen { W.seen watch.new ≡ W.seen watch.old }

@@ -41,10 +41,10 @@ impl Start {
         requires readable { IsTrue (is_readable (W.watched watch.old) place) }
         requires room { 0 < length buffer.old }
         requires bound { len < 2 ^ 63 }
-        requires whole { W.told ≡ true
+        requires whole { W.visible ≡ true
             → len ≡ length (open_contents (latest (W.seen watch.old)) (watched_at (W.watched watch.old) place)) }
         ensures within { IfOk result (λ from. from ≤ len) }
-        ensures part { IfOk result (λ from. W.told ≡ true
+        ensures part { IfOk result (λ from. W.visible ≡ true
             → let contents = open_contents (latest (W.seen watch.old))
             (watched_at (W.watched watch.old) place) in drop from contents
             ≡ start_part self contents) }
@@ -82,10 +82,10 @@ fn find_last_lines<W: Watch>(
     requires readable { IsTrue (is_readable (W.watched watch.old) place) }
     requires room { 0 < length buffer.old }
     requires bound { len < 2 ^ 63 }
-    requires whole { W.told ≡ true
+    requires whole { W.visible ≡ true
         → len ≡ length (open_contents (latest (W.seen watch.old)) (watched_at (W.watched watch.old) place)) }
     ensures within { IfOk result (λ from. from ≤ len) }
-    ensures part { IfOk result (λ from. W.told ≡ true
+    ensures part { IfOk result (λ from. W.visible ≡ true
         → let contents = open_contents (latest (W.seen watch.old))
         (watched_at (W.watched watch.old) place) in drop from contents ≡ last_lines delim count contents) }
     ensures same { OnOk result (W.watched watch.new ≡ W.watched watch.old) }
@@ -124,10 +124,10 @@ fn pass_lines<W: Watch>(
     requires readable { IsTrue (is_readable (W.watched watch.old) place) }
     requires room { 0 < length buffer.old }
     requires bound { len < 2 ^ 63 }
-    requires whole { W.told ≡ true
+    requires whole { W.visible ≡ true
         → len ≡ length (open_contents (latest (W.seen watch.old)) (watched_at (W.watched watch.old) place)) }
     ensures within { IfOk result (λ from. from ≤ len) }
-    ensures part { IfOk result (λ from. W.told ≡ true
+    ensures part { IfOk result (λ from. W.visible ≡ true
         → let contents = open_contents (latest (W.seen watch.old))
         (watched_at (W.watched watch.old) place) in drop from contents ≡ after_lines delim count contents) }
     ensures same { OnOk result (W.watched watch.new ≡ W.watched watch.old) }
@@ -164,7 +164,7 @@ fn read_block<W: Watch>(
     requires readable { IsTrue (is_readable (W.watched watch.old) place) }
     requires fits { from + length block.old < 2 ^ 64 }
     ensures bound { IfOk result (λ n. n ≤ length block.old) }
-    ensures bytes { IfOk result (λ n. W.told ≡ true
+    ensures bytes { IfOk result (λ n. W.visible ≡ true
         → take n block.new
         ≡ take (length block.old)
         (drop from (open_contents (latest (W.seen watch.old)) (watched_at (W.watched watch.old) place)))) }

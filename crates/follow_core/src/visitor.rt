@@ -88,7 +88,7 @@ impl Visitor {
         requires watchable { IsTrue (is_watchable (W.watched watch.old) place) }
         requires name { (watched_at (W.watched watch.old) place).name ≡ name.now }
         requires can { CanPrint (O.slots outs.old) }
-        ensures visits { Visits (sight W.told O.told (W.seen watch.old)) (ways_of by_name start) place
+        ensures visits { Visits (sight W.visible O.visible (W.seen watch.old)) (ways_of by_name start) place
             (new_state name.now) (moment (W.watched watch.old) self.old (O.slots outs.old)) standing.new
             (moment (W.watched watch.new) self.new (O.slots outs.new)) result }
         ensures can { CanGoOn (over_in result) (O.slots outs.new) }
@@ -138,11 +138,11 @@ impl Visitor {
     ) -> Result<u64, Stop>
         requires readable { IsTrue (is_readable (W.watched watch.old) place) }
         requires can { CanPrint (O.slots outs.old) }
-        ensures starts { Starts (sight W.told O.told (W.seen watch.old)) (is_sought start.unit) (start_part start)
+        ensures starts { Starts (sight W.visible O.visible (W.seen watch.old)) (is_sought start.unit) (start_part start)
             place name.now (moment (W.watched watch.old) self.old (O.slots outs.old))
             (moment (W.watched watch.new) self.new (O.slots outs.new)) (stop_in result) }
         ensures long { IfOk result
-            (HoldsMany W.told (latest (W.seen watch.old)) (watched_at (W.watched watch.old) place)) }
+            (HoldsMany W.visible (latest (W.seen watch.old)) (watched_at (W.watched watch.old) place)) }
         ensures can { CanGoOn (stop_in result) (O.slots outs.new) }
         ensures seen { W.seen watch.new ≡ W.seen watch.old }
         ensures shows { W.shows watch.new ≡ W.shows watch.old }
@@ -185,7 +185,7 @@ impl Visitor {
         requires watchable { IsTrue (is_watchable (W.watched watch.old) place) }
         requires name { (watched_at (W.watched watch.old) place).name ≡ name.now }
         requires can { CanPrint (O.slots outs.old) }
-        ensures looks { LooksAgain (sight W.told O.told (W.seen watch.old)) by_name place name.now position
+        ensures looks { LooksAgain (sight W.visible O.visible (W.seen watch.old)) by_name place name.now position
             (moment (W.watched watch.old) self.old (O.slots outs.old))
             (moment (W.watched watch.new) self.new (O.slots outs.new)) result }
         ensures can { CanGoOn (stop_in result) (O.slots outs.new) }
@@ -219,7 +219,7 @@ impl Visitor {
         requires watchable { IsTrue (is_watchable (W.watched watch.old) place) }
         requires name { (watched_at (W.watched watch.old) place).name ≡ name.now }
         requires can { CanPrint (O.slots outs.old) }
-        ensures leads { Leads (sight W.told O.told (W.seen watch.old)) true place name.now position
+        ensures leads { Leads (sight W.visible O.visible (W.seen watch.old)) true place name.now position
             (moment (W.watched watch.old) self.old (O.slots outs.old))
             (moment (W.watched watch.new) self.new (O.slots outs.new)) result }
         ensures can { CanGoOn (stop_in result) (O.slots outs.new) }
@@ -258,7 +258,7 @@ impl Visitor {
     ) -> Result<u64, Stop>
         requires watchable { IsTrue (is_watchable (W.watched watch.old) place) }
         requires can { CanPrint (O.slots outs.old) }
-        ensures adds { Adds (sight W.told O.told (W.seen watch.old)) place name.now position
+        ensures adds { Adds (sight W.visible O.visible (W.seen watch.old)) place name.now position
             (moment (W.watched watch.old) self.old (O.slots outs.old))
             (moment (W.watched watch.new) self.new (O.slots outs.new)) result }
         ensures can { CanGoOn (stop_in result) (O.slots outs.new) }
@@ -302,7 +302,7 @@ impl Visitor {
         outs: &mut O,
     ) -> Result<bool, Fault>
         requires can { CanGoOn (Some stop) (O.slots outs.old) }
-        ensures tells { TellsStop (SaysFailed O.told self.now.calling name.now why) (O.slots outs.old) standing.new
+        ensures tells { TellsStop (SaysFailed O.visible self.now.calling name.now why) (O.slots outs.old) standing.new
             (O.slots outs.new) stop result }
         ensures can { CanGoOn (over_in result) (O.slots outs.new) }
     {
@@ -319,7 +319,7 @@ impl Visitor {
     /// Tells that a call on a name failed, and why, if `tail` was called by its own name.
     fn say_failure<O: Outs>(&self, fault: &Fault, why: Reason, name: &str, outs: &mut O)
         requires { is_open (slot_at (O.slots outs.old) 1).state ≡ true }
-        ensures { SaysFailed O.told self.now.calling name.now why fault.now (O.slots outs.old) (O.slots outs.new) }
+        ensures { SaysFailed O.visible self.now.calling name.now why fault.now (O.slots outs.old) (O.slots outs.new) }
     {
         let speaker = Speaker {
             calling: self.printer.calling(),
@@ -348,7 +348,7 @@ fn copy<W: Watch, O: Outs>(
     requires writable { IsTrue (is_writable (O.slots outs.old) 0) }
     requires within { from ≤ len }
     requires room { 0 < length buffer.old }
-    ensures copies { Copies (sight W.told O.told (W.seen watch.old)) from place name.now len
+    ensures copies { Copies (sight W.visible O.visible (W.seen watch.old)) from place name.now len
         (moment (W.watched watch.old) printer.old (O.slots outs.old))
         (moment (W.watched watch.new) printer.new (O.slots outs.new)) (stop_in result) }
     ensures len { IfOk result (λ n. n ≡ len) }
@@ -387,7 +387,8 @@ fn begin_at<O: Outs>(
 ) -> Result<u64, Fault>
     requires can { CanPrint (O.slots outs.old) }
     ensures ends { (watched : List Watched) (printer : PrinterState)
-        → Yields O.told (Are (notes_past position len)) sound false name.now (moment watched printer (O.slots outs.old))
+        → Yields O.visible (Are (notes_past position len)) sound false name.now
+        (moment watched printer (O.slots outs.old))
         (moment watched printer (O.slots outs.new)) (over_in result) }
     ensures from { IfOk result (λ from. from ≡ due_from position len) }
     ensures can { CanGoOn (over_in result) (O.slots outs.new) }
@@ -409,7 +410,7 @@ fn begin_at<O: Outs>(
 fn tell<O: Outs>(alloc: Global, found: Notice, name: &str, outs: &mut O) -> Result<(), Fault>
     requires can { CanPrint (O.slots outs.old) }
     ensures ends { (watched : List Watched) (printer : PrinterState)
-        → Yields O.told (Are (notes found ∷ [])) sound false name.now (moment watched printer (O.slots outs.old))
+        → Yields O.visible (Are (notes found ∷ [])) sound false name.now (moment watched printer (O.slots outs.old))
         (moment watched printer (O.slots outs.new)) (over_in result) }
     ensures can { CanGoOn (over_in result) (O.slots outs.new) }
 {

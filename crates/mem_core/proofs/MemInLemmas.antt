@@ -147,7 +147,7 @@ pub opened_nothing : {state : MemInState} {sources new : List Source} {files : L
     → OpensNothing true (laid_in state.files state.breaks) state.sources new name (fault.Open slot)
 opened_nothing {state} {sources} {name} {slot} {why} is none added lacks counts =
     broke slot why (counts ∙ ap (λ (those : MemInState). length those.sources) is)
-    (λ told. ap (content_of state.breaks slot) (ap (λ (those : MemInState). laid_at those.files name) (sym is) ∙ none))
+    (λ visible. ap (content_of state.breaks slot) (ap (λ (those : MemInState). laid_at those.files name) (sym is) ∙ none))
     (added ∙ ap (λ last. sources ++ last ∷ []) lacks ∙ ap (λ (those : MemInState). those.sources ++ missing why ∷ []) is)
 
 -- a name at which a file lies
@@ -162,7 +162,7 @@ opened_file {sources} {breaks} {name} {file} made {source} {slot} is found fresh
     record {
       number = counts ∙ ap (λ (those : MemInState). length those.sources) is;
       content = source.left;
-      lies = λ told. ap (λ (those : MemInState). laid_in those.files those.breaks slot name) (sym is) ∙ ap (content_of breaks slot) found ∙ ap (λ (made : Source). Some made.left) (sym cut_so);
+      lies = λ visible. ap (λ (those : MemInState). laid_in those.files those.breaks slot name) (sym is) ∙ ap (content_of breaks slot) found ∙ ap (λ (made : Source). Some made.left) (sym cut_so);
       sources = added ∙ ap (λ made. sources ++ made ∷ []) (cut_so ∙ still_open breaks slot (content_in file) ∙ ap (λ (made : Source). source_of made.left) (sym cut_so))
           ∙ ap (λ (those : MemInState). those.sources ++ source_of source.left ∷ []) is;
     }

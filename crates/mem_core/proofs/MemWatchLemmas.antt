@@ -373,7 +373,7 @@ module _ {watch : MemWatchState} {worlds : List World} (turns : ℕ) {names : Li
     found = sym found;
     names = name_changes names watch.watched place (opens file) item new (ap (λ (those : MemWatchState). those.watched) is) within at changed;
     opens = finds_any watch.manner watch.within watch.worlds watch.turns _ _ (λ insists. opens_there file (there insists));
-    leads = λ told. leads;
+    leads = λ visible. leads;
   }
 
   pub opened_now : (place : ℕ) {file : ℕ} {item : Watched} {world : World} → place < length names

@@ -484,7 +484,7 @@ impl Inputs for MemIn {
 
     ghost laid = { λ inputs. laid_in inputs.files inputs.breaks };
 
-    ghost told = { true };
+    ghost visible = { true };
 
     fn open(&mut self, name: &str) -> Result<usize, Fault> {
         let slot = self.sources.len();

@@ -272,7 +272,7 @@ fn room(limits: &[Limit], slot: usize, held: usize) -> usize {
 impl Outs for MemOut {
     ghost slots = { λ outs. outs };
 
-    ghost told = { true };
+    ghost visible = { true };
 
     fn open(&mut self, name: &str, mode: Mode) -> Result<usize, Fault> {
         let Some(slot) = self.slots.next(0) else {

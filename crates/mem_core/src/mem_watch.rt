@@ -421,7 +421,7 @@ impl Watch for MemWatch {
 
     ghost rested = { λ watch. 0 };
 
-    ghost told = { true };
+    ghost visible = { true };
 
     ghost fed = { λ watch. is_fed watch };
 

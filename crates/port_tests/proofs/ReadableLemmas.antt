@@ -59,7 +59,7 @@ readable_front [] more other can = absurd (false≢true can)
 readable_front (source ∷ old) more zero can = can
 readable_front (source ∷ old) more (suc other) can = readable_front old more other can
 
-pub kept_in_vain : (told : Bool) (laid : ℕ → List ℕ → Option Content) (old new : List Source) (name : List ℕ) (why : Fault) (other : ℕ) → OpensNothing told laid old new name why → IsTrue (is_readable old other) → IsTrue (is_readable new other)
-kept_in_vain told laid old new name why other (broke slot reason number none is) can =
+pub kept_in_vain : (visible : Bool) (laid : ℕ → List ℕ → Option Content) (old new : List Source) (name : List ℕ) (why : Fault) (other : ℕ) → OpensNothing visible laid old new name why → IsTrue (is_readable old other) → IsTrue (is_readable new other)
+kept_in_vain visible laid old new name why other (broke slot reason number none is) can =
     ap (λ (those : List Source). is_readable those other) is ∙ readable_front old (missing reason ∷ []) other can
-kept_in_vain told laid old new name why other (no_room is) can = ap (λ (those : List Source). is_readable those other) is ∙ can
+kept_in_vain visible laid old new name why other (no_room is) can = ap (λ (those : List Source). is_readable those other) is ∙ can

@@ -5,10 +5,11 @@ ghost use Rattle.std.specs.Prelude.{◌≡◌};
 ghost use Rattle.ports_core.specs.Slot.{streams};
 
 use crate::compare::{same, same_bytes};
+use engine_core::Names;
 use mem_core::{Edit, MemIn, MemOut, MemWatch};
 use ports_core::{
-    Alphabet, Base, Fault, Filling, Form, Inputs, Mode, Names, Naming, Numbering, Outs, Tool,
-    header, message, numbered, write_whole,
+    Alphabet, Base, Fault, Filling, Form, Inputs, Mode, Naming, Numbering, Outs, Tool, header,
+    message, numbered, write_whole,
 };
 use std::alloc::Global;
 use std::process::Abort;

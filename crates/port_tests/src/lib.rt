@@ -1,4 +1,4 @@
-//! Tests of `ports_core` and `watch_core`: inputs, outputs, names, texts and watches.
+//! Tests of `ports_core` and `watch_core`, and of the names that `engine_core` draws: inputs, outputs, texts and watches.
 #![tactic(auto)]
 
 #[cfg(test)]

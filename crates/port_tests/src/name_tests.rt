@@ -2,9 +2,8 @@
 ghost use Rattle.ports_core.specs.Name.{IsWide};
 
 use crate::compare::same_bytes;
-use ports_core::{
-    Alphabet, Base, Fault, Filling, Form, Names, Naming, Numbering, header, numbered,
-};
+use engine_core::Names;
+use ports_core::{Alphabet, Base, Fault, Filling, Form, Naming, Numbering, header, numbered};
 use std::alloc::Global;
 use std::test::Fail;
 
@@ -143,9 +142,9 @@ fn numbers_in_names(rt: HostRuntime) -> Result<(), Fail> {
 }
 
 /// A base, whether numbers are marked, a width, what fills it, and a precision.
-type Written = (Base, bool, u8, Filling, u8);
+type Described = (Base, bool, u8, Filling, u8);
 
-fn form(written: Written) -> Form {
+fn form(written: Described) -> Form {
     let (base, is_marked, width, filling, precision) = written;
     Form {
         base,
@@ -157,7 +156,7 @@ fn form(written: Written) -> Form {
 }
 
 /// Forms, a number, and what C's `printf` writes of it.
-const FORMATTED: &[(Written, u64, &str)] = &[
+const FORMATTED: &[(Described, u64, &str)] = &[
     ((Base::Decimal, false, 0, Filling::BlanksBefore, 1), 0, "0"),
     ((Base::Decimal, false, 0, Filling::BlanksBefore, 1), 7, "7"),
     (

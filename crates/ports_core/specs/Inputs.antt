@@ -7,13 +7,13 @@ empty = unshown []
 
 -- `P` is true of the content of an input; if bytes are visible, the content is `there`
 abbrev pub OfContent : Bool → Content → (Content → Type 0) → Type 0
-OfContent told there P = (content : Content) × (told ≡ true → content ≡ there) × P content
+OfContent visible there P = (content : Content) × (visible ≡ true → content ≡ there) × P content
 
 -- An input with this content came from a source that was open. If bytes aren't visible, the content breaks off exactly
 -- if the source is broken.
-pub record CameFrom (told : Bool) (content : Content) (source : Source) : Type 0 where
+pub record CameFrom (visible : Bool) (content : Content) (source : Source) : Type 0 where
   pub was_open : source.is_open ≡ true
-  pub breaks : told ≡ false → content.breaks_off ≡ source.is_broken
+  pub breaks : visible ≡ false → content.breaks_off ≡ source.is_broken
 
 -- no input but this one was touched
 pub record KeepsOthers (slot : ℕ) (old new : List Source) : Type 0 where
@@ -29,12 +29,12 @@ pub record HasLooked (most slot : ℕ) (old new : List Source) : Type 0 where
 
 -- The next `count` bytes of an input were passed over, fewer than 2^63. `Keeps` is true of these bytes. If bytes aren't
 -- visible, it is true of some text of that length.
-pub record PassesOver (told : Bool) (slot count : ℕ) (Keeps : List ℕ → Type 0) (old new : List Source)
+pub record PassesOver (visible : Bool) (slot count : ℕ) (Keeps : List ℕ → Type 0) (old new : List Source)
     : Type 0 where
   pub few : count < 2 ^ 63
   pub front : List ℕ
   pub long : count ≡ length front
-  pub there : told ≡ true → (source_at old slot).left.bytes ≡ front ++ (source_at new slot).left.bytes
+  pub there : visible ≡ true → (source_at old slot).left.bytes ≡ front ++ (source_at new slot).left.bytes
   pub passed : new ≡ changed_at slot (skips count) old
   pub keeps : Keeps front
 

@@ -1,7 +1,7 @@
 -- What a tool says on standard error.
 use Rattle.std.specs.Prelude.{◌≡◌, ℕ, ◌<◌, Bool, true, false, List, [], ◌∷◌, length, take, ◌⊎◌}
 use Rattle.ports_core.specs.{
-  Slot.{Slot, slot_at, adds, breaks, told_of},
+  Slot.{Slot, slot_at, adds, breaks, visible_of},
   Text.{Message, is_quiet, line_of, message_of},
   declared.{
     calling.Speaker.Speaker,
@@ -11,12 +11,12 @@ use Rattle.ports_core.specs.{
 }
 
 -- an output got the text; or it got a beginning of the text and broke; or it was broken before, and got nothing
-pub data Prints (told : Bool) (text : List ℕ) (old new : Slot) : Type 0 where
-  whole : old.is_broken ≡ false → new ≡ adds (told_of told text) old → Prints told text old new
+pub data Prints (visible : Bool) (text : List ℕ) (old new : Slot) : Type 0 where
+  whole : old.is_broken ≡ false → new ≡ adds (visible_of visible text) old → Prints visible text old new
   cut : old.is_broken ≡ false → (n : ℕ) (why : Reason) → n < length text
-      → new ≡ breaks why (adds (told_of told (take n text)) old)
-      → Prints told text old new
-  passed : old.is_broken ≡ true → new ≡ old → Prints told text old new
+      → new ≡ breaks why (adds (visible_of visible (take n text)) old)
+      → Prints visible text old new
+  passed : old.is_broken ≡ true → new ≡ old → Prints visible text old new
 
 -- standard error, the slot after standard output, changed as `Change` says, and no other output changed
 abbrev pub OnError : (Slot → Slot → Type 0) → List Slot → List Slot → Type 0
@@ -25,38 +25,39 @@ OnError Change old new = (output error : Slot) (since : List Slot) → old ≡ o
 
 -- standard error got the text, as `Prints` says, and no other output changed
 abbrev pub PrintsOn : Bool → List ℕ → List Slot → List Slot → Type 0
-PrintsOn told text = OnError (Prints told text)
+PrintsOn visible text = OnError (Prints visible text)
 
 -- an output got the line of a message with this reason; if there was no memory for this line, the line that says so
 -- stands in its place
-pub record SaysFor (told : Bool) (speaker : Speaker) (why : Reason) (message : Message) (old new : Slot) : Type 0 where
+pub record SaysFor (visible : Bool) (speaker : Speaker) (why : Reason) (message : Message) (old new : Slot)
+    : Type 0 where
   pub said : List ℕ
   pub is : (said ≡ line_of speaker why message) ⊎ (said ≡ line_of speaker why (message_of Memory []))
-  pub printed : Prints told said old new
+  pub printed : Prints visible said old new
 
 -- an output got the line of a message, with some reason, as the system gives one
 abbrev pub Says : Bool → Speaker → Message → Slot → Slot → Type 0
-Says told speaker message old new = (why : Reason) × SaysFor told speaker why message old new
+Says visible speaker message old new = (why : Reason) × SaysFor visible speaker why message old new
 
 -- an output got these messages, one after another
 abbrev pub SaysAll : Bool → Speaker → List Message → Slot → Slot → Type 0
-SaysAll told speaker [] old new = new ≡ old
-SaysAll told speaker (message ∷ messages) old new = (mid : Slot) × Says told speaker message old mid
-    × SaysAll told speaker messages mid new
+SaysAll visible speaker [] old new = new ≡ old
+SaysAll visible speaker (message ∷ messages) old new = (mid : Slot) × Says visible speaker message old mid
+    × SaysAll visible speaker messages mid new
 
 -- standard error got a message, with this reason, and no other output changed
 abbrev pub SaysOn : Bool → Speaker → Reason → Message → List Slot → List Slot → Type 0
-SaysOn told speaker why message = OnError (SaysFor told speaker why message)
+SaysOn visible speaker why message = OnError (SaysFor visible speaker why message)
 
 -- an output got the line of a message, unless nothing is to be said
 abbrev pub TellsIf : (quiet : Bool) → Bool → Speaker → Reason → Message → Slot → Slot → Type 0
-TellsIf true told speaker why message old new = new ≡ old
-TellsIf false told speaker why message old new = SaysFor told speaker why message old new
+TellsIf true visible speaker why message old new = new ≡ old
+TellsIf false visible speaker why message old new = SaysFor visible speaker why message old new
 
 -- an output got the line of a fault with this name, unless nothing is to be said of it (`is_quiet`)
 abbrev pub Tells : Bool → Speaker → Reason → Fault → List ℕ → Slot → Slot → Type 0
-Tells told speaker why fault name =
-    TellsIf (is_quiet fault speaker.calling why) told speaker why (message_of fault name)
+Tells visible speaker why fault name =
+    TellsIf (is_quiet fault speaker.calling why) visible speaker why (message_of fault name)
 
 -- the name of the output that a fault names; the name is empty if there was no memory to keep it
 abbrev pub output_named : List Slot → Fault → List ℕ
@@ -73,8 +74,8 @@ output_reason slots fault = Other
 -- A fault was reported on standard error, unless nothing is to be said of it. The line has the name of the output that
 -- the fault names, and the reason why this output broke.
 abbrev pub TellsOn : Bool → Speaker → Fault → List Slot → List Slot → Type 0
-TellsOn told speaker fault old new =
-    OnError (Tells told speaker (output_reason old fault) fault (output_named old fault)) old new
+TellsOn visible speaker fault old new =
+    OnError (Tells visible speaker (output_reason old fault) fault (output_named old fault)) old new
 
 -- a message, and the reason that its line gives, if it gives one
 pub record Report : Type 0 where
@@ -83,6 +84,6 @@ pub record Report : Type 0 where
 
 -- an output got the lines of these reports, one after another
 abbrev pub SaysEach : Bool → Speaker → List Report → Slot → Slot → Type 0
-SaysEach told speaker [] old new = new ≡ old
-SaysEach told speaker (report ∷ reports) old new = (mid : Slot)
-    × SaysFor told speaker report.why report.message old mid × SaysEach told speaker reports mid new
+SaysEach visible speaker [] old new = new ≡ old
+SaysEach visible speaker (report ∷ reports) old new = (mid : Slot)
+    × SaysFor visible speaker report.why report.message old mid × SaysEach visible speaker reports mid new

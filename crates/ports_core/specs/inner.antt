@@ -1,10 +1,5 @@
-pub mod FileWriter
 pub mod Name
-pub mod Names
-pub mod Part
 pub mod Place
 pub mod RealInput
 pub mod Refusal
-pub mod Shares
 pub mod Text
-pub mod Write

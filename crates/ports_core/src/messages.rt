@@ -24,7 +24,7 @@ pub fn say<O: Outs>(
     outs: &mut O,
 )
     requires { is_open (slot_at (O.slots outs.old) 1).state ≡ true }
-    ensures { SaysOn O.told speaker why (message_of fault.now name.now) (O.slots outs.old) (O.slots outs.new) }
+    ensures { SaysOn O.visible speaker why (message_of fault.now name.now) (O.slots outs.old) (O.slots outs.new) }
 {
     let line = message_for(alloc, speaker, why, fault, name);
     say_line(speaker, line, outs)
@@ -36,7 +36,7 @@ pub fn say<O: Outs>(
 /// gives for a tool that the signal stopped.
 pub fn tell<O: Outs>(alloc: Global, speaker: Speaker, fault: &Fault, outs: &mut O) -> u8
     requires { is_open (slot_at (O.slots outs.old) 1).state ≡ true }
-    ensures told { TellsOn O.told speaker fault.now (O.slots outs.old) (O.slots outs.new) }
+    ensures told { TellsOn O.visible speaker fault.now (O.slots outs.old) (O.slots outs.new) }
     ensures status { result
         ≡ status_after fault.now speaker.calling (output_reason (O.slots outs.old) fault.now) }
 {
@@ -76,7 +76,7 @@ fn output_reason<O: Outs>(fault: &Fault, outs: &O) -> Reason
 pub fn say_line<O: Outs>(speaker: Speaker, line: Result<Vec<u8>, Fault>, outs: &mut O)
     requires { is_open (slot_at (O.slots outs.old) 1).state ≡ true }
     ensures { (why : Reason) (message : Message) → IfOk line (λ text. text.items ≡ line_of speaker why message)
-        → SaysOn O.told speaker why message (O.slots outs.old) (O.slots outs.new) }
+        → SaysOn O.visible speaker why message (O.slots outs.old) (O.slots outs.new) }
 {
     match line {
         Ok(text) => print(&text, outs),
@@ -88,7 +88,7 @@ pub fn say_line<O: Outs>(speaker: Speaker, line: Result<Vec<u8>, Fault>, outs: &
 /// over. It takes no memory.
 pub fn print<O: Outs>(text: &[u8], outs: &mut O)
     requires { is_open (slot_at (O.slots outs.old) 1).state ≡ true }
-    ensures { PrintsOn O.told text.now (O.slots outs.old) (O.slots outs.new) }
+    ensures { PrintsOn O.visible text.now (O.slots outs.old) (O.slots outs.new) }
 {
     if outs.broken(STANDARD_ERROR) {
         return;

@@ -1,6 +1,7 @@
 ghost use Rattle.std.specs.Prelude.{◌≡◌, false, string_bytes, IsTrue, IfOk, IfErr, IfSome, IfNone};
-ghost use Rattle.ports_core.specs.Name.{Naming as Named, IsWide, has_name, has_suffix, name_at};
+ghost use Rattle.ports_core.specs.Name.{Naming as Named, IsWide, has_name, has_suffix, name_at, numbered_name};
 
+use crate::numbering::push_decimal;
 use crate::{Fault, Numbering};
 use std::alloc::{AllocError, Global};
 use std::marker::Model;
@@ -56,7 +57,7 @@ impl Naming {
     }
 
     /// Where names take their memory.
-    pub(crate) fn alloc(&self) -> Global {
+    pub fn alloc(&self) -> Global {
         self.alloc
     }
 
@@ -107,5 +108,20 @@ fn write_name(
     name.push_str(prefix)?;
     numbering.push(&mut name, place)?;
     name.push_str(ending)?;
+    Ok(name)
+}
+
+/// A prefix and a number in decimal. The number is filled with zeros on the left to `digits` digits, and is whole if it
+/// has more (XCU csplit, the names of the files).
+///
+/// # Errors
+///
+/// `Memory` if the name found no room.
+pub fn numbered(alloc: Global, prefix: &str, digits: u32, number: u64) -> Result<String, Fault>
+    ensures ok { IfOk result (λ name. string_bytes name ≡ numbered_name prefix.now digits number) }
+    ensures err { IfErr result (λ fault. fault ≡ Fault.Memory) }
+{
+    let mut name = String::from_str(alloc, prefix)?;
+    push_decimal(&mut name, digits as usize, number)?;
     Ok(name)
 }

@@ -8,14 +8,16 @@ use Rattle.std.proofs.{
 use Rattle.ports_core.specs.{
   Slot.{effect, Slot, changed_at},
   Source.{Content, Source, source_at, is_readable, gives, gets_back, unshown, with_next, Gave},
-  Part.{Part, OutputsAt},
+  declared.{fault.Fault.Fault, verdict.Verdict.Verdict},
+  Inputs.{CameFrom, empty, OfContent},
+}
+use Rattle.engine_core.specs.{
+  Written.{Written, OutputsAt},
   Swept.Swept,
   Work.{Work, Means, Needs, IsLawful, IsComplete, IsNeeded, IsSpare, Judges, IsSettled},
   Engine.{Clears, Terms, Ended, EndsThere, EndsWith, IsCaused, IsMet, KeepsOwn, Passes, StandsAt, TakesIn},
   Engine.is_verdict,
-  Guard.{GuardState, HoldsIn, IsRefusedWith},
-  declared.{fault.Fault.Fault, verdict.Verdict.Verdict},
-  Inputs.{CameFrom, empty, OfContent},
+  EngineState.{EngineState, HoldsIn, IsRefusedWith},
 }
 use Rattle.ports_core.proofs.InputsLemmas.{HasRead, changed_source}
 use Rattle.run_core.specs.{
@@ -25,12 +27,12 @@ use Rattle.run_core.specs.{
   inner.RunSteps.{EndsSo, finished, fell_short},
 }
 use Rattle.ports_core.specs.declared.fault.Fault.TheVariants as fault_is
-use Rattle.ports_core.specs.Engine as engine
+use Rattle.engine_core.specs.Engine as engine
 
 -- Lemmas on the loop that feeds an engine.
 
 -- why an engine that is live is stopped
-stops : (work : Work) (read : List ℕ) (low high : Part) {needs : Needs} (ended : Bool) (ahead : ℕ) (Lacks : Type 0)
+stops : (work : Work) (read : List ℕ) (low high : Written) {needs : Needs} (ended : Bool) (ahead : ℕ) (Lacks : Type 0)
     (Ends : Verdict → Type 0) {fault : Fault} {taken size : ℕ} {old new : List Slot} → is_verdict fault ≡ false
     → (2 ^ 63 ≤ taken + size → 2 ^ 63 ≤ length read)
     → IsCaused (IsMet work.means needs Lacks Ends old new) false taken size old new fault
@@ -51,18 +53,18 @@ judges means Lacks Ends is (engine.met (fault_is.Verdict verdict) _ why) = (verd
 judges means Lacks Ends is caused = absurd (cc)
 
 -- what a fault left within an input, and what was made of its files then
-short_of_piece : {told : Bool} {work : Work} {content : Content} (IsStep : Step → Type 0)
+short_of_piece : {visible : Bool} {work : Work} {content : Content} (IsStep : Step → Type 0)
     {x : List ℕ} (piece rest : List ℕ) {reached new before : List Slot} {fault : Fault} → IsLawful work
     → content.bytes ≡ (x ++ piece) ++ rest
     → IsStep (call_of work work.means.feeding (x ++ piece) (work.settled x) (work.settled (x ++ piece)))
-    → Ended work.means.output told before (work.settled x) (work.settled (x ++ piece)) work.clears fault reached
+    → Ended work.means.output visible before (work.settled x) (work.settled (x ++ piece)) work.clears fault reached
     → (is_verdict fault ≡ false
     → Stops
     (call_of work work.means.feeding (x ++ piece) (work.settled x) (work.settled (x ++ piece))) reached fault)
     → (is_verdict fault ≡ true → OfVerdict fault (IsSettled work (x ++ piece)))
     → (is_verdict fault ≡ true → new ≡ reached)
     → (is_verdict fault ≡ false → Swept work.clears (length before) reached new)
-    → FedAs told before work content IsStep new (Err fault)
+    → FedAs visible before work content IsStep new (Err fault)
 short_of_piece IsStep piece rest {reached} {fault} lawful is step (engine.cut unjudged stop) why settles kept swept =
     stopped fault unjudged
     (record { step = _; is = step; reached = reached; stops = why unjudged; between = stop; swept = swept unjudged })
@@ -118,10 +120,10 @@ got_enough content x Whole lawful got = cc
 got_enough content x Enough lawful got = grind (arith, common_steps)
 got_enough content x Broken lawful got = absurd got
 
-fed_all : {told : Bool} {work : Work} {content : Content} (IsStep : Step → Type 0)
+fed_all : {visible : Bool} {work : Work} {content : Content} (IsStep : Step → Type 0)
     {x : List ℕ} {new before : List Slot} (fed : Fed) → IsLawful work → HasGot work content x fed
-    → work.verdict x ≡ None → OutputsAt told before (work.whole x) new
-    → FedAs told before work content IsStep new (Ok fed)
+    → work.verdict x ≡ None → OutputsAt visible before (work.whole x) new
+    → FedAs visible before work content IsStep new (Ok fed)
 fed_all IsStep Whole lawful got well at = whole got.0 (rw got.2 got.1) (rw got.2 well) (rw got.2 at)
 fed_all IsStep {x} Enough lawful got well at =
     let alike = alike_after got.1.0 lawful got.0 got.1.1 in had_enough (rw got.1.1 (lawful.stays x got.1.0 got.0).still)
@@ -129,15 +131,15 @@ fed_all IsStep {x} Enough lawful got well at =
 fed_all IsStep Broken lawful got well at = absurd got
 
 -- What a fault left at the end, and what was made of its files then. The engine was fed x, of which z was used.
-short_of_end : {told : Bool} {work : Work} {content : Content} (IsStep : Step → Type 0)
+short_of_end : {visible : Bool} {work : Work} {content : Content} (IsStep : Step → Type 0)
     {x z : List ℕ} {reached new before : List Slot} (fed : Fed) {fault : Fault} → IsLawful work
     → HasGot work content x fed → MadeAlike work x z → IsStep (close_of work z)
-    → Ended work.means.output told before (work.settled x) (work.whole x) work.clears fault reached
+    → Ended work.means.output visible before (work.settled x) (work.whole x) work.clears fault reached
     → (is_verdict fault ≡ false → Stops (close_of work z) reached fault)
     → (is_verdict fault ≡ true → OfVerdict fault (Judges work x))
     → (is_verdict fault ≡ true → new ≡ reached)
     → (is_verdict fault ≡ false → Swept work.clears (length before) reached new)
-    → FedAs told before work content IsStep new (Err fault)
+    → FedAs visible before work content IsStep new (Err fault)
 short_of_end IsStep {reached = reached} fed {fault} lawful got alike step (engine.cut unjudged stop) why verdict kept swept =
     let between = rw alike.settled at (rw alike.whole at stop) in stopped fault unjudged
     (record { step = _; is = step; reached = reached; stops = why unjudged; between = between; swept = swept unjudged })
@@ -147,25 +149,25 @@ short_of_end {content} IsStep fed lawful got alike step (engine.judged judging f
 
 module _ {S : Type 0} (terms : Terms S) where
   -- the loop has fed the engine x
-  pub record Feeds (told : Bool) (start now : GuardState S) (x : List ℕ) (old slots : List Slot) : Type 0 where
+  pub record Feeds (visible : Bool) (start now : EngineState S) (x : List ℕ) (old slots : List Slot) : Type 0 where
     pub same : terms.work now.stage ≡ terms.work start.stage
     pub holds : HoldsIn terms.Holds now x
     pub owns : KeepsOwn terms start.stage now.stage old slots
-    pub outputs : (before : List Slot) → BeginsAt terms told start.stage old before
-        → OutputsAt told before ((terms.work now.stage).settled x) slots
+    pub outputs : (before : List Slot) → BeginsAt terms visible start.stage old before
+        → OutputsAt visible before ((terms.work now.stage).settled x) slots
     pub bound : now.fed < 2 ^ 63
 
-module _ {S : Type 0} {terms : Terms S} {told : Bool} {start now : GuardState S} {x : List ℕ} {old mid : List Slot}
-    (so_far : Feeds terms told start now x old mid) where
+module _ {S : Type 0} {terms : Terms S} {visible : Bool} {start now : EngineState S} {x : List ℕ} {old mid : List Slot}
+    (so_far : Feeds terms visible start now x old mid) where
   -- the engine and its outputs stand at what it was fed
-  pub stands : {before : List Slot} → BeginsAt terms told start.stage old before
-      → StandsAt terms now.stage told before x mid
+  pub stands : {before : List Slot} → BeginsAt terms visible start.stage old before
+      → StandsAt terms now.stage visible before x mid
   stands {before} begun = record { holds = so_far.holds.within; owns = so_far.owns (length before) begun.0; outputs = so_far.outputs before begun }
 
-  pub goes_on : {next : GuardState S} (piece : List ℕ) {new : List Slot} {Met : List Slot → List Slot → Fault → Type 0}
-      → Passes terms piece now.stage next.stage (effect told mid new) Met (Ok tt)
+  pub goes_on : {next : EngineState S} (piece : List ℕ) {new : List Slot} {Met : List Slot → List Slot → Fault → Type 0}
+      → Passes terms piece now.stage next.stage (effect visible mid new) Met (Ok tt)
       → TakesIn (HoldsIn terms.Holds) piece now next
-      → next.fed < 2 ^ 63 → Feeds terms told start next (x ++ piece) old new
+      → next.fed < 2 ^ 63 → Feeds terms visible start next (x ++ piece) old new
   goes_on piece passes takes bound = record {
     same = passes.same ∙ so_far.same;
     holds = takes x so_far.holds;
@@ -176,15 +178,15 @@ module _ {S : Type 0} {terms : Terms S} {told : Bool} {start now : GuardState S}
 
   -- the loop ended at a fault of the engine, within the input
   pub stopped_feeding : (laws : (s : S) (x : List ℕ) → terms.Holds s x → IsLawful (terms.work s))
-      (next : GuardState S) {content : Content} (IsStep : Step → Type 0) (piece rest : List ℕ)
-      {reached new before : List Slot} {fault : Fault} → BeginsAt terms told start.stage old before
+      (next : EngineState S) {content : Content} (IsStep : Step → Type 0) (piece rest : List ℕ)
+      {reached new before : List Slot} {fault : Fault} → BeginsAt terms visible start.stage old before
       → content.bytes ≡ (x ++ piece) ++ rest
       → IsStep
       (call_of (terms.work now.stage) (terms.work now.stage).means.feeding (x ++ piece)
       ((terms.work now.stage).settled x) ((terms.work now.stage).settled (x ++ piece)))
-      → Passes terms piece now.stage next.stage (effect told mid reached) (IsRefusedWith terms piece now) (Err fault)
+      → Passes terms piece now.stage next.stage (effect visible mid reached) (IsRefusedWith terms piece now) (Err fault)
       → (is_verdict fault ≡ true → new ≡ reached) → (is_verdict fault ≡ false → Clears terms next.stage reached new)
-      → FedAs told before (terms.work start.stage) content IsStep new (Err fault)
+      → FedAs visible before (terms.work start.stage) content IsStep new (Err fault)
   stopped_feeding laws next IsStep piece rest {before = before} begun is step passes kept cleared =
       let why = rw so_far.holds.count at (rw so_far.holds.live at passes.met) in
       rw (← so_far.same) (short_of_piece IsStep piece rest (laws now.stage x so_far.holds.within) is step
@@ -200,10 +202,10 @@ module _ {S : Type 0} {terms : Terms S} {told : Bool} {start now : GuardState S}
   -- the loop ended with the input, or as nothing more can follow
   pub ended : (laws : (s : S) (x : List ℕ) → terms.Holds s x → IsLawful (terms.work s))
       {content : Content} (IsStep : Step → Type 0) {z : List ℕ} {new before : List Slot} {fed : Fed}
-      {result : Result Fed Fault} → BeginsAt terms told start.stage old before
+      {result : Result Fed Fault} → BeginsAt terms visible start.stage old before
       → HasGot (terms.work now.stage) content x fed → MadeAlike (terms.work now.stage) x z
-      → IsStep (close_of (terms.work now.stage) z) → EndsSo terms told now fed mid new result
-      → FedAs told before (terms.work start.stage) content IsStep new result
+      → IsStep (close_of (terms.work now.stage) z) → EndsSo terms visible now fed mid new result
+      → FedAs visible before (terms.work start.stage) content IsStep new result
   ended laws IsStep {before = before} {fed} begun got alike step (finished _ finishes) =
       rw (← so_far.same) (fed_all IsStep fed (laws now.stage x so_far.holds.within) got (finishes.well x so_far.holds.within)
       (finishes.outputs before x (stands begun)))
@@ -223,22 +225,23 @@ module _ {S : Type 0} {terms : Terms S} {told : Bool} {start now : GuardState S}
 module _ {S : Type 0} (terms : Terms S) where
   -- an input without bytes: the engine is closed at once
   pub closed_at_start : (laws : (s : S) (x : List ℕ) → terms.Holds s x → IsLawful (terms.work s))
-      (told : Bool) {start : GuardState S} {old new : List Slot} {fed : Fed} {result : Result Fed Fault}
+      (visible : Bool) {start : EngineState S} {old new : List Slot} {fed : Fed} {result : Result Fed Fault}
       → HoldsIn terms.Holds start [] → start.fed < 2 ^ 63 → HasGot (terms.work start.stage) empty [] fed
-      → EndsSo terms told start fed old new result
-      → FedNothing told (terms.work start.stage) (BeginsAt terms told start.stage old) new result
-  closed_at_start laws told {start} {old = old} {fed = fed} holds bound got ends before opening most begun =
-      let begins : Feeds terms told start start [] old old = record
+      → EndsSo terms visible start fed old new result
+      → FedNothing visible (terms.work start.stage) (BeginsAt terms visible start.stage old) new result
+  closed_at_start laws visible {start} {old = old} {fed = fed} holds bound got ends before opening most begun =
+      let begins : Feeds terms visible start start [] old old = record
       { same = refl; holds = holds; owns = λ first own. own; outputs = λ before begun. begun.1; bound = bound } in
       ended begins laws (IsCall (terms.work start.stage) opening most empty) begun got (alike_itself)
       (closes [] (got_all fed got) (inl refl)) ends
 
   -- an input that ended, or was enough, didn't break off
-  pub ends_sound : (told : Bool) {engine : GuardState S} {fed : Fed} {old new : List Slot} {result : Result Fed Fault}
-      (P : Type 0) → (fed ≡ Whole) ⊎ (fed ≡ Enough) → EndsSo terms told engine fed old new result
+  pub ends_sound : (visible : Bool) {engine : EngineState S} {fed : Fed} {old new : List Slot}
+      {result : Result Fed Fault}
+      (P : Type 0) → (fed ≡ Whole) ⊎ (fed ≡ Enough) → EndsSo terms visible engine fed old new result
       → IfOk result (λ found. found ≡ Broken → P)
-  ends_sound told P sound (finished next finishes) = λ is. absurd (elim sound [ inl one ↦ cc | inr other ↦ cc ])
-  ends_sound told P sound (fell_short _ _ _ _ _ _) = tt
+  ends_sound visible P sound (finished next finishes) = λ is. absurd (elim sound [ inl one ↦ cc | inr other ↦ cc ])
+  ends_sound visible P sound (fell_short _ _ _ _ _ _) = tt
 
 -- what was read was needed
 
@@ -251,12 +254,12 @@ needed_more x buffer going within = grind (arith, common_steps)
 
 -- the input that is there, if bytes are visible, and else an input that has what was read
 
-pub of_read : (told : Bool) (there : Content) (bytes : List ℕ) (breaks_off : Bool) (source : Source)
-    (P : Content → Type 0) → (told ≡ true → (there.bytes ≡ bytes) × (there.breaks_off ≡ breaks_off))
-    → ((content : Content) → (told ≡ false → content.breaks_off ≡ breaks_off) → CameFrom told content source)
-    → ((content : Content) → (told ≡ true → content.bytes ≡ there.bytes) → content.bytes ≡ bytes
-    → content.breaks_off ≡ breaks_off → CameFrom told content source → P content)
-    → OfContent told there (λ content. P content × CameFrom told content source)
+pub of_read : (visible : Bool) (there : Content) (bytes : List ℕ) (breaks_off : Bool) (source : Source)
+    (P : Content → Type 0) → (visible ≡ true → (there.bytes ≡ bytes) × (there.breaks_off ≡ breaks_off))
+    → ((content : Content) → (visible ≡ false → content.breaks_off ≡ breaks_off) → CameFrom visible content source)
+    → ((content : Content) → (visible ≡ true → content.bytes ≡ there.bytes) → content.bytes ≡ bytes
+    → content.breaks_off ≡ breaks_off → CameFrom visible content source → P content)
+    → OfContent visible there (λ content. P content × CameFrom visible content source)
 of_read true there bytes breaks_off source P all came holds =
     let from = came there (λ off. absurd (cc)) in (there, λ t. refl, (holds there (λ t. refl) (all refl).0 (all refl).1 from, from))
 of_read false there bytes breaks_off source P all came holds =
@@ -266,12 +269,13 @@ of_read false there bytes breaks_off source P all came holds =
       (holds _ (λ t. absurd (cc)) refl refl from, from),
     )
 
-pub of_more : (told : Bool) (there : Content) (x rest : List ℕ) (source : Source) (P : Content → Type 0)
-    → (told ≡ true → there.bytes ≡ x ++ rest)
-    → ((content : Content) → (told ≡ false → content.breaks_off ≡ false) → CameFrom told content source)
-    → ((content : Content) → (told ≡ true → content.bytes ≡ there.bytes) → (rest : List ℕ) → content.bytes ≡ x ++ rest
-    → CameFrom told content source → P content)
-    → OfContent told there (λ content. P content × CameFrom told content source)
+pub of_more : (visible : Bool) (there : Content) (x rest : List ℕ) (source : Source) (P : Content → Type 0)
+    → (visible ≡ true → there.bytes ≡ x ++ rest)
+    → ((content : Content) → (visible ≡ false → content.breaks_off ≡ false) → CameFrom visible content source)
+    → ((content : Content) → (visible ≡ true → content.bytes ≡ there.bytes) → (rest : List ℕ)
+    → content.bytes ≡ x ++ rest
+    → CameFrom visible content source → P content)
+    → OfContent visible there (λ content. P content × CameFrom visible content source)
 of_more true there x rest source P all came holds =
     let from = came there (λ off. absurd (cc)) in (there, λ t. refl, (holds there (λ t. refl) rest (all refl) from, from))
 of_more false there x rest source P all came holds =
@@ -284,9 +288,9 @@ told_by_complete content source {x} rest lawful complete is ends going =
     absurd (cc (lawful.stays x rest complete).still)
 
 -- what is known of the call that a fault stopped
-pub fed_so : {told : Bool} {before : List Slot} {work : Work} {content : Content} {A B : Step → Type 0}
+pub fed_so : {visible : Bool} {before : List Slot} {work : Work} {content : Content} {A B : Step → Type 0}
     {new : List Slot} {result : Result Fed Fault} → ((call : Step) → A call → B call)
-    → FedAs told before work content A new result → FedAs told before work content B new result
+    → FedAs visible before work content A new result → FedAs visible before work content B new result
 fed_so more (whole sound going well at) = whole sound going well at
 fed_so more (had_enough complete well at) = had_enough complete well at
 fed_so more (broke_off breaks going reached at swept) = broke_off breaks going reached at swept

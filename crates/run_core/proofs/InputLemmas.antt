@@ -19,23 +19,21 @@ use Rattle.ports_core.specs.{
     calling.Speaker.Speaker,
     reason.Reason.{Reason, TheVariants.Other},
   },
-  Work.Work,
   Inputs.{CameFrom, KeepsOthers, OfContent, AsksAtMost, empty, largest_piece},
-  Slot.{Slot, adds, is_open, slot_at, is_writable, told_of, with_written, streams},
-  Part.{Part, only_out, OutputsAt},
-  Swept.Swept,
+  Slot.{Slot, adds, is_open, slot_at, is_writable, visible_of, with_written, streams},
   Text.{Message, message_of, status_after},
   Message.{SaysFor, SaysOn, SaysAll, Tells, TellsOn, output_named, output_reason},
   Streams.{streams_with, standard_output, standard_error},
 }
+use Rattle.engine_core.specs.{Work.Work, Written.{Written, only_out, OutputsAt}, Swept.Swept}
 use Rattle.ports_core.proofs.{
   InputsLemmas.{came_sound, sound_at, fresh_asks},
-  PartLemmas.{out_more, out_cut, part_begins_itself, stopped_here, broken_at, nothing_out},
   WriteLemmas.writable-written,
   SlotLemmas.length-changed_at,
-  LoadLemmas.looked_readable,
   MessageLemmas.{all_said_state, says_after},
 }
+use Rattle.engine_core.proofs.WrittenLemmas.{out_more, out_cut, part_begins_itself, stopped_here, broken_at, nothing_out}
+use Rattle.ports_core.proofs.InputsLemmas.{looked_readable}
 use Rattle.run_core.specs.{
   Feeding.{IsCall, IsUntaken, Step, SawEnd, Uses, is_enough, FedAs, whole, had_enough, broke_off, judged, stopped},
   Input.{Input, World, IsFor, shown_of, showing, is_dash, input_of, inputs_from, next_slot, has_dash, AreFrom},
@@ -65,13 +63,14 @@ last_source sources = grind (arith, common_steps)
 
 -- an input of which nothing was read, before a step that needs none of it
 
-left_unread : (told : Bool) {content : Content} (slot : ℕ) (sources : List Source) → IsTrue (is_readable sources slot)
-    → IsUntaken (source_at sources slot) → (told ≡ true → content.bytes ≡ (source_at sources slot).left.bytes)
-    → (told ≡ false → content.breaks_off ≡ false)
-    → (step : Step) → step.read ≡ [] → step.ended ≡ false → LeavesAt told content (Some slot) sources step
-left_unread told slot sources can unread there sound step none going = (
+left_unread : (visible : Bool) {content : Content} (slot : ℕ) (sources : List Source)
+    → IsTrue (is_readable sources slot)
+    → IsUntaken (source_at sources slot) → (visible ≡ true → content.bytes ≡ (source_at sources slot).left.bytes)
+    → (visible ≡ false → content.breaks_off ≡ false)
+    → (step : Step) → step.read ≡ [] → step.ended ≡ false → LeavesAt visible content (Some slot) sources step
+left_unread visible slot sources can unread there sound step none going = (
   record {
-    came = came_sound told sources slot can sound;
+    came = came_sound visible sources slot can sound;
     sound = sound_at sources slot can;
     ended = λ ends. absurd (false≢true (sym going ∙ ends));
     joined = λ t. rw none (there t);
@@ -79,13 +78,13 @@ left_unread told slot sources can unread there sound step none going = (
   λ t standard. omega arith,
 )
 
-pub unread_source : (told : Bool) (source : Option ℕ) (sources : List Source) (Q : Content → Type 0)
+pub unread_source : (visible : Bool) (source : Option ℕ) (sources : List Source) (Q : Content → Type 0)
     → IfSome source (λ slot. IsTrue (is_readable sources slot))
     → IfSome source (λ slot. IsUntaken (source_at sources slot))
     → ((content : Content)
-    → ((step : Step) → step.read ≡ [] → step.ended ≡ false → LeavesAt told content source sources step) → Q content)
-    → OfSource told source sources Q
-unread_source told None sources Q can unread holds = holds empty (λ step none going. tt)
+    → ((step : Step) → step.read ≡ [] → step.ended ≡ false → LeavesAt visible content source sources step) → Q content)
+    → OfSource visible source sources Q
+unread_source visible None sources Q can unread holds = holds empty (λ step none going. tt)
 unread_source true (Some slot) sources Q can unread holds = (
   (source_at sources slot).left,
   λ t. refl,
@@ -96,10 +95,10 @@ unread_source false (Some slot) sources Q can unread holds =
 
 -- a source that was looked at is as it was, except for what was asked of it
 
-pub of_looked : (told : Bool) (most : ℕ) (source : Option ℕ) (old new : List Source) (Q : Content → Type 0)
-    → OnlyLooked most source old new → OfSource told source new Q → OfSource told source old Q
-of_looked told most None old new Q same holds = holds
-of_looked told most (Some _) old new Q looked (content, is, holds) = (content, λ t. cc (is t, looked.looked), holds)
+pub of_looked : (visible : Bool) (most : ℕ) (source : Option ℕ) (old new : List Source) (Q : Content → Type 0)
+    → OnlyLooked most source old new → OfSource visible source new Q → OfSource visible source old Q
+of_looked visible most None old new Q same holds = holds
+of_looked visible most (Some _) old new Q looked (content, is, holds) = (content, λ t. cc (is t, looked.looked), holds)
 
 pub looked_can : (most : ℕ) (source : Option ℕ) (old new : List Source) → OnlyLooked most source old new
     → IfSome source (λ slot. IsTrue (is_readable old slot)) → IfSome source (λ slot. IsTrue (is_readable new slot))
@@ -112,10 +111,10 @@ looked_unread most None old new looked unread = tt
 looked_unread most (Some _) old new looked unread = rw looked.looked unread
 
 -- some text, or none, is what a source shows
-pub shows_something : (told : Bool) (source : Option ℕ) (sources : List Source)
-    → (shown : Option (List ℕ)) × IsShown told source sources shown
-shows_something told None sources = (None, refl)
-shows_something told (Some slot) sources = ((source_at sources slot).left.shown, λ t. refl)
+pub shows_something : (visible : Bool) (source : Option ℕ) (sources : List Source)
+    → (shown : Option (List ℕ)) × IsShown visible source sources shown
+shows_something visible None sources = (None, refl)
+shows_something visible (Some slot) sources = ((source_at sources slot).left.shown, λ t. refl)
 
 -- an input that could be read is still there
 pub still_within : {source : Option ℕ} {slot : ℕ} {old new : List Source} → source ≡ Some slot
@@ -123,15 +122,15 @@ pub still_within : {source : Option ℕ} {slot : ℕ} {old new : List Source} �
 still_within is can keeps = grind (arith, common_steps)
 
 -- an input that was fed to an engine, unless a fault stopped it
-pub left_of : {told : Bool} {work : Work} {most slot : ℕ} {there : Content} (sources : List Source)
+pub left_of : {visible : Bool} {work : Work} {most slot : ℕ} {there : Content} (sources : List Source)
     (P Q : Content → Type 0) {stops : Bool} → slot < length sources → ((content : Content) → P content → Q content)
-    → (told ≡ true → stops ≡ false → Uses work most slot there (source_at sources slot))
-    → OfContent told there (λ content. (P content × (stops ≡ false → SawEnd work content (source_at sources slot)))
-    × CameFrom told content (source_at sources slot))
-    → OfContent told there (λ content. Q content
-    × (stops ≡ false → IsDone told work most (Some slot) (Some content) sources))
+    → (visible ≡ true → stops ≡ false → Uses work most slot there (source_at sources slot))
+    → OfContent visible there (λ content. (P content × (stops ≡ false → SawEnd work content (source_at sources slot)))
+    × CameFrom visible content (source_at sources slot))
+    → OfContent visible there (λ content. Q content
+    × (stops ≡ false → IsDone visible work most (Some slot) (Some content) sources))
 left_of sources P Q within more uses (content, is, ((holds, ends), came)) =
-    (content, is, (more content holds, λ goes. (within, (λ told. rw (is told) (uses told goes), came, ends goes))))
+    (content, is, (more content holds, λ goes. (within, (λ visible. rw (is visible) (uses visible goes), came, ends goes))))
 
 -- how many names there can be
 
@@ -150,90 +149,91 @@ takes_none : {most : ℕ} {was_read : Bool} {name : List ℕ} {old new : List So
     → TakesOne most was_read name old new
 takes_none same = grind (arith, common_steps)
 
-pub takes_file : {told : Bool} {laid : ℕ → List ℕ → Option Content} {most : ℕ} {was_read : Bool} {name : List ℕ}
-    {old mid new : List Source} {slot : ℕ} → is_dash name ≡ false → 0 < length old → Opens told laid old mid name slot
+pub takes_file : {visible : Bool} {laid : ℕ → List ℕ → Option Content} {most : ℕ} {was_read : Bool} {name : List ℕ}
+    {old mid new : List Source} {slot : ℕ} → is_dash name ≡ false → 0 < length old
+    → Opens visible laid old mid name slot
     → KeepsOthers slot mid new → (AsksAtMost most mid → AsksAtMost most new)
     → TakesOne most was_read name old new
 takes_file differs some opens keeps asked = grind (arith, common_steps)
 
-pub takes_missing : {told : Bool} {laid : ℕ → List ℕ → Option Content} {most : ℕ} {was_read : Bool} {name : List ℕ}
+pub takes_missing : {visible : Bool} {laid : ℕ → List ℕ → Option Content} {most : ℕ} {was_read : Bool} {name : List ℕ}
     {old new : List Source} {fault : Fault} → is_dash name ≡ false → 0 < length old
-    → OpensNothing told laid old new name fault → TakesOne most was_read name old new
+    → OpensNothing visible laid old new name fault → TakesOne most was_read name old new
 takes_missing differs some (from.broke at _ number lies is) = grind (arith, common_steps)
 takes_missing differs some (from.no_room is) = takes_none is
 
 -- an input that can't be opened uses up its number
-pub opens_missing : {told : Bool} {laid : ℕ → List ℕ → Option Content} {name : List ℕ} {old new : List Source}
-    {fault : Fault} {slot : ℕ} → is_dash name ≡ false → OpensNothing told laid old new name fault
+pub opens_missing : {visible : Bool} {laid : ℕ → List ℕ → Option Content} {name : List ℕ} {old new : List Source}
+    {fault : Fault} {slot : ℕ} → is_dash name ≡ false → OpensNothing visible laid old new name fault
     → fault ≡ Open slot → length new ≡ next_slot (length old) name
 opens_missing differs (from.broke at _ number lies is) cannot = grind (arith, common_steps)
 opens_missing differs (from.no_room is) cannot = absurd (cc)
 
 -- a file that could not be opened is not open
-pub missing_done : (told : Bool) (work : Work) (most : ℕ) (why : Reason) (old : List Source) {new : List Source}
-    → new ≡ old ++ missing why ∷ [] → IsDone told work most (Some (length old)) None new
-missing_done told work most why old is = grind (arith, common_steps)
+pub missing_done : (visible : Bool) (work : Work) (most : ℕ) (why : Reason) (old : List Source) {new : List Source}
+    → new ≡ old ++ missing why ∷ [] → IsDone visible work most (Some (length old)) None new
+missing_done visible work most why old is = grind (arith, common_steps)
 
 -- the inputs that were done stay so
 
 abbrev pub StaysDone : Bool → Work → ℕ → Bool → Option ℕ → Option Content → List Source → Type 0
-StaysDone told work most was_read None content sources = Unit {0}
-StaysDone told work most was_read (Some slot) content sources = (slot ≡ 0 → was_read ≡ true) × IsDone told work most (Some slot) content sources
+StaysDone visible work most was_read None content sources = Unit {0}
+StaysDone visible work most was_read (Some slot) content sources = (slot ≡ 0 → was_read ≡ true) × IsDone visible work most (Some slot) content sources
 
 abbrev pub StayDone : Bool → (Option (List ℕ) → Work) → ℕ → Bool → List Input → List Source → Type 0
-StayDone told work most was_read [] sources = Unit {0}
-StayDone told work most was_read (input ∷ inputs) sources =
-    StaysDone told (work input.shown) most was_read input.slot input.content sources × StayDone told work most was_read inputs sources
+StayDone visible work most was_read [] sources = Unit {0}
+StayDone visible work most was_read (input ∷ inputs) sources =
+    StaysDone visible (work input.shown) most was_read input.slot input.content sources × StayDone visible work most was_read inputs sources
 
-still_done_at : (told : Bool) (work : Work) (most : ℕ) {room : ℕ} {was_read now_read : Bool} {name : List ℕ}
+still_done_at : (visible : Bool) (work : Work) (most : ℕ) {room : ℕ} {was_read now_read : Bool} {name : List ℕ}
     (slot : Option ℕ) (content : Option Content) {old new : List Source} → (was_read ≡ true → now_read ≡ true)
     → TakesOne room was_read name old new
-    → StaysDone told work most was_read slot content old → StaysDone told work most now_read slot content new
-still_done_at told work most None content reads takes done = tt
-still_done_at told work most (Some zero) content reads takes done = grind (arith, common_steps)
-still_done_at told work most (Some (suc _)) content reads takes done = grind (arith, common_steps)
+    → StaysDone visible work most was_read slot content old → StaysDone visible work most now_read slot content new
+still_done_at visible work most None content reads takes done = tt
+still_done_at visible work most (Some zero) content reads takes done = grind (arith, common_steps)
+still_done_at visible work most (Some (suc _)) content reads takes done = grind (arith, common_steps)
 
-pub still_done : (told : Bool) (work : Option (List ℕ) → Work) (most : ℕ) {room : ℕ} {was_read now_read : Bool}
+pub still_done : (visible : Bool) (work : Option (List ℕ) → Work) (most : ℕ) {room : ℕ} {was_read now_read : Bool}
     {name : List ℕ} (inputs : List Input) {old new : List Source} → (was_read ≡ true → now_read ≡ true)
     → TakesOne room was_read name old new
-    → StayDone told work most was_read inputs old → StayDone told work most now_read inputs new
-still_done told work most [] reads takes done = tt
-still_done told work most (input ∷ inputs) reads takes done =
-    (still_done_at told (work input.shown) most input.slot input.content reads takes done.0, still_done told work most inputs reads takes done.1)
+    → StayDone visible work most was_read inputs old → StayDone visible work most now_read inputs new
+still_done visible work most [] reads takes done = tt
+still_done visible work most (input ∷ inputs) reads takes done =
+    (still_done_at visible (work input.shown) most input.slot input.content reads takes done.0, still_done visible work most inputs reads takes done.1)
 
 -- the messages on the inputs that were done have the reasons that they had
 
-same_reason : (told : Bool) (work : Work) (most : ℕ) {room : ℕ} {was_read : Bool} {name : List ℕ} (slot : Option ℕ)
+same_reason : (visible : Bool) (work : Work) (most : ℕ) {room : ℕ} {was_read : Bool} {name : List ℕ} (slot : Option ℕ)
     (content : Option Content) {old new : List Source} → TakesOne room was_read name old new
-    → StaysDone told work most was_read slot content old → reason_of slot new ≡ reason_of slot old
-same_reason told work most None content takes done = refl
-same_reason told work most (Some zero) content takes done = grind (arith, common_steps)
-same_reason told work most (Some (suc _)) content takes done = grind (arith, common_steps)
+    → StaysDone visible work most was_read slot content old → reason_of slot new ≡ reason_of slot old
+same_reason visible work most None content takes done = refl
+same_reason visible work most (Some zero) content takes done = grind (arith, common_steps)
+same_reason visible work most (Some (suc _)) content takes done = grind (arith, common_steps)
 
-still_said : (told_in told : Bool) (task : Task) (most : ℕ) {room : ℕ} {was_read : Bool} {name : List ℕ}
+still_said : (visible_in visible : Bool) (task : Task) (most : ℕ) {room : ℕ} {was_read : Bool} {name : List ℕ}
     (inputs : List Input) {old new : List Source} (before after : Slot) → TakesOne room was_read name old new
-    → StayDone told_in task.work most was_read inputs old → SaysOf told task old inputs before after
-    → SaysOf told task new inputs before after
-still_said told_in told task most [] before after takes done says = says
-still_said told_in told task most (input ∷ inputs) before after takes done (mid, one, says) = (
+    → StayDone visible_in task.work most was_read inputs old → SaysOf visible task old inputs before after
+    → SaysOf visible task new inputs before after
+still_said visible_in visible task most [] before after takes done says = says
+still_said visible_in visible task most (input ∷ inputs) before after takes done (mid, one, says) = (
   mid,
-  subst (λ why. SaysFrom told task.speaker why (of_input task true input).messages before mid)
-      (sym (same_reason told_in (task.work input.shown) most input.slot input.content takes done.0)) one,
-  still_said told_in told task most inputs mid after takes done.1 says,
+  subst (λ why. SaysFrom visible task.speaker why (of_input task true input).messages before mid)
+      (sym (same_reason visible_in (task.work input.shown) most input.slot input.content takes done.0)) one,
+  still_said visible_in visible task most inputs mid after takes done.1 says,
 )
 
-said_more : (told : Bool) (task : Task) (sources : List Source) (inputs : List Input) (input : Input)
-    (before mid after : Slot) → SaysOf told task sources inputs before mid
-    → SaysFrom told task.speaker (reason_of input.slot sources) (of_input task true input).messages mid after
-    → SaysOf told task sources (inputs ++ input ∷ []) before after
-said_more told task sources [] input before mid after is one = (
+said_more : (visible : Bool) (task : Task) (sources : List Source) (inputs : List Input) (input : Input)
+    (before mid after : Slot) → SaysOf visible task sources inputs before mid
+    → SaysFrom visible task.speaker (reason_of input.slot sources) (of_input task true input).messages mid after
+    → SaysOf visible task sources (inputs ++ input ∷ []) before after
+said_more visible task sources [] input before mid after is one = (
   after,
-  subst (λ old. SaysFrom told task.speaker (reason_of input.slot sources)
+  subst (λ old. SaysFrom visible task.speaker (reason_of input.slot sources)
       (of_input task true input).messages old after) is one,
   refl,
 )
-said_more told task sources (first ∷ inputs) input before mid after (between, here, says) one =
-    (between, here, said_more told task sources inputs input between mid after says one)
+said_more visible task sources (first ∷ inputs) input before mid after (between, here, says) one =
+    (between, here, said_more visible task sources inputs input between mid after says one)
 
 -- the header changes no message
 messages_alike : (task : Task) (work : Work) (is_first : Bool) (name : List ℕ) (content : Option Content)
@@ -241,53 +241,54 @@ messages_alike : (task : Task) (work : Work) (is_first : Bool) (name : List ℕ)
 messages_alike task work is_first name None = refl
 messages_alike task work is_first name (Some _) = refl
 
-said_from : (told : Bool) (speaker : Speaker) (why : Reason) (messages : List Message) (old new : Slot)
-    → SaysFrom told speaker why messages old new → SaysAll told speaker messages old new
-said_from told speaker why [] old new says = says
-said_from told speaker why (message ∷ messages) old new (mid, one, says) =
-    (mid, (why, one), said_from told speaker why messages mid new says)
+said_from : (visible : Bool) (speaker : Speaker) (why : Reason) (messages : List Message) (old new : Slot)
+    → SaysFrom visible speaker why messages old new → SaysAll visible speaker messages old new
+said_from visible speaker why [] old new says = says
+said_from visible speaker why (message ∷ messages) old new (mid, one, says) =
+    (mid, (why, one), said_from visible speaker why messages mid new says)
 
 -- all messages of a run, without their reasons
-pub said_of : (told : Bool) (task : Task) (is_first : Bool) (sources : List Source) (inputs : List Input)
-    (old new : Slot) → SaysOf told task sources inputs old new
-    → SaysAll told task.speaker (of_inputs task is_first inputs).messages old new
-said_of told task is_first sources [] old new says = says
-said_of told task is_first sources (input ∷ inputs) old new (mid, one, says) =
-    says_after told task.speaker (of_input task is_first input).messages _ old mid new
-    (said_from told task.speaker (reason_of input.slot sources) _ old mid
-    (subst (λ those. SaysFrom told task.speaker (reason_of input.slot sources) those old mid)
+pub said_of : (visible : Bool) (task : Task) (is_first : Bool) (sources : List Source) (inputs : List Input)
+    (old new : Slot) → SaysOf visible task sources inputs old new
+    → SaysAll visible task.speaker (of_inputs task is_first inputs).messages old new
+said_of visible task is_first sources [] old new says = says
+said_of visible task is_first sources (input ∷ inputs) old new (mid, one, says) =
+    says_after visible task.speaker (of_input task is_first input).messages _ old mid new
+    (said_from visible task.speaker (reason_of input.slot sources) _ old mid
+    (subst (λ those. SaysFrom visible task.speaker (reason_of input.slot sources) those old mid)
     (sym (messages_alike task (task.work input.shown) is_first input.name input.content)) one))
-    (said_of told task (is_first && is_missing input.content) sources inputs mid new says)
+    (said_of visible task (is_first && is_missing input.content) sources inputs mid new says)
 
-said_state : (told : Bool) (task : Task) (sources : List Source) (inputs : List Input) (old new : Slot)
-    → SaysOf told task sources inputs old new → new.state ≡ old.state
-said_state told task sources inputs old new says =
-    all_said_state told task.speaker _ old new (said_of told task true sources inputs old new says)
+said_state : (visible : Bool) (task : Task) (sources : List Source) (inputs : List Input) (old new : Slot)
+    → SaysOf visible task sources inputs old new → new.state ≡ old.state
+said_state visible task sources inputs old new says =
+    all_said_state visible task.speaker _ old new (said_of visible task true sources inputs old new says)
 
-pub done_more : (told : Bool) (work : Option (List ℕ) → Work) (most : ℕ) (was_read : Bool) (inputs : List Input)
-    (input : Input) (sources : List Source) → StayDone told work most was_read inputs sources
-    → StaysDone told (work input.shown) most was_read input.slot input.content sources
-    → StayDone told work most was_read (inputs ++ input ∷ []) sources
-done_more told work most was_read [] input sources done one = (one, tt)
-done_more told work most was_read (first ∷ inputs) input sources done one = (done.0, done_more told work most was_read inputs input sources done.1 one)
+pub done_more : (visible : Bool) (work : Option (List ℕ) → Work) (most : ℕ) (was_read : Bool) (inputs : List Input)
+    (input : Input) (sources : List Source) → StayDone visible work most was_read inputs sources
+    → StaysDone visible (work input.shown) most was_read input.slot input.content sources
+    → StayDone visible work most was_read (inputs ++ input ∷ []) sources
+done_more visible work most was_read [] input sources done one = (one, tt)
+done_more visible work most was_read (first ∷ inputs) input sources done one = (done.0, done_more visible work most was_read inputs input sources done.1 one)
 
-done_at : (told : Bool) (work : Work) (most : ℕ) (was_read : Bool) (slot : Option ℕ) (content : Option Content)
-    (sources : List Source) → StaysDone told work most was_read slot content sources
-    → IsDone told work most slot content sources
-done_at told work most was_read None content sources done = tt
-done_at told work most was_read (Some _) content sources done = done.1
+done_at : (visible : Bool) (work : Work) (most : ℕ) (was_read : Bool) (slot : Option ℕ) (content : Option Content)
+    (sources : List Source) → StaysDone visible work most was_read slot content sources
+    → IsDone visible work most slot content sources
+done_at visible work most was_read None content sources done = tt
+done_at visible work most was_read (Some _) content sources done = done.1
 
-pub all_done : (told : Bool) (work : Option (List ℕ) → Work) (most : ℕ) (was_read : Bool) (inputs : List Input)
-    (sources : List Source) → StayDone told work most was_read inputs sources → AreDone told work most inputs sources
-all_done told work most was_read [] sources done = tt
-all_done told work most was_read (input ∷ inputs) sources done =
-    (done_at told (work input.shown) most was_read input.slot input.content sources done.0, all_done told work most was_read inputs sources done.1)
+pub all_done : (visible : Bool) (work : Option (List ℕ) → Work) (most : ℕ) (was_read : Bool) (inputs : List Input)
+    (sources : List Source) → StayDone visible work most was_read inputs sources
+    → AreDone visible work most inputs sources
+all_done visible work most was_read [] sources done = tt
+all_done visible work most was_read (input ∷ inputs) sources done =
+    (done_at visible (work input.shown) most was_read input.slot input.content sources done.0, all_done visible work most was_read inputs sources done.1)
 
-pub done_with : (told : Bool) (work : Work) (most : ℕ) (was_read : Bool) {count : ℕ} (name : List ℕ) {input : Input}
+pub done_with : (visible : Bool) (work : Work) (most : ℕ) (was_read : Bool) {count : ℕ} (name : List ℕ) {input : Input}
     (sources : List Source) → IsFor was_read count name input → 0 < count
-    → IsDone told work most input.slot input.content sources
-    → StaysDone told work most (was_read || is_dash name) input.slot input.content sources
-done_with told work most was_read name sources (world, shown, is) some done = grind (arith, common_steps)
+    → IsDone visible work most input.slot input.content sources
+    → StaysDone visible work most (was_read || is_dash name) input.slot input.content sources
+done_with visible work most was_read name sources (world, shown, is) some done = grind (arith, common_steps)
 
 -- the inputs after the place where a run was stopped were not touched
 
@@ -311,37 +312,37 @@ rest_untouched world was_read slot (name ∷ names) sources unread few = (
 
 -- the streams
 
-pub part_writable : {told : Bool} {error : Slot} {part : Part} {slots : List Slot}
-    → OutputsAt told (streams_with error) part slots → IsTrue (is_writable slots 0)
+pub part_writable : {visible : Bool} {error : Slot} {part : Written} {slots : List Slot}
+    → OutputsAt visible (streams_with error) part slots → IsTrue (is_writable slots 0)
 part_writable at = rw at.slots refl
 
-pub part_two : {told : Bool} {error : Slot} {part : Part} {slots : List Slot}
-    → OutputsAt told (streams_with error) part slots → 2 ≤ length slots
+pub part_two : {visible : Bool} {error : Slot} {part : Written} {slots : List Slot}
+    → OutputsAt visible (streams_with error) part slots → 2 ≤ length slots
 part_two at = grind (arith, common_steps)
 
 -- the header was written
-pub headed : {told : Bool} {base : List Slot} {so_far : Part} (text : List ℕ) {old mid : List Slot}
-    → OutputsAt told base so_far old → mid ≡ with_written 0 (told_of told text) old
-    → OutputsAt told base (after_part so_far (only_out text)) mid
-headed {told} {base} {so_far} text {old} {mid} at wrote = rw (out_on so_far text) at (out_more told base so_far old mid text at wrote)
+pub headed : {visible : Bool} {base : List Slot} {so_far : Written} (text : List ℕ) {old mid : List Slot}
+    → OutputsAt visible base so_far old → mid ≡ with_written 0 (visible_of visible text) old
+    → OutputsAt visible base (after_part so_far (only_out text)) mid
+headed {visible} {base} {so_far} text {old} {mid} at wrote = rw (out_on so_far text) at (out_more visible base so_far old mid text at wrote)
 
-pub headed_count : (told : Bool) (text : List ℕ) (old : List Slot) {mid : List Slot}
-    → mid ≡ with_written 0 (told_of told text) old → length mid ≡ length old
-headed_count told text old wrote = ap length wrote ∙ length-changed_at 0 _ old
+pub headed_count : (visible : Bool) (text : List ℕ) (old : List Slot) {mid : List Slot}
+    → mid ≡ with_written 0 (visible_of visible text) old → length mid ≡ length old
+headed_count visible text old wrote = ap length wrote ∙ length-changed_at 0 _ old
 
 -- the source of an input
 
-pub of_source_too : (told : Bool) (source : Option ℕ) (sources : List Source) (A B Q : Content → Type 0)
+pub of_source_too : (visible : Bool) (source : Option ℕ) (sources : List Source) (A B Q : Content → Type 0)
     → ((content : Content) → A content → B content → Q content)
-    → OfSource told source sources (λ content. A content × B content) → OfSource told source sources Q
-of_source_too told None sources A B Q more (one, two) = more _ one two
-of_source_too told (Some _) sources A B Q more (content, there, both) = grind (arith, common_steps)
+    → OfSource visible source sources (λ content. A content × B content) → OfSource visible source sources Q
+of_source_too visible None sources A B Q more (one, two) = more _ one two
+of_source_too visible (Some _) sources A B Q more (content, there, both) = grind (arith, common_steps)
 
-pub from_source : (told : Bool) (source : Option ℕ) (sources : List Source) (A B : Content → Type 0) (Q : Type 0)
+pub from_source : (visible : Bool) (source : Option ℕ) (sources : List Source) (A B : Content → Type 0) (Q : Type 0)
     → ((content : Content) → A content → B content → Q)
-    → OfSource told source sources (λ content. A content × B content) → Q
-from_source told None sources A B Q more (one, two) = more _ one two
-from_source told (Some _) sources A B Q more (content, there, both) = search rules
+    → OfSource visible source sources (λ content. A content × B content) → Q
+from_source visible None sources A B Q more (one, two) = more _ one two
+from_source visible (Some _) sources A B Q more (content, there, both) = search rules
 
 -- what is made of an input, by how it ends
 
@@ -359,99 +360,100 @@ made_well task work is_first name content enough well = search rules
 
 -- the header could not be written
 
-pub stopped_in_header : {told_in told : Bool} {task : Task} {most : ℕ} {progress : RunProgress} {name : List ℕ}
+pub stopped_in_header : {visible_in visible : Bool} {task : Task} {most : ℕ} {progress : RunProgress} {name : List ℕ}
     {source : Option ℕ} {shown : Option (List ℕ)} {content : Content} {found sources : List Source}
-    {old new : List Slot} {fault : Fault} (had : HasStreams told old) → task.with_header ≡ true
-    → ((step : Step) → step.read ≡ [] → step.ended ≡ false → LeavesAt told_in content source sources step)
-    → HeaderFails told (header_text task.with_header progress.is_first name) old new fault
-    → TookInput told_in task (input_from name source shown content) (start_at had progress most found) sources new
+    {old new : List Slot} {fault : Fault} (had : HasStreams visible old) → task.with_header ≡ true
+    → ((step : Step) → step.read ≡ [] → step.ended ≡ false → LeavesAt visible_in content source sources step)
+    → HeaderFails visible (header_text task.with_header progress.is_first name) old new fault
+    → TookInput visible_in task (input_from name source shown content) (start_at had progress most found) sources new
     (Err fault)
-stopped_in_header {told} {task} {content = content} {old = old} {new} had due unread (no_room is) = cut_off Memory (record {
+stopped_in_header {visible} {task} {content = content} {old = old} {new} had due unread (no_room is) = cut_off Memory (record {
   step = _;
   is = unheaded content refl due (unread _ refl refl);
   reached = new;
   stops = refl;
-  between = stopped_here _ told (streams_with had.error) had.part had.part Memory old new had.at (part_begins_itself had.part) is tt tt;
+  between = stopped_here _ visible (streams_with had.error) had.part had.part Memory old new had.at (part_begins_itself had.part) is tt tt;
   swept = none_to_sweep _ new (omega (arith, ap length is));
 })
-stopped_in_header {told} {task} {progress = progress} {name} {content = content} {old = old} {new} had due unread (broke n after) =
+stopped_in_header {visible} {task} {progress = progress} {name} {content = content} {old = old} {new} had due unread (broke n after) =
     let text = header_text task.with_header progress.is_first name in
     let count : length new ≡ length old = simp length-changed_at at (ap length after.slots.1) in
     let lost = ap (λ those. (slot_at those 0).is_broken) after.slots.1
-    ∙ broken_at _ 0 _ (writable-written old 0 0 (told_of told (take n text)) ∙ part_writable had.at) in
+    ∙ broken_at _ 0 _ (writable-written old 0 0 (visible_of visible (take n text)) ∙ part_writable had.at) in
     cut_off (Write 0) (record {
       step = _;
       is = heading content refl due (unread _ refl refl);
       reached = new;
       stops = (λ _. refl, λ alone. refl, lost);
-      between = rw (out_on had.part text) at (out_cut told (streams_with had.error) had.part old new text n had.at after);
+      between = rw (out_on had.part text) at (out_cut visible (streams_with had.error) had.part old new text n had.at after);
       swept = none_to_sweep _ new (omega arith);
     })
 
 -- one input was done, by what is made of it
-took_as : {told : Bool} {task : Task} {input : Input} {start : RunStart} {sources : List Source} {new : List Slot}
+took_as : {visible : Bool} {task : Task} {input : Input} {start : RunStart} {sources : List Source} {new : List Slot}
     {made : Outcome} → made ≡ of_input task start.progress.is_first input
     → (next : RunProgress) (after : Slot) (reached : List Slot)
     → next ≡ record start.progress {
       is_first = start.progress.is_first && is_missing input.content;
       failed = start.progress.failed || made.failed;
     }
-    → IsDone told (task.work input.shown) start.most input.slot input.content sources
-    → SaysFrom start.told task.speaker (reason_of input.slot sources) made.messages start.error after
-    → OutputsAt start.told (streams_with after) (after_part start.part made.part) reached
-    → Swept made.sweeps start.count reached new → TookInput told task input start sources new (Ok next)
+    → IsDone visible (task.work input.shown) start.most input.slot input.content sources
+    → SaysFrom start.visible task.speaker (reason_of input.slot sources) made.messages start.error after
+    → OutputsAt start.visible (streams_with after) (after_part start.part made.part) reached
+    → Swept made.sweeps start.count reached new → TookInput visible task input start sources new (Ok next)
 took_as is next after reached past done says at swept =
     took next after reached (rw is at past) done (rw is at says) (rw is at at) (rw is at swept)
 
 -- the engine's part of an input, after the header
-module _ (told_in : Bool) {told : Bool} (task : Task) (most : ℕ) (progress : RunProgress) (name : List ℕ)
+module _ (visible_in : Bool) {visible : Bool} (task : Task) (most : ℕ) (progress : RunProgress) (name : List ℕ)
     (source : Option ℕ) (shown : Option (List ℕ)) (found sources : List Source) {start : List Slot} (mid : List Slot)
-    (had : HasStreams told start)
-    (wrote : mid ≡ with_written 0 (told_of told (header_text task.with_header progress.is_first name)) start) where
+    (had : HasStreams visible start)
+    (wrote : mid
+    ≡ with_written 0 (visible_of visible (header_text task.with_header progress.is_first name)) start) where
   abbrev work : Work
   work = task.work shown
 
-  abbrev header : Part
+  abbrev header : Written
   header = only_out (header_text task.with_header progress.is_first name)
 
-  at : OutputsAt told (streams_with had.error) (after_part had.part header) mid
+  at : OutputsAt visible (streams_with had.error) (after_part had.part header) mid
   at = headed _ had.at wrote
 
   counted : length mid ≡ length start
-  counted = headed_count told _ start wrote
+  counted = headed_count visible _ start wrote
 
   abbrev taken : Bool → RunProgress
   taken fails = record progress { is_first = false; failed = fails }
 
   abbrev WasDone : Content → Type 0
-  WasDone content = IsDone told_in work most source (Some content) sources
+  WasDone content = IsDone visible_in work most source (Some content) sources
 
   abbrev WasFed : Content → List Slot → Result Fed Fault → Type 0
-  WasFed content = FedAs told mid work content (λ call. IsCall work (task.opening shown) most content call
-      × LeavesAt told_in content source sources call)
+  WasFed content = FedAs visible mid work content (λ call. IsCall work (task.opening shown) most content call
+      × LeavesAt visible_in content source sources call)
 
   abbrev pub TookSo : Content → List Slot → Result RunProgress Fault → Type 0
-  TookSo content new result = TookInput told_in task (input_from name source shown content)
+  TookSo content new result = TookInput visible_in task (input_from name source shown content)
       (start_at had progress most found) sources new result
 
-  part_after : (error_now : Slot) (part : Part) {reached : List Slot}
-      → OutputsAt told (streams_with error_now)
+  part_after : (error_now : Slot) (part : Written) {reached : List Slot}
+      → OutputsAt visible (streams_with error_now)
       (after_part (after_part had.part header) part) reached
-      → OutputsAt told (streams_with error_now)
+      → OutputsAt visible (streams_with error_now)
       (after_part had.part (after_part header part)) reached
   part_after error_now part there = rw (after_assoc had.part header part) at there
 
   -- the engine's part went well
   went_well : (content : Content) (new : List Slot)
       → WasDone content → is_enough work content ≡ true
-      → work.verdict content.bytes ≡ None → OutputsAt told mid (work.whole content.bytes) new
+      → work.verdict content.bytes ≡ None → OutputsAt visible mid (work.whole content.bytes) new
       → TookSo content new (Ok (taken progress.failed))
   went_well content new done enough well there =
       took_as (sym (made_well task work progress.is_first name content enough well)) (taken progress.failed) had.error new
       (simp (and-false, or-false)) done refl (part_after had.error _ (at_after at there)) refl
 
   -- a message is due
-  went_badly : (content : Content) (part : Part) (message : Message) (reached old new : List Slot)
+  went_badly : (content : Content) (part : Written) (message : Message) (reached old new : List Slot)
       → WasDone content
       → of_content task work progress.is_first name (Some content)
       ≡ record {
@@ -460,13 +462,13 @@ module _ (told_in : Bool) {told : Bool} (task : Task) (most : ℕ) (progress : R
         failed = true;
         sweeps = work.clears;
       }
-      → OutputsAt told mid part reached → Swept work.clears (length mid) reached old
-      → SaysOn told task.speaker (reason_of source sources) message old new
+      → OutputsAt visible mid part reached → Swept work.clears (length mid) reached old
+      → SaysOn visible task.speaker (reason_of source sources) message old new
       → TookSo content new (Ok (taken true))
   went_badly content part message reached old new done made there swept says =
-      let top = adds (told_of told (after_part had.part (after_part header part)).out) standard_output in
+      let top = adds (visible_of visible (after_part had.part (after_part header part)).out) standard_output in
       let all = part_after had.error part (at_after at there) in
-      let said = said_swept (SaysFor told task.speaker (reason_of source sources) message) work.clears old new (length start)
+      let said = said_swept (SaysFor visible task.speaker (reason_of source sources) message) work.clears old new (length start)
       (part_two had.at) (rw all.slots at (rw counted at swept)) says in
       took_as (sym made) (taken true) said.after (top ∷ said.after ∷ _)
       (simp (and-false, or-true)) done (said.after, said.says, refl)
@@ -482,7 +484,7 @@ module _ (told_in : Bool) {told : Bool} (task : Task) (most : ℕ) (progress : R
   pub took_broken : {content : Content} {old new : List Slot} {fed : Fed}
       → WasDone content → fed ≡ Broken
       → WasFed content old (Ok fed)
-      → SaysOn told task.speaker (reason_of source sources) (message_of (Read 0) name) old new
+      → SaysOn visible task.speaker (reason_of source sources) (message_of (Read 0) name) old new
       → TookSo content new (Ok (taken true))
   took_broken {content} {old} {new} done is (broke_off breaks going reached there swept) says =
       went_badly content (work.settled content.bytes) (message_of (Read 0) name) reached old new done
@@ -493,7 +495,7 @@ module _ (told_in : Bool) {told : Bool} (task : Task) (most : ℕ) (progress : R
   pub took_verdict : {content : Content} {old new : List Slot} {verdict : Verdict}
       → WasDone content
       → WasFed content old (Err (fault_is.Verdict verdict))
-      → SaysOn told task.speaker (reason_of source sources)
+      → SaysOn visible task.speaker (reason_of source sources)
       (message_of (fault_is.Verdict verdict) (task.subject verdict name)) old new
       → TookSo content new (Ok (taken true))
   took_verdict {content} {old} {new} {verdict} done (judged _ enough judges reached there swept) says =
@@ -520,10 +522,10 @@ pub swept_open : (clears : Bool) (reached new : List Slot) {first : ℕ} → 2 �
     → is_open (slot_at reached 1).state ≡ true → Swept clears first reached new → is_open (slot_at new 1).state ≡ true
 swept_open clears reached new past opened swept = grind (arith, common_steps)
 
-pub fed_open : {told : Bool} {work : Work} {error : Slot} {part : Part} {mid new : List Slot} {content : Content}
+pub fed_open : {visible : Bool} {work : Work} {error : Slot} {part : Written} {mid new : List Slot} {content : Content}
     (IsStep : Step → Type 0) {result : Result Fed Fault}
-    → is_open error.state ≡ true → OutputsAt told (streams_with error) part mid
-    → FedAs told mid work content IsStep new result → is_open (slot_at new 1).state ≡ true
+    → is_open error.state ≡ true → OutputsAt visible (streams_with error) part mid
+    → FedAs visible mid work content IsStep new result → is_open (slot_at new 1).state ≡ true
 fed_open IsStep opened at (whole sound going well there) = cc
 fed_open IsStep opened at (had_enough complete well there) = cc
 fed_open IsStep opened at (broke_off breaks going _ there swept) = grind (arith, common_steps)
@@ -534,40 +536,42 @@ fed_open IsStep opened at (stopped _ is stop) =
 -- Lemmas on how a run ends.
 
 -- the run that reached the end of its inputs
-pub ran_through : {told_in told : Bool} {task : Task} {found : List Input}
+pub ran_through : {visible_in visible : Bool} {task : Task} {found : List Input}
     {sources : List Source} {new : List Slot} {failed : Bool} {status : ℕ} → status ≡ (if failed then 1 else 0)
-    → TookAll told_in told task found sources new (Ok failed)
-    → EndsAs told_in told task found sources new status
+    → TookAll visible_in visible task found sources new (Ok failed)
+    → EndsAs visible_in visible task found sources new status
 ran_through is (all _ same done) = as_defined done (rw same at is)
 
 -- standard error is there for the fault that stopped the run
-stopped_error : {told_in told : Bool} {task : Task} {found : List Input} {sources : List Source} {fault : Fault}
-    {new : List Slot} (at : StoppedAt told_in told task found sources fault new) → HasError at.stop.reached
-stopped_error {told} {task} {sources = sources} at =
-    stop_error (ap is_open (said_state told task sources at.before standard_error at.error at.says)) at.stop.between
+stopped_error : {visible_in visible : Bool} {task : Task} {found : List Input} {sources : List Source} {fault : Fault}
+    {new : List Slot} (at : StoppedAt visible_in visible task found sources fault new) → HasError at.stop.reached
+stopped_error {visible} {task} {sources = sources} at =
+    stop_error (ap is_open (said_state visible task sources at.before standard_error at.error at.says)) at.stop.between
 
-pub stop_open : {told_in told : Bool} {task : Task} {found : List Input} {sources : List Source} {new : List Slot}
-    {fault : Fault} → TookAll told_in told task found sources new (Err fault) → is_open (slot_at new 1).state ≡ true
+pub stop_open : {visible_in visible : Bool} {task : Task} {found : List Input} {sources : List Source} {new : List Slot}
+    {fault : Fault} → TookAll visible_in visible task found sources new (Err fault)
+    → is_open (slot_at new 1).state ≡ true
 stop_open (stopped_at _ at) = swept_open _ at.stop.reached _ (lit≤ tt) (error_open (stopped_error at)) at.stop.swept
 stop_open (not_begun is untouched none) = grind (arith, common_steps)
 
 -- the run that a fault stopped
-pub ran_into : {told_in told : Bool} {task : Task} {found : List Input} {sources : List Source} {mid new : List Slot}
+pub ran_into : {visible_in visible : Bool} {task : Task} {found : List Input} {sources : List Source}
+    {mid new : List Slot}
     {fault : Fault} {status : ℕ}
-    → TookAll told_in told task found sources mid (Err fault)
-    → TellsOn told task.speaker fault mid new
+    → TookAll visible_in visible task found sources mid (Err fault)
+    → TellsOn visible task.speaker fault mid new
     → status ≡ status_after fault task.speaker.calling (output_reason mid fault)
-    → EndsAs told_in told task found sources new status
+    → EndsAs visible_in visible task found sources new status
 ran_into {mid = mid} (stopped_at fault at) tells is = run_stopped fault mid at tells is
 ran_into (not_begun at_first untouched none) tells is =
     let said = tells standard_output standard_error [] at_first in
     run_unmade said.0 (said.0, (Other, said.1), refl) said.2 untouched none is
 
 -- what its report changed
-pub told_stop : {told_in told : Bool} {task : Task} {found : List Input} {sources : List Source} {fault : Fault}
-    {mid new : List Slot} → StoppedAt told_in told task found sources fault mid
-    → TellsOn told task.speaker fault mid new
-    → Reported (Tells told task.speaker (output_reason mid fault) fault (output_named mid fault)) mid new
+pub told_stop : {visible_in visible : Bool} {task : Task} {found : List Input} {sources : List Source} {fault : Fault}
+    {mid new : List Slot} → StoppedAt visible_in visible task found sources fault mid
+    → TellsOn visible task.speaker fault mid new
+    → Reported (Tells visible task.speaker (output_reason mid fault) fault (output_named mid fault)) mid new
 told_stop {task = task} {new = new} at tells =
     reported (task.work at.input.shown).clears (stopped_error at) _ new at.stop.swept tells
 
@@ -582,16 +586,17 @@ none_left (word ∷ words) none = absurd (omega arith)
 -- which input a name stands for
 
 -- as much of an input, whichever sources there were before it
-elsewhere : {told : Bool} {task : Task} {input : Input} {start : RunStart} (found : List Source) {sources : List Source}
-    {new : List Slot} {result : Result RunProgress Fault} → TookInput told task input start sources new result
-    → TookInput told task input (record start { sources = found }) sources new result
+elsewhere : {visible : Bool} {task : Task} {input : Input} {start : RunStart} (found : List Source)
+    {sources : List Source}
+    {new : List Slot} {result : Result RunProgress Fault} → TookInput visible task input start sources new result
+    → TookInput visible task input (record start { sources = found }) sources new result
 elsewhere found (took next after reached is done says at swept) = took next after reached is done says at swept
 elsewhere found (cut_off fault stop) = cut_off fault stop
 
-of_file : {told : Bool} (world : World) (was_read : Bool) {slot : ℕ} {name : List ℕ} {content : Option Content}
+of_file : {visible : Bool} (world : World) (was_read : Bool) {slot : ℕ} {name : List ℕ} {content : Option Content}
     (shown : Option (List ℕ)) (P : Input → Type 0) → is_dash name ≡ false
-    → (told ≡ true → world.laid slot name ≡ content) → (told ≡ true → shown ≡ shown_of content)
-    → P (showing shown (file_input name slot content)) → OfName told world was_read slot name P
+    → (visible ≡ true → world.laid slot name ≡ content) → (visible ≡ true → shown ≡ shown_of content)
+    → P (showing shown (file_input name slot content)) → OfName visible world was_read slot name P
 of_file world was_read {slot} {name} {content} shown P differs lies says holds = (
   showing shown (file_input name slot content),
   (record { laid = λ _ _. content; standard = empty }, shown, rw differs refl),
@@ -599,12 +604,12 @@ of_file world was_read {slot} {name} {content} shown P differs lies says holds =
   holds,
 )
 
-dash_at : {told : Bool} (was_read : Bool) (laid : ℕ → List ℕ → Option Content) (sources : List Source) (slot : ℕ)
+dash_at : {visible : Bool} (was_read : Bool) (laid : ℕ → List ℕ → Option Content) (sources : List Source) (slot : ℕ)
     (name : List ℕ) (shown : Option (List ℕ)) (P : Input → Type 0) → is_dash name ≡ true
-    → IsShown told (standard_source was_read) sources shown
-    → OfSource told (standard_source was_read) sources
+    → IsShown visible (standard_source was_read) sources shown
+    → OfSource visible (standard_source was_read) sources
     (λ content. P (input_from (codes "standard input") (standard_source was_read) shown content))
-    → OfName told (world_of laid sources) was_read slot name P
+    → OfName visible (world_of laid sources) was_read slot name P
 dash_at true laid sources slot name shown P dash none holds = (
   read_before,
   (record { laid = laid; standard = empty }, None, rw dash refl),
@@ -619,12 +624,12 @@ dash_at false laid sources slot name shown P dash says (content, there, holds) =
 )
 
 -- the file was opened
-pub took_opened : {told_in told : Bool} {task : Task} {most : ℕ} {progress : RunProgress}
+pub took_opened : {visible_in visible : Bool} {task : Task} {most : ℕ} {progress : RunProgress}
     {laid : ℕ → List ℕ → Option Content} {name : List ℕ} {old mid : List Source} {slot : ℕ} {start : List Slot}
-    (had : HasStreams told start) {sources : List Source} {new : List Slot} {result : Result RunProgress Fault}
-    → is_dash name ≡ false → OpensFile told_in laid old mid name slot
-    → TookSource told_in task name (Some slot) (start_at had progress most mid) sources new result
-    → TookName told_in laid task name (start_at had progress most old) sources new result
+    (had : HasStreams visible start) {sources : List Source} {new : List Slot} {result : Result RunProgress Fault}
+    → is_dash name ≡ false → OpensFile visible_in laid old mid name slot
+    → TookSource visible_in task name (Some slot) (start_at had progress most mid) sources new result
+    → TookName visible_in laid task name (start_at had progress most old) sources new result
 took_opened {progress = progress} {laid} {name} {old} {slot = slot} had differs opened_it (shown, says, (content, there, one)) =
     of_file (world_of laid old) progress.was_read shown _ differs (λ t. ap (λ n. laid n name) (sym opened_it.number) ∙ opened_it.lies t
     ∙ ap Some (sym (there t ∙ ap (λ (source : Source). source.left)
@@ -634,54 +639,54 @@ took_opened {progress = progress} {laid} {name} {old} {slot = slot} had differs 
     (rw (differs, or-false) (rw opened_it.number at (elsewhere old one)))
 
 -- standard input, for the operand `-`
-pub took_standard : {told_in told : Bool} {task : Task} {most : ℕ} (progress : RunProgress) {source : Option ℕ}
+pub took_standard : {visible_in visible : Bool} {task : Task} {most : ℕ} (progress : RunProgress) {source : Option ℕ}
     (laid : ℕ → List ℕ → Option Content) (name : List ℕ) (old : List Source) {start : List Slot}
-    (had : HasStreams told start) {sources : List Source} {new : List Slot} {result : Result RunProgress Fault}
+    (had : HasStreams visible start) {sources : List Source} {new : List Slot} {result : Result RunProgress Fault}
     → source ≡ standard_source progress.was_read → is_dash name ≡ true
-    → TookSource told_in task (codes "standard input") source
+    → TookSource visible_in task (codes "standard input") source
     (start_at had (record progress { was_read = true }) most old) sources new result
-    → TookName told_in laid task name (start_at had progress most old) sources new result
-took_standard {told_in} {task = task} {most} progress laid name old had {sources} {new} {result} is dash (shown, says, holds) =
-    let P = λ (read : Bool) (input : Input). TookInput told_in task input
+    → TookName visible_in laid task name (start_at had progress most old) sources new result
+took_standard {visible_in} {task = task} {most} progress laid name old had {sources} {new} {result} is dash (shown, says, holds) =
+    let P = λ (read : Bool) (input : Input). TookInput visible_in task input
     (start_at had (record progress { was_read = read }) most old) sources new result in
     dash_at progress.was_read laid old (length old) name shown (P (progress.was_read || is_dash name)) dash (rw is at says)
     (rw (dash, or-true) (rw is at holds))
 
 -- a name that could not be opened: it is passed over with a message
 
-pub of_missing : {told_in told : Bool} {task : Task} {most : ℕ} {progress : RunProgress}
+pub of_missing : {visible_in visible : Bool} {task : Task} {most : ℕ} {progress : RunProgress}
     {laid : ℕ → List ℕ → Option Content} {name : List ℕ} {sources after : List Source}
-    {fault : Fault} {slot : ℕ} {old new : List Slot} (had : HasStreams told old) → is_dash name ≡ false
-    → OpensNothing told_in laid sources after name fault → fault ≡ Open slot
-    → SaysOn told task.speaker (reason_of (Some slot) after) (message_of (Open slot) name) old new
-    → TookName told_in laid task name (start_at had progress most sources) after new
+    {fault : Fault} {slot : ℕ} {old new : List Slot} (had : HasStreams visible old) → is_dash name ≡ false
+    → OpensNothing visible_in laid sources after name fault → fault ≡ Open slot
+    → SaysOn visible task.speaker (reason_of (Some slot) after) (message_of (Open slot) name) old new
+    → TookName visible_in laid task name (start_at had progress most sources) after new
     (Ok (record progress { failed = true }))
-of_missing {told_in} {told} {task} {most} {progress} {laid} {name} {sources} {after} {slot = slot} {new = new} had differs
+of_missing {visible_in} {visible} {task} {most} {progress} {laid} {name} {sources} {after} {slot = slot} {new = new} had differs
     (from.broke _ reason number lies are) cannot says =
     of_file (world_of laid sources) progress.was_read None _ differs (λ t. ap (λ n. laid n name) (sym number) ∙ lies t) (λ t. refl)
     (let said = said_at had.at says in
     let same : slot ≡ length sources = grind (arith, common_steps) in
     took (record progress { failed = true }) said.0 new
-    (simp (differs, or-false, and-true, or-true)) (missing_done told_in (task.work None) most reason sources are)
-    (said.0, subst (λ n. SaysFor told task.speaker (reason_of (Some n) after) (message_of (Open 0) name) had.error said.0) same said.1, refl)
-    (subst (λ part. OutputsAt told (streams_with said.0) part new) (sym nothing_after) said.2) refl)
+    (simp (differs, or-false, and-true, or-true)) (missing_done visible_in (task.work None) most reason sources are)
+    (said.0, subst (λ n. SaysFor visible task.speaker (reason_of (Some n) after) (message_of (Open 0) name) had.error said.0) same said.1, refl)
+    (subst (λ part. OutputsAt visible (streams_with said.0) part new) (sym nothing_after) said.2) refl)
 of_missing had differs (from.no_room are) cannot says = absurd (cc)
 
 -- there was no room for it
-pub of_no_room : {told_in told : Bool} {task : Task} {most : ℕ} (progress : RunProgress)
+pub of_no_room : {visible_in visible : Bool} {task : Task} {most : ℕ} (progress : RunProgress)
     {laid : ℕ → List ℕ → Option Content} {name : List ℕ} {sources after : List Source} {fault : Fault}
-    {old : List Slot} (had : HasStreams told old) → is_dash name ≡ false
-    → OpensNothing told_in laid sources after name fault → ((slot : ℕ) → fault ≡ Open slot → ⊥)
-    → TookName told_in laid task name (start_at had progress most sources) after old (Err fault)
+    {old : List Slot} (had : HasStreams visible old) → is_dash name ≡ false
+    → OpensNothing visible_in laid sources after name fault → ((slot : ℕ) → fault ≡ Open slot → ⊥)
+    → TookName visible_in laid task name (start_at had progress most sources) after old (Err fault)
 of_no_room progress had differs (from.broke slot why number lies are) other = absurd (other slot refl)
-of_no_room {told = told} progress {laid} {name} {sources} {old = old} had differs (from.no_room are) other =
+of_no_room {visible = visible} progress {laid} {name} {sources} {old = old} had differs (from.no_room are) other =
     of_file (world_of laid sources) progress.was_read (shown_of (laid (length sources) name)) _ differs (λ t. refl) (λ t. refl)
     (cut_off Memory (record {
       step = _;
       is = unopened (length sources) refl (omega (arith, ap length are));
       reached = old;
       stops = refl;
-      between = stopped_here _ told (streams_with had.error) had.part had.part Memory old old had.at (part_begins_itself had.part) refl tt tt;
+      between = stopped_here _ visible (streams_with had.error) had.part had.part Memory old old had.at (part_begins_itself had.part) refl tt tt;
       swept = none_to_sweep _ old (omega arith);
     }))
 
@@ -707,16 +712,16 @@ are_from world was_read slot (name ∷ names) =
     ((world, _, sym (says_itself _)), are_from world (was_read || is_dash name) (next_slot slot name) names)
 
 -- what was done before the names that are left
-pub record Walked (told_in told : Bool) (task : Task) (world : World) (names left : List (List ℕ))
+pub record Walked (visible_in visible : Bool) (task : Task) (world : World) (names left : List (List ℕ))
     (progress : RunProgress)
     (laid : ℕ → List ℕ → Option Content) (sources : List Source) (slots : List Slot) : Type 0 where
   pub done : List Input
   pub made : Outcome
   pub error : Slot
   pub reached : List Slot
-  pub at : OutputsAt told (streams_with error) made.part reached
+  pub at : OutputsAt visible (streams_with error) made.part reached
   pub swept : Swept made.sweeps 2 reached slots
-  pub says : SaysOf told task sources done standard_error error
+  pub says : SaysOf visible task sources done standard_error error
   pub failed : progress.failed ≡ made.failed
   -- if the work clears files, there is at most one name
   pub alone : (shown : Option (List ℕ)) → (task.work shown).clears ≡ true
@@ -727,21 +732,21 @@ pub record Walked (told_in told : Bool) (task : Task) (world : World) (names lef
       → of_inputs task true (done ++ rest) ≡ joined made (of_inputs task progress.is_first rest)
   pub rest_are : (rest : List Input) → AreFrom progress.was_read (length sources) left rest
       → AreFrom false 1 names (done ++ rest)
-  pub rest_there : told_in ≡ true
+  pub rest_there : visible_in ≡ true
       → done ++ inputs_from world progress.was_read (length sources) left ≡ inputs_at world names
   pub laid_same : laid ≡ world.laid
   pub standard : progress.was_read ≡ false → source_at sources 0 ≡ source_of world.standard
   pub some : 0 < length sources
-  pub known : StayDone told_in task.work largest_piece progress.was_read done sources
+  pub known : StayDone visible_in task.work largest_piece progress.was_read done sources
   pub asked : AsksAtMost largest_piece sources
   pub count : count_after (length sources) left ≡ count_after 1 names
 
-pub walk_begins : {told_in told : Bool} {task : Task} {names : List (List ℕ)} {laid : ℕ → List ℕ → Option Content}
+pub walk_begins : {visible_in visible : Bool} {task : Task} {names : List (List ℕ)} {laid : ℕ → List ℕ → Option Content}
     {sources : List Source} {slots : List Slot} → IsFresh sources → slots ≡ streams
     → ((shown : Option (List ℕ)) → (task.work shown).clears ≡ true → length names ≤ 1)
-    → Walked told_in told task (world_of laid sources) names names
+    → Walked visible_in visible task (world_of laid sources) names names
     (record { was_read = false; is_first = true; failed = false }) laid sources slots
-walk_begins {told} {sources = sources} {slots} fresh are alone =
+walk_begins {visible} {sources = sources} {slots} fresh are alone =
     let one : length sources ≡ 1 = ap length fresh.only in
     let at_first : source_at sources 0 ≡ source_of fresh.standard = ap (λ those. source_at those 0) fresh.only in
     record {
@@ -749,7 +754,7 @@ walk_begins {told} {sources = sources} {slots} fresh are alone =
       made = no_outcome;
       error = standard_error;
       reached = slots;
-      at = rw are (nothing_out told (streams_with standard_error) (lit< tt));
+      at = rw are (nothing_out visible (streams_with standard_error) (lit< tt));
       swept = refl;
       says = refl;
       failed = refl;
@@ -767,22 +772,23 @@ walk_begins {told} {sources = sources} {slots} fresh are alone =
       count = rw one refl;
     }
 
-module _ {told_in told : Bool} {task : Task} {world : World} {names left : List (List ℕ)} {progress : RunProgress}
+module _ {visible_in visible : Bool} {task : Task} {world : World} {names left : List (List ℕ)} {progress : RunProgress}
     {laid : ℕ → List ℕ → Option Content} {sources : List Source} {slots : List Slot}
-    (walked : Walked told_in told task world names left progress laid sources slots) where
+    (walked : Walked visible_in visible task world names left progress laid sources slots) where
   -- if names are left, no file was removed
-  pub slots_at : 1 ≤ length left → OutputsAt told (streams_with walked.error) walked.made.part slots
+  pub slots_at : 1 ≤ length left → OutputsAt visible (streams_with walked.error) walked.made.part slots
   slots_at some = grind (arith, common_steps, walked)
 
   pub walked_error : is_open walked.error.state ≡ true
-  walked_error = rw (said_state told task sources walked.done standard_error walked.error walked.says) refl
+  walked_error = rw (said_state visible task sources walked.done standard_error walked.error walked.says) refl
 
-  pub walk_streams : 1 ≤ length left → HasStreams told slots
+  pub walk_streams : 1 ≤ length left → HasStreams visible slots
   walk_streams some = record { part = walked.made.part; error = walked.error; at = slots_at some; opened = walked_error }
 
   -- all names were taken
   pub walk_ends : left ≡ []
-      → RunsOver told_in world names (λ found. TookAll told_in told task found sources slots (Ok progress.failed))
+      → RunsOver visible_in world names
+      (λ found. TookAll visible_in visible task found sources slots (Ok progress.failed))
   walk_ends none =
       let made : made_by task (walked.done ++ []) ≡ walked.made = walked.rest_made [] ∙ joined_nothing in (
         walked.done ++ [],
@@ -818,32 +824,32 @@ taken_alone {left} slots alone is = elim (alone is) [
   | inr few ↦ (nil_from_length left (omega arith), few.1)
 ]
 
-module _ {told_in told : Bool} {task : Task} {world : World} {names : List (List ℕ)} {name : List ℕ}
+module _ {visible_in visible : Bool} {task : Task} {world : World} {names : List (List ℕ)} {name : List ℕ}
     {left : List (List ℕ)} {progress : RunProgress} {laid : ℕ → List ℕ → Option Content}
     {sources new_sources : List Source} {slots : List Slot} {most : ℕ}
-    (walked : Walked told_in told task world names (name ∷ left) progress laid sources slots)
+    (walked : Walked visible_in visible task world names (name ∷ left) progress laid sources slots)
     (room : most ≡ largest_piece) (leaves : TakesOne largest_piece progress.was_read name sources new_sources) where
   unread_on : (progress.was_read || is_dash name) ≡ false → source_at new_sources 0 ≡ source_of world.standard
   unread_on unread = let both = or_parts progress.was_read _ unread in leaves.unasked both.1 ∙ walked.standard both.0
 
-  done_on : StayDone told_in task.work largest_piece (progress.was_read || is_dash name) walked.done new_sources
-  done_on = still_done told_in task.work largest_piece walked.done (λ had. rw had refl) leaves walked.known
+  done_on : StayDone visible_in task.work largest_piece (progress.was_read || is_dash name) walked.done new_sources
+  done_on = still_done visible_in task.work largest_piece walked.done (λ had. rw had refl) leaves walked.known
 
-  said_on : SaysOf told task new_sources walked.done standard_error walked.error
-  said_on = still_said told_in told task largest_piece walked.done standard_error walked.error leaves walked.known walked.says
+  said_on : SaysOf visible task new_sources walked.done standard_error walked.error
+  said_on = still_said visible_in visible task largest_piece walked.done standard_error walked.error leaves walked.known walked.says
 
-  abbrev pub next_streams : HasStreams told slots
+  abbrev pub next_streams : HasStreams visible slots
   next_streams = record { part = walked.made.part; error = walked.error; at = slots_at walked (omega arith); opened = walked_error walked }
 
   -- what became of the name
   abbrev pub TookNext : List Slot → Result RunProgress Fault → Type 0
-  TookNext = TookName told_in laid task name (start_at next_streams progress most sources) new_sources
+  TookNext = TookName visible_in laid task name (start_at next_streams progress most sources) new_sources
 
   -- one more name was taken
   pub walk_goes_on : {next : RunProgress} {new_laid : ℕ → List ℕ → Option Content} {new : List Slot}
       → length new_sources ≡ next_slot (length sources) name → new_laid ≡ laid
       → TookNext new (Ok next)
-      → Walked told_in told task world names left next new_laid new_sources new
+      → Walked visible_in visible task world names left next new_laid new_sources new
   walk_goes_on {next = next} {new = new} opened_it same (input, is_for, there, took _ after reached is is_done says at swept) =
       let one = of_input task progress.is_first input in
       let was : next.was_read ≡ (progress.was_read || is_dash name) = ap (λ (p : RunProgress). p.was_read) is in
@@ -858,8 +864,8 @@ module _ {told_in told : Bool} {task : Task} {world : World} {names : List (List
         reached = reached;
         at = at;
         swept = rw sweeps_one (swept_from one.sweeps reached new (λ sweeps. (only sweeps).1) swept);
-        says = said_more told task new_sources walked.done input standard_error walked.error after said_on
-            (subst (λ those. SaysFrom told task.speaker (reason_of input.slot new_sources) those walked.error after)
+        says = said_more visible task new_sources walked.done input standard_error walked.error after said_on
+            (subst (λ those. SaysFrom visible task.speaker (reason_of input.slot new_sources) those walked.error after)
             (messages_alike task (task.work input.shown) progress.is_first input.name input.content) says);
         failed = rw (is, walked.failed);
         alone = λ shown clears. inl (taken_alone slots (walked.alone shown) clears).0;
@@ -881,9 +887,9 @@ module _ {told_in told : Bool} {task : Task} {world : World} {names : List (List
         laid_same = same ∙ walked.laid_same;
         standard = λ unread. unread_on (sym was ∙ unread);
         some = omega arith;
-        known = rw was (done_more told_in task.work largest_piece (progress.was_read || is_dash name) walked.done input new_sources
+        known = rw was (done_more visible_in task.work largest_piece (progress.was_read || is_dash name) walked.done input new_sources
             done_on
-            (done_with told_in (task.work input.shown) largest_piece progress.was_read name new_sources is_for walked.some
+            (done_with visible_in (task.work input.shown) largest_piece progress.was_read name new_sources is_for walked.some
             (rw room at is_done)));
         asked = leaves.asked walked.asked;
         count = rw (opened_it, walked.count);
@@ -892,7 +898,7 @@ module _ {told_in told : Bool} {task : Task} {world : World} {names : List (List
   -- a fault stopped the run at a name
   pub walk_stops : {new : List Slot} (fault : Fault)
       → TookNext new (Err fault)
-      → RunsOver told_in world names (λ found. TookAll told_in told task found new_sources new (Err fault))
+      → RunsOver visible_in world names (λ found. TookAll visible_in visible task found new_sources new (Err fault))
   walk_stops {new} fault (input, is_for, there, cut_off _ stop) =
       let rest = inputs_from world (progress.was_read || is_dash name) (next_slot (length sources) name) left in
       let before : made_by task walked.done ≡ walked.made
@@ -929,18 +935,18 @@ module _ {told_in told : Bool} {task : Task} {world : World} {names : List (List
       )
 
 -- the words that a loop has left are the first of them and the rest
-pub walked_at : {told_in : Bool} (told : Bool) {task : Task} {world : World} {names : List (List ℕ)}
+pub walked_at : {visible_in : Bool} (visible : Bool) {task : Task} {world : World} {names : List (List ℕ)}
     (none : Bor (List ℕ)) (left : List (Bor (List ℕ))) {progress : RunProgress} {laid : ℕ → List ℕ → Option Content}
     {sources : List Source} {slots : List Slot} → 1 ≤ length left
-    → Walked told_in told task world names (map (λ word. word.now) left) progress laid sources slots
-    → Walked told_in told task world names
+    → Walked visible_in visible task world names (map (λ word. word.now) left) progress laid sources slots
+    → Walked visible_in visible task world names
     ((get_or left 0 none).now ∷ map (λ word. word.now) (take (length left - 1) (drop 1 left))) progress laid sources
     slots
-walked_at told none left some walked = grind (arith, common_steps)
+walked_at visible none left some walked = grind (arith, common_steps)
 
 -- a run that touched no input
-pub none_touched : {told_in : Bool} {world : World} {sources : List Source} {names : List (List ℕ)}
-    → sources ≡ source_of world.standard ∷ [] → RunsOver told_in world names (λ found. AreUntouched found sources)
+pub none_touched : {visible_in : Bool} {world : World} {sources : List Source} {names : List (List ℕ)}
+    → sources ≡ source_of world.standard ∷ [] → RunsOver visible_in world names (λ found. AreUntouched found sources)
 none_touched {world = world} {sources} {names} fresh = (
   inputs_at world names,
   record { are = are_from world false 1 names; there = λ t. refl },

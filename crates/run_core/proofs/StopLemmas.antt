@@ -6,19 +6,23 @@ use Rattle.std.proofs.{
   Math.Seq.{take-append-add, drop-append-add},
 }
 use Rattle.ports_core.specs.{
-  Slot.{Slot, with_written, told_of, told_slot, is_open, slot_at, adds},
-  Part.{nothing, Part, only_out, OutputsAt, IsBeginning, Begins, IsNext, IsAt, StoppedBetween, Marks, Output},
-  Part.{gets_lines, gets_openings, lines_for, openings_for, LinesInOrder},
-  Swept.{Swept, SweptFrom, Cleared},
+  Slot.{Slot, with_written, visible_of, visible_slot, is_open, slot_at, adds},
   declared.fault.Fault.{Fault, TheVariants.{Write, Open}},
-  Message.{OnError},
+  Message.OnError,
+}
+use Rattle.engine_core.specs.{
+  Written.{nothing, Written, only_out, OutputsAt, IsBeginning, Begins, IsNext, IsAt, StoppedBetween, Marks, Output},
+  Written.{gets_lines, gets_openings, lines_for, openings_for, LinesInOrder},
+  Swept.{Swept, SweptFrom, Cleared},
+}
+use Rattle.engine_core.proofs.{
+  WrittenLemmas.{due_by, marks_by, outputs_count},
+  SlotSteps.{none_past, swept_none},
+  WrittenSteps.front_begins,
 }
 use Rattle.ports_core.proofs.{
-  PartLemmas.{due_by, marks_by, outputs_count},
-  SlotSteps.{none_past, swept_none},
   SlotLemmas.{length-changed_at, changed_at-append},
-  WriteLemmas.{told_of-append, with_written-append},
-  PartSteps.front_begins,
+  WriteLemmas.{visible_of-append, with_written-append},
 }
 use Rattle.run_core.specs.{Task.after_part}
 
@@ -27,39 +31,40 @@ use Rattle.run_core.specs.{Task.after_part}
 out_after : (out low : List ℕ) {high : List ℕ} → IsBeginning low high → IsBeginning (out ++ low) (out ++ high)
 out_after out low (rest, is) = (rest, ap (λ bytes. out ++ bytes) is ∙ sym (append_assoc out low rest))
 
-pub begins_after : (first : Part) {low high : Part} → Begins low high
+pub begins_after : (first : Written) {low high : Written} → Begins low high
     → Begins (after_part first low) (after_part first high)
 begins_after first begins = grind (arith, common_steps, out_after, front_begins)
 
-pub after_assoc : (first next last : Part)
+pub after_assoc : (first next last : Written)
     → after_part (after_part first next) last ≡ after_part first (after_part next last)
 after_assoc first next last = simp append_assoc
 
-pub nothing_after : {part : Part} → after_part part nothing ≡ part
+pub nothing_after : {part : Written} → after_part part nothing ≡ part
 nothing_after = simp append-nil
 
 -- bytes on standard output, after a part
-pub out_on : (first : Part) (bytes : List ℕ)
+pub out_on : (first : Written) (bytes : List ℕ)
     → record first { out = first.out ++ bytes } ≡ after_part first (only_out bytes)
 out_on first bytes = rw (append-nil first.files)
 
 -- outputs that are at one part, and from there on at another, are at both
-pub at_after : {told : Bool} {base : List Slot} {first part : Part} {mid now : List Slot}
-    → OutputsAt told base first mid → OutputsAt told mid part now → OutputsAt told base (after_part first part) now
-at_after {told} {base} {first} {part} {mid} one two = record {
+pub at_after : {visible : Bool} {base : List Slot} {first part : Written} {mid now : List Slot}
+    → OutputsAt visible base first mid → OutputsAt visible mid part now
+    → OutputsAt visible base (after_part first part) now
+at_after {visible} {base} {first} {part} {mid} one two = record {
   standard = one.standard;
   slots = rw (
     two.slots,
     more,
-    append_assoc (with_written 0 (told_of told (first.out ++ part.out)) base) (map (told_slot told) first.files),
-    map-append (told_slot told) first.files part.files,
+    append_assoc (with_written 0 (visible_of visible (first.out ++ part.out)) base) (map (visible_slot visible) first.files),
+    map-append (visible_slot visible) first.files part.files,
   );
 } where
-  more : with_written 0 (told_of told part.out) mid
-      ≡ with_written 0 (told_of told (first.out ++ part.out)) base ++ map (told_slot told) first.files
-  more = ap (with_written 0 (told_of told part.out)) one.slots
-      ∙ changed_at-append 0 _ (with_written 0 (told_of told first.out) base) _ (rw (length-changed_at 0 _ base) one.standard)
-      ∙ ap (λ front. front ++ map (told_slot told) first.files) (with_written-append 0 (told_of told first.out) (told_of told part.out) base ∙ ap (λ bytes. with_written 0 bytes base) (sym (told_of-append told first.out part.out)))
+  more : with_written 0 (visible_of visible part.out) mid
+      ≡ with_written 0 (visible_of visible (first.out ++ part.out)) base ++ map (visible_slot visible) first.files
+  more = ap (with_written 0 (visible_of visible part.out)) one.slots
+      ∙ changed_at-append 0 _ (with_written 0 (visible_of visible first.out) base) _ (rw (length-changed_at 0 _ base) one.standard)
+      ∙ ap (λ front. front ++ map (visible_slot visible) first.files) (with_written-append 0 (visible_of visible first.out) (visible_of visible part.out) base ∙ ap (λ bytes. with_written 0 bytes base) (sym (visible_of-append visible first.out part.out)))
 
 from_after : (fault : Fault) (base : ℕ) {mid : ℕ} (place count : ℕ) (first : ℕ) → mid ≡ base + first
     → IsAt fault mid place count → IsAt fault base (first + place) (first + count)
@@ -75,7 +80,7 @@ lines_for-append line [] more = refl
 lines_for-append line (file ∷ some) more = grind (arith, common_steps, (lines_for-append line some more))
 
 -- the next file after more files
-next_after : (first : Part) {part high : Part} (name : List ℕ) → IsNext part high name
+next_after : (first : Written) {part high : Written} (name : List ℕ) → IsNext part high name
     → IsNext (after_part first part) (after_part first high) name
 next_after first {part} name next = record {
   front = first.files ++ next.front;
@@ -86,7 +91,7 @@ next_after first {part} name next = record {
   name_is = next.name_is;
 }
 
-lines_after : (output : Output) (first low part high : Part) (place : ℕ) (fault : Fault)
+lines_after : (output : Output) (first low part high : Written) (place : ℕ) (fault : Fault)
     → LinesInOrder output low part high place fault
     → LinesInOrder output (after_part first low) (after_part first part) (after_part first high)
     (length first.files + place) fault
@@ -115,10 +120,10 @@ lines_after (gets_lines line) first low part high place fault (inr (since, is, a
 )
 lines_after output first low part high place fault lines = tt
 
-pub stop_after : {output : Output} {told : Bool} {base : List Slot} {first low high : Part} {fault : Fault}
-    {mid now : List Slot} → OutputsAt told base first mid → StoppedBetween output told mid low high fault now
-    → StoppedBetween output told base (after_part first low) (after_part first high) fault now
-stop_after {output} {told} {base} {first} {low} {high} {fault} {mid} {now} at stop = record {
+pub stop_after : {output : Output} {visible : Bool} {base : List Slot} {first low high : Written} {fault : Fault}
+    {mid now : List Slot} → OutputsAt visible base first mid → StoppedBetween output visible mid low high fault now
+    → StoppedBetween output visible base (after_part first low) (after_part first high) fault now
+stop_after {output} {visible} {base} {first} {low} {high} {fault} {mid} {now} at stop = record {
   part = after_part first stop.part;
   above = begins_after first stop.above;
   below = begins_after first stop.below;
@@ -132,7 +137,7 @@ stop_after {output} {told} {base} {first} {low} {high} {fault} {mid} {now} at st
   reached = stop.reached;
   outputs = at_after at stop.outputs;
   marks = marks_by (IsNext stop.part high) (IsNext (after_part first stop.part) (after_part first high)) fault stop.reached now (next_after first) stop.marks;
-  from = rw (length-append first.files stop.part.files) (from_after fault (length base) stop.place (length stop.part.files) (length first.files) (outputs_count told base first mid at) stop.from);
+  from = rw (length-append first.files stop.part.files) (from_after fault (length base) stop.place (length stop.part.files) (length first.files) (outputs_count visible base first mid at) stop.from);
 }
 
 -- if there is no file, none is to be removed
@@ -174,17 +179,19 @@ marked_error IsName (Write (suc (suc place))) output error since opened marks = 
 marked_error IsName (Open slot) output error since opened marks = shape_of opened marks.1.5
 marked_error IsName fault output error since opened marks = shape_of opened marks
 
-pub stop_error : {how : Output} {told : Bool} {output error : Slot} {low high : Part} {fault : Fault} {now : List Slot}
-    → is_open error.state ≡ true → StoppedBetween how told (output ∷ error ∷ []) low high fault now → HasError now
+pub stop_error : {how : Output} {visible : Bool} {output error : Slot} {low high : Written} {fault : Fault}
+    {now : List Slot}
+    → is_open error.state ≡ true → StoppedBetween how visible (output ∷ error ∷ []) low high fault now → HasError now
 stop_error opened stop = grind (arith, common_steps, marked_error)
 
 -- a message changes standard error, and no other output
 
-pub said_at : {told : Bool} {Change : Slot → Slot → Type 0} {output error : Slot} {part : Part} {old new : List Slot}
-    → OutputsAt told (output ∷ error ∷ []) part old → OnError Change old new
-    → (after : Slot) × Change error after × OutputsAt told (output ∷ after ∷ []) part new
-said_at {told} {output} {error} {part} at says =
-    let said = says (adds (told_of told part.out) output) error _ at.slots in
+pub said_at : {visible : Bool} {Change : Slot → Slot → Type 0} {output error : Slot} {part : Written}
+    {old new : List Slot}
+    → OutputsAt visible (output ∷ error ∷ []) part old → OnError Change old new
+    → (after : Slot) × Change error after × OutputsAt visible (output ∷ after ∷ []) part new
+said_at {visible} {output} {error} {part} at says =
+    let said = says (adds (visible_of visible part.out) output) error _ at.slots in
     (said.0, said.1, record { standard = lit< tt; slots = said.2 })
 
 pub beside_error : (output error error_too : Slot) (files : List Slot) (place : ℕ) → (place ≡ 1 → ⊥)

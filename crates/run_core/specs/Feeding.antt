@@ -6,12 +6,14 @@ use Rattle.std.specs.{
 use Rattle.ports_core.specs.{
   Slot.{Slot, slot_at},
   Source.{Content, Source, source_at},
-  Part.{Part, Output, OutputsAt, StoppedBetween, nothing, writes},
+  Inputs.{CameFrom, OfContent, empty},
+  declared.{fault.Fault.{Fault, TheVariants.{Memory, Write, Open, TooLong}}, verdict.Verdict.Verdict},
+}
+use Rattle.engine_core.specs.{
+  Written.{Written, Output, OutputsAt, StoppedBetween, nothing, writes},
   Swept.Swept,
   Work.{Work, Needs, Judges, IsNeeded},
   Engine.{Terms, is_verdict},
-  Inputs.{CameFrom, OfContent, empty},
-  declared.{fault.Fault.{Fault, TheVariants.{Memory, Write, Open, TooLong}}, verdict.Verdict.Verdict},
 }
 use Rattle.run_core.specs.declared.feeding.Fed.{Fed, TheVariants.{Whole, Enough, Broken}}
 use Rattle.ports_core.specs.declared.fault.Fault.TheVariants as fault_is
@@ -21,15 +23,15 @@ abbrev pub is_enough : Work → Content → Bool
 is_enough work content = not content.breaks_off || work.is_complete content.bytes
 
 -- what the engine makes of an input
-abbrev pub fed_part : Work → Content → Part
+abbrev pub fed_part : Work → Content → Written
 fed_part work content = if is_enough work content then work.whole content.bytes else work.settled content.bytes
 
 -- One step of a run at an input.
 pub record Step : Type 0 where
   -- what was written before the step
-  pub low : Part
+  pub low : Written
   -- what is written once the step is done: `low`, and what the step adds
-  pub high : Part
+  pub high : Written
   -- what it writes to standard output
   pub output : Output
   -- whether it writes to files that it opens
@@ -59,7 +61,7 @@ pub data HasAll (work : Work) (content : Content) (x : List ℕ) : Type 0 where
   enough : (rest : List ℕ) → content.bytes ≡ x ++ rest → work.is_complete x ≡ true → HasAll work content x
 
 -- a step between these parts, before which no byte was given back; the input hasn't ended by it
-abbrev pub step_from : Output → (files : Bool) → Needs → (read : List ℕ) → (low high : Part) → Step
+abbrev pub step_from : Output → (files : Bool) → Needs → (read : List ℕ) → (low high : Written) → Step
 step_from output files needs read low high = record {
   low = low;
   high = high;
@@ -72,7 +74,7 @@ step_from output files needs read low high = record {
 }
 
 -- the step of an engine's call that may need this
-abbrev pub call_of : Work → Needs → List ℕ → Part → Part → Step
+abbrev pub call_of : Work → Needs → List ℕ → Written → Written → Step
 call_of work needs read low high = step_from work.means.output work.means.files needs read low high
 
 -- the call that closes an engine, at the end of the input or once the output is complete with what came in
@@ -94,48 +96,50 @@ pub data IsCall (work : Work) (opening : Needs) (most : ℕ) (content : Content)
       → IsCall work opening most content (close_of work x)
 
 -- A fault stopped one of these steps of a run.
-pub record StoppedStep (told : Bool) (before : List Slot) (first : ℕ) (clears : Bool) (IsStep : Step → Type 0)
+pub record StoppedStep (visible : Bool) (before : List Slot) (first : ℕ) (clears : Bool) (IsStep : Step → Type 0)
     (fault : Fault) (new : List Slot) : Type 0 where
   pub step : Step
   pub is : IsStep step
   -- the fault left the outputs so: since `before` they got what comes before the step, and a beginning of what it adds
   pub reached : List Slot
   pub stops : Stops step reached fault
-  pub between : StoppedBetween step.output told before step.low step.high fault reached
+  pub between : StoppedBetween step.output visible before step.low step.high fault reached
   -- then the files were removed, from the output of number `first` on, if the work clears them
   pub swept : Swept clears first reached new
 
 -- How feeding an input ends, from the state `before` of the outputs on. `IsStep` is true of the call that a fault
 -- stopped, and of what was left of the input then.
-pub data FedAs (told : Bool) (before : List Slot) (work : Work) (content : Content) (IsStep : Step → Type 0)
+pub data FedAs (visible : Bool) (before : List Slot) (work : Work) (content : Content) (IsStep : Step → Type 0)
     (new : List Slot) : Result Fed Fault → Type 0 where
   -- the input ended before the output was complete; the work ends well
   whole : content.breaks_off ≡ false → work.is_complete content.bytes ≡ false → work.verdict content.bytes ≡ None
-      → OutputsAt told before (work.whole content.bytes) new → FedAs told before work content IsStep new (Ok Whole)
+      → OutputsAt visible before (work.whole content.bytes) new
+      → FedAs visible before work content IsStep new (Ok Whole)
   -- the output is complete; the work ends well
   had_enough : work.is_complete content.bytes ≡ true → work.verdict content.bytes ≡ None
-      → OutputsAt told before (work.whole content.bytes) new → FedAs told before work content IsStep new (Ok Enough)
+      → OutputsAt visible before (work.whole content.bytes) new
+      → FedAs visible before work content IsStep new (Ok Enough)
   -- the input broke off before the output was complete; the files go if the work clears them
   broke_off : content.breaks_off ≡ true → work.is_complete content.bytes ≡ false → (reached : List Slot)
-      → OutputsAt told before (work.settled content.bytes) reached → Swept work.clears (length before) reached new
-      → FedAs told before work content IsStep new (Ok Broken)
+      → OutputsAt visible before (work.settled content.bytes) reached → Swept work.clears (length before) reached new
+      → FedAs visible before work content IsStep new (Ok Broken)
   -- the work ends with a verdict; the files go if the work clears them
   judged : (verdict : Verdict) → is_enough work content ≡ true → Judges work content.bytes verdict
-      → (reached : List Slot) → OutputsAt told before (work.whole content.bytes) reached
+      → (reached : List Slot) → OutputsAt visible before (work.whole content.bytes) reached
       → Swept work.clears (length before) reached new
-      → FedAs told before work content IsStep new (Err (fault_is.Verdict verdict))
+      → FedAs visible before work content IsStep new (Err (fault_is.Verdict verdict))
   -- a fault that is no verdict stopped a call
   stopped : (fault : Fault) → is_verdict fault ≡ false
-      → StoppedStep told before (length before) work.clears IsStep fault new
-      → FedAs told before work content IsStep new (Err fault)
+      → StoppedStep visible before (length before) work.clears IsStep fault new
+      → FedAs visible before work content IsStep new (Err fault)
 
 -- What is left of an input if a fault stopped this step: it didn't break, and if bytes are visible, all is left except
 -- what came in. If the step comes at the end, a read reported the end.
-pub record LeavesOf (told : Bool) (content : Content) (source : Source) (step : Step) : Type 0 where
-  pub came : CameFrom told content source
+pub record LeavesOf (visible : Bool) (content : Content) (source : Source) (step : Step) : Type 0 where
+  pub came : CameFrom visible content source
   pub sound : source.is_broken ≡ false
   pub ended : step.ended ≡ true → source.ended ≡ true
-  pub joined : told ≡ true → content.bytes ≡ step.read ++ source.left.bytes
+  pub joined : visible ≡ true → content.bytes ≡ step.read ++ source.left.bytes
 
 -- of standard input, reads gave at most what came in by this step and what was given back
 abbrev pub IsReadTo : ℕ → Source → Step → Type 0
@@ -156,9 +160,9 @@ abbrev pub IsUntaken : Source → Type 0
 IsUntaken source = (source.taken ≡ []) × (source.reached ≡ 0)
 
 -- an engine was opened: since `before` the outputs have what is settled at first
-abbrev pub BeginsAt : {S : Type 0} → Terms S → (told : Bool) → S → (old before : List Slot) → Type 0
-BeginsAt terms told stage old before = terms.Owns stage (length before) old
-    × OutputsAt told before ((terms.work stage).settled []) old
+abbrev pub BeginsAt : {S : Type 0} → Terms S → (visible : Bool) → S → (old before : List Slot) → Type 0
+BeginsAt terms visible stage old before = terms.Owns stage (length before) old
+    × OutputsAt visible before ((terms.work stage).settled []) old
 
 -- what an engine of this work is fed: the input of this number, by pieces of at most `most` bytes
 pub record Feed : Type 0 where
@@ -171,20 +175,20 @@ feed_of work most slot = record { work = work; most = most; slot = slot }
 
 -- How feeding an input ended, and what it left of the input: `old` and `new` are the sources before and after it,
 -- `slots` the outputs. `Begins` is true of the outputs before the engine was opened, which may have needed `opening`.
-abbrev pub FedFrom : (told_in told : Bool) → Feed → (old new : List Source) → (Begins : List Slot → Type 0)
+abbrev pub FedFrom : (visible_in visible : Bool) → Feed → (old new : List Source) → (Begins : List Slot → Type 0)
     → (slots : List Slot) → Result Fed Fault → Type 0
-FedFrom told_in told feed old new Begins slots result = (before : List Slot) (opening : Needs) → Begins before
-    → let source = source_at new feed.slot in OfContent told_in (source_at old feed.slot).left (λ content.
-    (FedAs told before feed.work content (λ call. IsCall feed.work opening feed.most content call
-    × LeavesOf told_in content source call
-    × (told_in ≡ true → IsUntaken (source_at old feed.slot) → IsReadTo feed.slot source call)) slots result
-    × (is_stop result ≡ false → SawEnd feed.work content source)) × CameFrom told_in content source)
+FedFrom visible_in visible feed old new Begins slots result = (before : List Slot) (opening : Needs) → Begins before
+    → let source = source_at new feed.slot in OfContent visible_in (source_at old feed.slot).left (λ content.
+    (FedAs visible before feed.work content (λ call. IsCall feed.work opening feed.most content call
+    × LeavesOf visible_in content source call
+    × (visible_in ≡ true → IsUntaken (source_at old feed.slot) → IsReadTo feed.slot source call)) slots result
+    × (is_stop result ≡ false → SawEnd feed.work content source)) × CameFrom visible_in content source)
 
 -- how feeding an engine of this work an input without bytes ended
-abbrev pub FedNothing : (told : Bool) → Work → (Begins : List Slot → Type 0) → (slots : List Slot) → Result Fed Fault
+abbrev pub FedNothing : (visible : Bool) → Work → (Begins : List Slot → Type 0) → (slots : List Slot) → Result Fed Fault
     → Type 0
-FedNothing told work Begins slots result = (before : List Slot) (opening : Needs) (most : ℕ) → Begins before
-    → FedAs told before work empty (IsCall work opening most empty) slots result
+FedNothing visible work Begins slots result = (before : List Slot) (opening : Needs) (most : ℕ) → Begins before
+    → FedAs visible before work empty (IsCall work opening most empty) slots result
 
 -- What a tool that is done with an input took of it, and what it left: it took enough, and no more than it needed.
 pub record Uses (work : Work) (most slot : ℕ) (there : Content) (source : Source) : Type 0 where

@@ -90,6 +90,6 @@ AreFrom was_read slot (name ∷ names) (input ∷ inputs) = IsFor was_read slot 
 
 -- The inputs are inputs for these names. If bytes are visible, they are what is there; if not, nothing is said of their
 -- bytes, nor of what they show.
-pub record Finds (told : Bool) (world : World) (names : List (List ℕ)) (inputs : List Input) : Type 0 where
+pub record Finds (visible : Bool) (world : World) (names : List (List ℕ)) (inputs : List Input) : Type 0 where
   pub are : AreFrom false 1 names inputs
-  pub there : told ≡ true → inputs ≡ inputs_at world names
+  pub there : visible ≡ true → inputs ≡ inputs_at world names

@@ -2,29 +2,29 @@
 use Rattle.std.specs.Prelude.{◌≡◌, ℕ, ◌≤◌, ◌<◌, Bool, true, false, List, [], ◌∷◌, ◌⊎◌, length, Option, Some, None}
 use Rattle.ports_core.specs.{
   Source.{Content, Source, source_at, source_of},
-  Work.Work,
   Inputs.CameFrom,
   declared.reason.Reason.{Reason, TheVariants.Other},
 }
+use Rattle.engine_core.specs.Work.{Work}
 use Rattle.run_core.specs.{Feeding.{IsReadTo, LeavesOf, Step, SawEnd, Uses}, Input.{Input, next_slot}}
 
 -- What is left of an input that was done, by its source. If bytes are visible, all is left except what was used. If the
 -- input ended, a read reported that, or the output was complete. An input that couldn't be opened isn't open.
 abbrev pub IsLeft : Bool → Work → ℕ → ℕ → Option Content → Source → Type 0
-IsLeft told work most slot None source = source.is_open ≡ false
-IsLeft told work most slot (Some content) source = (told ≡ true → Uses work most slot content source)
-    × CameFrom told content source × SawEnd work content source
+IsLeft visible work most slot None source = source.is_open ≡ false
+IsLeft visible work most slot (Some content) source = (visible ≡ true → Uses work most slot content source)
+    × CameFrom visible content source × SawEnd work content source
 
 -- what is left of an input that was done, by its number; a later `-` has none
 abbrev pub IsDone : Bool → Work → ℕ → Option ℕ → Option Content → List Source → Type 0
-IsDone told work most None content sources = Unit {0}
-IsDone told work most (Some slot) content sources = (slot < length sources)
-    × IsLeft told work most slot content (source_at sources slot)
+IsDone visible work most None content sources = Unit {0}
+IsDone visible work most (Some slot) content sources = (slot < length sources)
+    × IsLeft visible work most slot content (source_at sources slot)
 
 abbrev pub AreDone : Bool → (Option (List ℕ) → Work) → ℕ → List Input → List Source → Type 0
-AreDone told work most [] sources = Unit {0}
-AreDone told work most (input ∷ inputs) sources =
-    IsDone told (work input.shown) most input.slot input.content sources × AreDone told work most inputs sources
+AreDone visible work most [] sources = Unit {0}
+AreDone visible work most (input ∷ inputs) sources =
+    IsDone visible (work input.shown) most input.slot input.content sources × AreDone visible work most inputs sources
 
 -- why a source broke; `Other` without a source
 abbrev pub reason_of : Option ℕ → List Source → Reason
@@ -33,9 +33,9 @@ reason_of (Some slot) sources = (source_at sources slot).reason
 
 -- what is left of an input by its number, if a fault stopped this step
 abbrev pub LeavesAt : Bool → Content → Option ℕ → List Source → Step → Type 0
-LeavesAt told content None sources = λ step. Unit {0}
-LeavesAt told content (Some slot) sources = λ step. LeavesOf told content (source_at sources slot) step
-    × (told ≡ true → IsReadTo slot (source_at sources slot) step)
+LeavesAt visible content None sources = λ step. Unit {0}
+LeavesAt visible content (Some slot) sources = λ step. LeavesOf visible content (source_at sources slot) step
+    × (visible ≡ true → IsReadTo slot (source_at sources slot) step)
 
 -- an input to which a run didn't come: it wasn't opened, or nothing was asked of it
 abbrev pub IsUntouched : Option ℕ → Option Content → List Source → Type 0

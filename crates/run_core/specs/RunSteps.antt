@@ -4,45 +4,47 @@ use Rattle.ports_core.specs.{
   Slot.Slot,
   Source.{Content, Source, source_at},
   Inputs.HasLooked,
-  Part.{OutputsAt, StoppedBetween, nothing},
+  declared.fault.Fault.Fault,
+}
+use Rattle.engine_core.specs.{
+  Written.{OutputsAt, StoppedBetween, nothing},
   Swept.Swept,
   Work.{Work, Needs},
-  Guard.{GuardState, HoldsIn},
+  EngineState.{EngineState, HoldsIn},
   Engine.{Terms, is_verdict},
-  declared.fault.Fault.Fault,
 }
 use Rattle.run_core.specs.{Feeding.{Stops, call_of}, Input.World, Task.Task}
 
 -- a tool's engine was opened from these outputs
-pub record Opens {S : Type 0} (terms : Terms S) (asked : Work) (told : Bool) (old new : List Slot)
-    (engine : GuardState S) : Type 0 where
+pub record Opens {S : Type 0} (terms : Terms S) (asked : Work) (visible : Bool) (old new : List Slot)
+    (engine : EngineState S) : Type 0 where
   pub fresh : HoldsIn terms.Holds engine []
   pub does : terms.work engine.stage ≡ asked
   pub bound : engine.fed < 2 ^ 63
   pub ready : terms.Ready engine.stage new
   pub owns : terms.Owns engine.stage (length old) new
-  pub outputs : OutputsAt told old (asked.settled []) new
+  pub outputs : OutputsAt visible old (asked.settled []) new
 
 -- an engine couldn't be opened: the outputs have a beginning of what is first written, and files go if the work clears
 -- them
-pub record OpensShort (asked : Work) (opening : Needs) (told : Bool) (old new : List Slot)
+pub record OpensShort (asked : Work) (opening : Needs) (visible : Bool) (old new : List Slot)
     (fault : Fault) : Type 0 where
   pub unjudged : is_verdict fault ≡ false
   pub reached : List Slot
   pub why : Stops (call_of asked opening [] nothing (asked.settled [])) reached fault
-  pub stop : StoppedBetween asked.means.output told old nothing (asked.settled []) fault reached
+  pub stop : StoppedBetween asked.means.output visible old nothing (asked.settled []) fault reached
   pub swept : Swept asked.clears (length old) reached new
 
 -- how opening an engine for this task ended, if the input shows this text or none
-abbrev pub OpenedFor : {S : Type 0} → Terms S → Task → (shown : Option (List ℕ)) → (told : Bool)
-    → (old new : List Slot) → Result (GuardState S) Fault → Type 0
-OpenedFor terms task shown told old new result = IfOk result (Opens terms (task.work shown) told old new)
-    × IfErr result (OpensShort (task.work shown) (task.opening shown) told old new)
+abbrev pub OpenedFor : {S : Type 0} → Terms S → Task → (shown : Option (List ℕ)) → (visible : Bool)
+    → (old new : List Slot) → Result (EngineState S) Fault → Type 0
+OpenedFor terms task shown visible old new result = IfOk result (Opens terms (task.work shown) visible old new)
+    × IfErr result (OpensShort (task.work shown) (task.opening shown) visible old new)
 
 -- what a source shows, if bytes are visible; without a source nothing is shown
 abbrev pub IsShown : Bool → Option ℕ → List Source → Option (List ℕ) → Type 0
-IsShown told None sources shown = shown ≡ None
-IsShown told (Some slot) sources shown = told ≡ true → shown ≡ (source_at sources slot).left.shown
+IsShown visible None sources shown = shown ≡ None
+IsShown visible (Some slot) sources shown = visible ≡ true → shown ≡ (source_at sources slot).left.shown
 
 -- nothing was done at a source except looks, of at most `most` bytes each
 abbrev pub OnlyLooked : ℕ → Option ℕ → List Source → List Source → Type 0

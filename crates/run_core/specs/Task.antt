@@ -2,10 +2,9 @@
 use Rattle.std.specs.{
   Prelude.{is_some, ℕ, ◌||◌, ◌&&◌, Bool, true, false, List, [], ◌∷◌, ◌++◌, Option, Some, None, if◌then◌else◌},
 }
+use Rattle.engine_core.specs.{Written.{Written, nothing, only_out}, Work.{Work, Needs}}
 use Rattle.ports_core.specs.{
-  Part.{Part, nothing, only_out},
   Source.Content,
-  Work.{Work, Needs},
   Text.{Message, message_of, header_of},
   declared.{calling.Speaker.Speaker, fault.Fault.TheVariants.{Read, Open}, verdict.Verdict.Verdict},
 }
@@ -28,7 +27,7 @@ pub record Task : Type 0 where
 -- what a run leaves if its outputs take all that it writes
 pub record Outcome : Type 0 where
   -- standard output, and the files in order
-  pub part : Part
+  pub part : Written
   -- what is reported on standard error, in order
   pub messages : List Message
   -- whether there is a fault or a verdict: an input can't be opened or read further, or its work ends with a verdict
@@ -43,7 +42,7 @@ abbrev pub no_outcome : Outcome
 no_outcome = record { part = nothing; messages = []; failed = false; sweeps = false }
 
 -- a part, and what is written after it
-abbrev pub after_part : Part → Part → Part
+abbrev pub after_part : Written → Written → Written
 after_part first next = record { out = first.out ++ next.out; files = first.files ++ next.files }
 
 abbrev pub joined : Outcome → Outcome → Outcome

@@ -2,7 +2,8 @@ ghost use Rattle.std.specs.Prelude.{◌≡◌, ◌≤◌, ◌<◌, ℕ, List, Op
 ghost use Rattle.ports_core.specs.{Source.is_readable, Slot.is_writable};
 ghost use Rattle.run_core.specs.{Task.Task, RunSteps.{IsShown, OnlyLooked, OpenedFor}};
 
-use ports_core::{Fault, Guarded, Inputs, Outs, Speaker, Stage, Verdict};
+use engine_core::{Engine, Stage};
+use ports_core::{Fault, Inputs, Outs, Speaker, Verdict};
 use std::alloc::Global;
 
 /// What a run knows of a tool that feeds each of its inputs to an engine of its own.
@@ -39,13 +40,13 @@ pub trait Adapter {
         buffer: &mut [u8],
         inputs: &mut I,
         outs: &mut O,
-    ) -> Result<Guarded<Self::Driven>, Fault>
+    ) -> Result<Engine<Self::Driven>, Fault>
         requires room { 0 < length buffer.old }
         requires input { IfSome source (λ slot. IsTrue (is_readable (I.sources inputs.old) slot)) }
         requires streams { 2 ≤ length (O.slots outs.old) }
         requires output { IsTrue (is_writable (O.slots outs.old) 0) }
-        ensures opens { (shown : Option (List ℕ)) × IsShown I.told source (I.sources inputs.old) shown
-            × OpenedFor Self.Driven.terms (task self.now) shown O.told (O.slots outs.old) (O.slots outs.new) result }
+        ensures opens { (shown : Option (List ℕ)) × IsShown I.visible source (I.sources inputs.old) shown
+            × OpenedFor Self.Driven.terms (task self.now) shown O.visible (O.slots outs.old) (O.slots outs.new) result }
         ensures looked { OnlyLooked (length buffer.old) source (I.sources inputs.old) (I.sources inputs.new) }
         ensures laid { I.laid inputs.new ≡ I.laid inputs.old };
 }

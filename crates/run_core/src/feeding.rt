@@ -3,16 +3,16 @@ ghost use Rattle.std.specs.Prelude.{◌≡◌, ◌^◌, ◌<◌, ◌≤◌, ℕ,
 ghost use Rattle.ports_core.specs.{
   Slot.changed_at,
   Source.{ReadFails, source_at, is_readable, gives, Gave, BrokeOff},
-  Guard.HoldsIn,
-  Engine.{Clears, is_verdict},
   Inputs.KeepsOthers,
 };
+ghost use Rattle.engine_core.specs.{EngineState.HoldsIn, Engine.{Clears, is_verdict}};
 ghost use Rattle.run_core.specs.{
   Feeding.{BeginsAt, FedFrom, FedNothing, IsUntaken, ReadsFor, Uses, feed_of, is_stop},
   inner.RunSteps.EndsSo,
 };
 
-use ports_core::{Fault, Guarded, Inputs, Outs, Stage};
+use engine_core::{Engine, Stage};
+use ports_core::{Fault, Inputs, Outs};
 
 /// What became of an input.
 #[derive(Clone, Copy, Debug, PartialEq, Eq)]
@@ -34,7 +34,7 @@ pub enum Fed {
 ///
 /// The engine's fault.
 pub fn feed_input<S: Stage, I: Inputs, O: Outs>(
-    engine: &mut Guarded<S>,
+    engine: &mut Engine<S>,
     slot: usize,
     buffer: &mut [u8],
     inputs: &mut I,
@@ -46,13 +46,13 @@ pub fn feed_input<S: Stage, I: Inputs, O: Outs>(
     requires input { IsTrue (is_readable (I.sources inputs.old) slot) }
     requires output { S.terms.Ready engine.old.stage (O.slots outs.old) }
     requires owns { (first : ℕ) × S.terms.Owns engine.old.stage first (O.slots outs.old) }
-    ensures ends { FedFrom I.told O.told (feed_of (S.terms.work engine.old.stage) (length buffer.old) slot)
+    ensures ends { FedFrom I.visible O.visible (feed_of (S.terms.work engine.old.stage) (length buffer.old) slot)
         (I.sources inputs.old) (I.sources inputs.new)
-        (BeginsAt S.terms O.told engine.old.stage (O.slots outs.old)) (O.slots outs.new) result }
-    ensures reads { I.told ≡ true
+        (BeginsAt S.terms O.visible engine.old.stage (O.slots outs.old)) (O.slots outs.new) result }
+    ensures reads { I.visible ≡ true
         → ReadsFor (S.terms.work engine.old.stage).is_complete (length buffer.old)
         (source_at (I.sources inputs.old) slot).left (source_at (I.sources inputs.new) slot).left }
-    ensures used { I.told ≡ true → is_stop result ≡ false → IsUntaken (source_at (I.sources inputs.old) slot)
+    ensures used { I.visible ≡ true → is_stop result ≡ false → IsUntaken (source_at (I.sources inputs.old) slot)
         → Uses (S.terms.work engine.old.stage) (length buffer.old) slot (source_at (I.sources inputs.old) slot).left
         (source_at (I.sources inputs.new) slot) }
     ensures asked { (source_at (I.sources inputs.old) slot).asked ≤ length buffer.old
@@ -117,11 +117,11 @@ fn read_part<I: Inputs>(
     requires some { 0 < size }
     requires within { size ≤ length buffer.old }
     ensures bound { IfOk result (λ n. n ≤ size) }
-    ensures bytes { IfOk result (λ n. I.told ≡ true
+    ensures bytes { IfOk result (λ n. I.visible ≡ true
         → Gave (source_at (I.sources inputs.old) slot).left buffer.old buffer.new n) }
     ensures rest { IfOk result (λ n. I.sources inputs.new ≡ changed_at slot (gives size n) (I.sources inputs.old)) }
     ensures err { IfErr result (λ fault. ReadFails slot size (I.sources inputs.old) (I.sources inputs.new)) }
-    ensures break_off { IfErr result (λ _. I.told ≡ true → BrokeOff (source_at (I.sources inputs.old) slot).left) }
+    ensures break_off { IfErr result (λ _. I.visible ≡ true → BrokeOff (source_at (I.sources inputs.old) slot).left) }
     ensures kept { I.laid inputs.new ≡ I.laid inputs.old }
     ensures room { length buffer.new ≡ length buffer.old }
 {
@@ -136,13 +136,13 @@ fn read_part<I: Inputs>(
 /// # Errors
 ///
 /// The engine's fault.
-pub fn feed_nothing<S: Stage, O: Outs>(engine: &mut Guarded<S>, outs: &mut O) -> Result<Fed, Fault>
+pub fn feed_nothing<S: Stage, O: Outs>(engine: &mut Engine<S>, outs: &mut O) -> Result<Fed, Fault>
     requires fresh { HoldsIn S.terms.Holds engine.old [] }
     requires bound { engine.old.fed < 2 ^ 63 }
     requires output { S.terms.Ready engine.old.stage (O.slots outs.old) }
     requires owns { (first : ℕ) × S.terms.Owns engine.old.stage first (O.slots outs.old) }
-    ensures ends { FedNothing O.told (S.terms.work engine.old.stage)
-        (BeginsAt S.terms O.told engine.old.stage (O.slots outs.old)) (O.slots outs.new) result }
+    ensures ends { FedNothing O.visible (S.terms.work engine.old.stage)
+        (BeginsAt S.terms O.visible engine.old.stage (O.slots outs.old)) (O.slots outs.new) result }
 {
     if engine.done() {
         return end(engine, Fed::Enough, outs);
@@ -155,10 +155,10 @@ pub fn feed_nothing<S: Stage, O: Outs>(engine: &mut Guarded<S>, outs: &mut O) ->
 /// # Errors
 ///
 /// The engine's fault.
-fn end<S: Stage, O: Outs>(engine: &mut Guarded<S>, fed: Fed, outs: &mut O) -> Result<Fed, Fault>
+fn end<S: Stage, O: Outs>(engine: &mut Engine<S>, fed: Fed, outs: &mut O) -> Result<Fed, Fault>
     requires ready { engine.old.is_over ≡ false → S.terms.Ready engine.old.stage (O.slots outs.old) }
     requires owns { (first : ℕ) × S.terms.Owns engine.old.stage first (O.slots outs.old) }
-    ensures { EndsSo S.terms O.told engine.old fed (O.slots outs.old) (O.slots outs.new) result }
+    ensures { EndsSo S.terms O.visible engine.old fed (O.slots outs.old) (O.slots outs.new) result }
 {
     match engine.close(outs) {
         Ok(()) => Ok(fed),
@@ -167,7 +167,7 @@ fn end<S: Stage, O: Outs>(engine: &mut Guarded<S>, fed: Fed, outs: &mut O) -> Re
 }
 
 /// Gives up an engine's files after its fault, unless that is a verdict on its input, and returns the fault.
-fn given_up<S: Stage, O: Outs>(engine: &mut Guarded<S>, fault: Fault, outs: &mut O) -> Fault
+fn given_up<S: Stage, O: Outs>(engine: &mut Engine<S>, fault: Fault, outs: &mut O) -> Fault
     requires { is_verdict fault ≡ false → ((first : ℕ) × S.terms.Owns engine.old.stage first (O.slots outs.old)) }
     ensures same { result ≡ fault }
     ensures judged { is_verdict fault ≡ true → O.slots outs.new ≡ O.slots outs.old }

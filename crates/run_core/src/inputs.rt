@@ -3,7 +3,7 @@ ghost use Rattle.std.specs.{
   Prelude.{◌≡◌, ◌<◌, ◌≤◌, ℕ, List, Option, true, false, map, length, IfErr, IfSome, OnOk, OnErr, IsTrue},
 };
 ghost use Rattle.ports_core.specs.{
-  Slot.{is_open, slot_at, is_writable, streams, told_of, with_written},
+  Slot.{is_open, slot_at, is_writable, streams, visible_of, with_written},
   Source.{source_at, is_readable, IsFresh},
   Inputs.{AsksAtMost, largest_piece},
   Message.SaysOn,
@@ -62,9 +62,9 @@ pub fn run_inputs<A: Adapter, I: Inputs, O: Outs>(
         → length (map (λ name. name.now) names.now) ≤ 1 }
     ensures untouched { has_dash (map (λ name. name.now) names.now) ≡ false
         → source_at (I.sources inputs.new) 0 ≡ source_at (I.sources inputs.old) 0 }
-    ensures ends { RunsOver I.told (world_of (I.laid inputs.old) (I.sources inputs.old))
+    ensures ends { RunsOver I.visible (world_of (I.laid inputs.old) (I.sources inputs.old))
         (map (λ name. name.now) names.now)
-        (λ found. EndsAs I.told O.told (A.task adapter.now) found (I.sources inputs.new)
+        (λ found. EndsAs I.visible O.visible (A.task adapter.now) found (I.sources inputs.new)
         (O.slots outs.new) result) }
     ensures opened { length (I.sources inputs.new) ≤ count_after 1 (map (λ name. name.now) names.now) }
     ensures asked { AsksAtMost largest_piece (I.sources inputs.new) }
@@ -96,9 +96,9 @@ fn take_names<A: Adapter, I: Inputs, O: Outs>(
     requires outputs { O.slots outs.old ≡ streams }
     requires alone { (shown : Option (List ℕ)) → ((A.task job.now.adapter.now).work shown).clears ≡ true
         → length (map (λ name. name.now) names.now) ≤ 1 }
-    ensures took { RunsOver I.told (world_of (I.laid inputs.old) (I.sources inputs.old))
+    ensures took { RunsOver I.visible (world_of (I.laid inputs.old) (I.sources inputs.old))
         (map (λ name. name.now) names.now)
-        (λ found. TookAll I.told O.told (A.task job.now.adapter.now) found (I.sources inputs.new)
+        (λ found. TookAll I.visible O.visible (A.task job.now.adapter.now) found (I.sources inputs.new)
         (O.slots outs.new) result) }
     ensures opened { length (I.sources inputs.new) ≤ count_after 1 (map (λ name. name.now) names.now) }
     ensures asked { AsksAtMost largest_piece (I.sources inputs.new) }
@@ -135,9 +135,9 @@ fn take_name<A: Adapter, I: Inputs, O: Outs>(
     requires some { 0 < length (I.sources inputs.old) }
     requires standard { progress.was_read ≡ false → IsTrue (is_readable (I.sources inputs.old) 0) }
     requires unread { progress.was_read ≡ false → IsUntaken (source_at (I.sources inputs.old) 0) }
-    requires outputs { HasStreams O.told (O.slots outs.old) }
-    ensures took { (had : HasStreams O.told (O.slots outs.old))
-        → TookName I.told (I.laid inputs.old) (A.task job.now.adapter.now) name.now
+    requires outputs { HasStreams O.visible (O.slots outs.old) }
+    ensures took { (had : HasStreams O.visible (O.slots outs.old))
+        → TookName I.visible (I.laid inputs.old) (A.task job.now.adapter.now) name.now
         (start_at had progress (length buffer.old) (I.sources inputs.old)) (I.sources inputs.new) (O.slots outs.new)
         result }
     ensures takes { TakesOne (length buffer.old) progress.was_read name.now (I.sources inputs.old)
@@ -208,9 +208,9 @@ fn take_input<A: Adapter, I: Inputs, O: Outs>(
     requires room { 0 < length buffer.old }
     requires input { IfSome source (λ slot. IsTrue (is_readable (I.sources inputs.old) slot)) }
     requires unread { IfSome source (λ slot. IsUntaken (source_at (I.sources inputs.old) slot)) }
-    requires outputs { HasStreams O.told (O.slots outs.old) }
-    ensures took { (had : HasStreams O.told (O.slots outs.old))
-        → TookSource I.told (A.task job.now.adapter.now) name.now source
+    requires outputs { HasStreams O.visible (O.slots outs.old) }
+    ensures took { (had : HasStreams O.visible (O.slots outs.old))
+        → TookSource I.visible (A.task job.now.adapter.now) name.now source
         (start_at had progress (length buffer.old) (I.sources inputs.old)) (I.sources inputs.new) (O.slots outs.new)
         result }
     ensures asked { AsksAtMost (length buffer.old) (I.sources inputs.old)
@@ -257,7 +257,7 @@ fn say_why<A: Adapter, I: Inputs, O: Outs>(
     outs: &mut O,
 )
     requires { is_open (slot_at (O.slots outs.old) 1).state ≡ true }
-    ensures { SaysOn O.told (A.task job.now.adapter.now).speaker (reason_of source (I.sources inputs.now))
+    ensures { SaysOn O.visible (A.task job.now.adapter.now).speaker (reason_of source (I.sources inputs.now))
         (message_of fault.now name.now) (O.slots outs.old) (O.slots outs.new) }
 {
     let why = reason_of(source, inputs);
@@ -287,11 +287,12 @@ fn put_header<A: Adapter, O: Outs>(
 ) -> Result<(), Fault>
     requires { IsTrue (is_writable (O.slots outs.old) 0) }
     ensures ok { OnOk result (O.slots outs.new
-        ≡ with_written 0 (told_of O.told (header_text (A.task job.now.adapter.now).with_header is_first name.now))
+        ≡ with_written 0 (visible_of O.visible (header_text (A.task job.now.adapter.now).with_header is_first name.now))
         (O.slots outs.old)) }
     ensures due { OnErr result ((A.task job.now.adapter.now).with_header ≡ true) }
     ensures err { IfErr result
-        (HeaderFails O.told (header_text (A.task job.now.adapter.now).with_header is_first name.now) (O.slots outs.old)
+        (HeaderFails O.visible (header_text (A.task job.now.adapter.now).with_header is_first name.now)
+        (O.slots outs.old)
         (O.slots outs.new)) }
 {
     if !job.adapter.with_header() {
@@ -318,7 +319,7 @@ fn feed_source<A: Adapter, I: Inputs, O: Outs>(
     requires unread { IfSome source (λ slot. IsUntaken (source_at (I.sources inputs.old) slot)) }
     requires streams { 2 ≤ length (O.slots outs.old) }
     requires output { IsTrue (is_writable (O.slots outs.old) 0) }
-    ensures fed { FedSource I.told O.told (A.task job.now.adapter.now) (length buffer.old) source
+    ensures fed { FedSource I.visible O.visible (A.task job.now.adapter.now) (length buffer.old) source
         (moment_of (I.sources inputs.old) (O.slots outs.old)) (moment_of (I.sources inputs.new) (O.slots outs.new))
         result }
     ensures asked { AsksAtMost (length buffer.old) (I.sources inputs.old)

@@ -7,11 +7,10 @@ use Rattle.std.proofs.{
 use Rattle.ports_core.specs.Source.{Content, unshown}
 use Rattle.mem_core.specs.MemInState.{shown_by}
 use Rattle.words_core.specs.{Words.settings_of, declared.settings.Settings.Settings}
-use Rattle.tools_core.specs.{
-  Outcome.names_at,
+use Rattle.tools_core.specs.{Outcome.names_at, Tasks.names_of}
+use Rattle.promises_core.specs.{
   Promises.{Completes, FindAlike, Gives, HasInput, IsSilent, IsStopped, LeaveAlike, Ran, ShowAlike, in_full},
   Promises.looks_at_length,
-  Tasks.names_of,
 }
 use Rattle.tools_core.specs.Run.{Run}
 use Rattle.run_tests.specs.inner.Calls.{IsCutShort}

@@ -24,7 +24,7 @@ use Rattle.words_core.specs.{
     value.Followed.{Followed, TheVariants.{Descriptor, Name, PresentName, FirstFile}},
   },
 }
-use Rattle.tools_core.specs.Promises.{showing}
+use Rattle.promises_core.specs.Promises.{showing}
 use Rattle.ports_core.specs.declared.tool.Tool.TheVariants as tool
 use Rattle.tools_core.specs.Run.{Run}
 

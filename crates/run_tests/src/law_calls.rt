@@ -1,17 +1,18 @@
-//! More callers of `run_words` that rest on the laws of `tools_core`, as those of `law_tests` do: by both ways to call the program, over a
+//! More callers of `run_words` that rest on the laws of `promises_core`, as those of `law_tests` do: by both ways to call the program, over a
 //! file that shows its bytes or another text, and of runs that a fault may stop.
 ghost use Rattle.std.specs.{
   Prelude.{◌≡◌, ◌<◌, ◌^◌, ◌⊎◌, ◌∷◌, ◌++◌, [], ℕ, List, Ok, true, false, length, map, codes, IfOk, IfSome},
 };
 ghost use Rattle.mem_core.specs.MemInState.{shown_by, with_break};
-ghost use Rattle.ports_core.specs.{Part.IsBeginning, Slot.{slot_at, streams}, Source.IsFresh};
+ghost use Rattle.engine_core.specs.Written.{IsBeginning};
+ghost use Rattle.ports_core.specs.{Slot.{slot_at, streams}, Source.IsFresh};
 ghost use Rattle.run_tests.specs.inner.Calls.{IsCutShort, in_file, in_pipe, run_of};
 ghost use Rattle.seg_core.specs.declared.{count.Sign.TheVariants.{Minus, Plain}, cut.Chunks.{Chunks}};
-ghost use Rattle.tools_core.specs.{
+ghost use Rattle.promises_core.specs.{
   Promises.{AreDealt, BeginsEach, Completes, CountAlike, EndsWithBreak, FindAlike, IsChunkAsShown, IsCutAsShown},
   Promises.{LeaveAlike, Ran, SaysWhy, ShowAlike, Splits, counted, output_of, takes_shown},
-  Tasks.names_of,
 };
+ghost use Rattle.tools_core.specs.Tasks.{names_of};
 ghost use Rattle.words_core.specs.{
   EndsWords.EndsAsked,
   SplitWords.SplitAsked,
@@ -25,13 +26,13 @@ ghost use Rattle.tools_core.specs.Run.{Run};
 use crate::law_tests::{left_of, left_over, ran, ran_over};
 use mem_core::{MemIn, MemOut};
 use ports_core::{Calling, Fault, Outs, Reason};
-use std::alloc::Global;
-use std::process::Abort;
-use std::test::Fail;
-use tools_core::{
+use promises_core::{
     cutting_changes_nothing, faults_leave_a_beginning, head_and_tail_meet, split_loses_nothing,
     tee_copies,
 };
+use std::alloc::Global;
+use std::process::Abort;
+use std::test::Fail;
 
 /// An empty standard input, and a file `f` with these bytes, which shows that text before it is read.
 fn file_input(alloc: Global, bytes: &[u8], shown: &[u8]) -> Result<MemIn, Fault>

@@ -1,4 +1,4 @@
-//! Callers of `run_words`, as the program is one, that rest on the laws of `tools_core`: what each of them ensures follows by one law
+//! Callers of `run_words`, as the program is one, that rest on the laws of `promises_core`: what each of them ensures follows by one law
 //! from what `run_words` ensures, and nothing is known here of what the tools do.
 ghost use Rattle.std.specs.{
   Prelude.{◌≡◌, ◌+◌, ◌++◌, ◌∷◌, [], ℕ, List, Option, None, Some, map, drop, codes, true, false, IfOk, IfSome},
@@ -14,9 +14,10 @@ ghost use Rattle.seg_core.specs.{
 };
 ghost use Rattle.ports_core.specs.{Slot.{Slot, slot_at, streams}, Source.IsFresh};
 ghost use Rattle.run_tests.specs.inner.Calls.{in_pipe, run_of};
-ghost use Rattle.tools_core.specs.{
-  Following.is_name,
-  Promises.{forgives_gone, AreCopies, Does, CountAlike, IsBare, OnlyGrows, Ran, SkipNothing, counted, tail_part, to_follow},
+ghost use Rattle.tools_core.specs.Following.{is_name};
+ghost use Rattle.promises_core.specs.{
+  Promises.{forgives_gone, AreCopies, Does, CountAlike, IsBare, OnlyGrows, Ran, SkipNothing, counted, tail_part},
+  Promises.to_follow,
 };
 ghost use Rattle.words_core.specs.{
   CsplitWords.CsplitAsked,
@@ -34,13 +35,14 @@ ghost use Rattle.tools_core.specs.Run.{Run};
 
 use mem_core::{Edit, MemIn, MemOut, MemWatch};
 use ports_core::{Calling, Fault, Outs};
+use promises_core::{
+    csplit_loses_nothing, cutting_changes_nothing, head_and_tail_meet, program_makes_these_runs,
+    split_loses_nothing, tail_follows, tee_copies,
+};
 use std::alloc::Global;
 use std::process::Abort;
 use std::test::Fail;
-use tools_core::{
-    csplit_loses_nothing, cutting_changes_nothing, head_and_tail_meet, program_makes_these_runs,
-    run_words, split_loses_nothing, tail_follows, tee_copies,
-};
+use tools_core::run_words;
 
 /// Standard input with these bytes, of which a read gives this many, and no files.
 fn standard_input(alloc: Global, bytes: &[u8], pieces: usize) -> Result<MemIn, Fault>

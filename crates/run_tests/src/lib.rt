@@ -1,4 +1,4 @@
-//! Tests of whole runs: `tools_core` over memory.
+//! Tests of whole runs: `tools_core` over memory, and callers that rest on `promises_core`.
 #![tactic(auto)]
 
 #[cfg(test)]

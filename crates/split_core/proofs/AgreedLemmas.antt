@@ -6,16 +6,18 @@ use Rattle.std.proofs.{
   Math.Seq.drop-append_seam,
 }
 use Rattle.seg_core.specs.{Line.{joined}, declared.cut.{Cut.Cut, Limit.{Limit}}, Cut.{most, IsPositive}}
-use Rattle.ports_core.specs.{
+use Rattle.engine_core.specs.{
   Draft.{opening_line, told_of_files},
-  Name.{Naming, has_name},
-  Part.{IsBeginning, openings_for},
-  Slot.Slot,
+  Written.{IsBeginning, openings_for},
   Work.{IsLawful, Work},
   Agreed.{CanCome, IsAgreed, file_bytes, output_at, outputs_of},
+}
+use Rattle.ports_core.specs.{
+  Name.{Naming, has_name},
+  Slot.Slot,
   declared.slot.State.{State, TheVariants.{Open, Closed}},
 }
-use Rattle.ports_core.proofs.{AgreedLemmas.{none_comes, agreed_now, beginning_short, common}}
+use Rattle.engine_core.proofs.{AgreedLemmas.{none_comes, agreed_now, beginning_short, common}}
 use Rattle.split_core.specs.{
   Parts.{after_first, cut_up, unless_empty, parts, settled_rest, waiting_rest},
   inner.CutLaws.named,

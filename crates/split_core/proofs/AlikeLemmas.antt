@@ -9,15 +9,17 @@ use Rattle.std.proofs.{
   },
   Math.Seq.drop-append_seam,
 }
-use Rattle.ports_core.specs.{
-  Engine.{CutsOff, EndsThere, Finishes, IsMet, IsMetThere, IsMetWith, Passes, PutsOut, StandsAt, TakesIn},
-  Engine.{Terms, TookIn},
-  Part.{Part},
-  Slot.{Slot, effect},
+use Rattle.engine_core.specs.{
+  Engine.{CutsOff, EndsThere, Finishes, IsMet, IsMetThere, IsMetWith, Passes, PutsOut, StandsAt, TakesIn, Terms},
+  Engine.TookIn,
+  Written.Written,
   Work.{IsLawful, IsNeeded, IsSpare, Means, Needs, Work},
+}
+use Rattle.ports_core.specs.{
+  Slot.{Slot, effect},
   declared.{fault.Fault.{Fault, TheVariants.{Memory, Open, Write}}, verdict.Verdict.Verdict},
 }
-use Rattle.ports_core.proofs.SpareLemmas.{all_used, complete_used, none_spare}
+use Rattle.engine_core.proofs.SpareLemmas.{all_used, complete_used, none_spare}
 use Rattle.split_core.specs.Alike.{AreAlike, as_if}
 use Rattle.ports_core.specs.declared.fault.Fault.TheVariants as fault_is
 
@@ -106,20 +108,21 @@ module _ {S : Type 0} (terms : Terms S) where
       → TakesIn (as_if terms).Holds piece old new
   takes_in {piece} same takes x is = grind (arith, common_steps, alike_more)
 
-  stands_so : {old : S} {told : Bool} {start before : List Slot} {x : List ℕ}
-      → (at : StandsAt (as_if terms) old told start x before) → StandsAt terms old told start at.holds.other before
+  stands_so : {old : S} {visible : Bool} {start before : List Slot} {x : List ℕ}
+      → (at : StandsAt (as_if terms) old visible start x before)
+      → StandsAt terms old visible start at.holds.other before
   stands_so at = grind (arith, common_steps, settled_as)
 
-  puts_out : {old : S} {told : Bool} {before after : List Slot} {due : List ℕ → Part}
+  puts_out : {old : S} {visible : Bool} {before after : List Slot} {due : List ℕ → Written}
       → ((x z : List ℕ) → AreAlike (terms.work old) x z → due x ≡ due z)
-      → PutsOut terms old due (effect told before after)
-      → PutsOut (as_if terms) old due (effect told before after)
+      → PutsOut terms old due (effect visible before after)
+      → PutsOut (as_if terms) old due (effect visible before after)
   puts_out same puts start x at = rw (same x at.holds.other at.holds.alike) (puts start at.holds.other (stands_so at))
 
-  cuts_off : {old : S} {told : Bool} {before after : List Slot} {why : Fault} {due : List ℕ → Part}
+  cuts_off : {old : S} {visible : Bool} {before after : List Slot} {why : Fault} {due : List ℕ → Written}
       → ((x z : List ℕ) → AreAlike (terms.work old) x z → due x ≡ due z)
-      → CutsOff terms old due (effect told before after) why
-      → CutsOff (as_if terms) old due (effect told before after) why
+      → CutsOff terms old due (effect visible before after) why
+      → CutsOff (as_if terms) old due (effect visible before after) why
   cuts_off same cuts start x at = rw (settled_as at.holds.alike, same x at.holds.other at.holds.alike)
       (cuts start at.holds.other (stands_so at))
 
@@ -136,17 +139,17 @@ module _ {S : Type 0} (terms : Terms S) where
   ends_there : {stage : S} (verdict : Verdict) → EndsThere terms stage verdict → EndsThere (as_if terms) stage verdict
   ends_there {stage} verdict ends x is = verdict_as is.alike ∙ ends is.other is.holds
 
-  pub passes_as_if : {told : Bool} {piece : List ℕ} {old new : S} {before after : List Slot}
+  pub passes_as_if : {visible : Bool} {piece : List ℕ} {old new : S} {before after : List Slot}
       (result : Result (Unit {0}) Fault)
-      → Passes terms piece old new (effect told before after) (IsMetWith terms piece old) result
-      → Passes (as_if terms) piece old new (effect told before after) (IsMetWith (as_if terms) piece old) result
+      → Passes terms piece old new (effect visible before after) (IsMetWith terms piece old) result
+      → Passes (as_if terms) piece old new (effect visible before after) (IsMetWith (as_if terms) piece old) result
   passes_as_if {piece = piece} {old} (Ok done) passes = let outputs = puts_out (λ x z alike. alike.settled piece) passes.outputs in
       grind (arith, takes_in)
   passes_as_if {piece = piece} {old} (Err why) passes = let cut = cuts_off (λ x z alike. alike.settled piece) passes.cut in grind arith
 
-  pub finishes_as_if : {told : Bool} {old new : S} {before after : List Slot} (result : Result (Unit {0}) Fault)
-      → Finishes terms old new (effect told before after) (IsMetThere terms old) result
-      → Finishes (as_if terms) old new (effect told before after) (IsMetThere (as_if terms) old) result
+  pub finishes_as_if : {visible : Bool} {old new : S} {before after : List Slot} (result : Result (Unit {0}) Fault)
+      → Finishes terms old new (effect visible before after) (IsMetThere terms old) result
+      → Finishes (as_if terms) old new (effect visible before after) (IsMetThere (as_if terms) old) result
   finishes_as_if {old = old} (Ok done) ends = let outputs = puts_out (λ x z alike. whole_as alike) ends.outputs in grind (arith, verdict_as)
   finishes_as_if {old = old} {before = before} {after} (Err why) ends = let cut = cuts_off (λ x z alike. whole_as alike) ends.cut in
       let met = met_so (terms.work old).means (terms.work old).means.closing (Unit {0}) before after why ends_there ends.met in search rules

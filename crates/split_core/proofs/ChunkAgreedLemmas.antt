@@ -25,8 +25,8 @@ use Rattle.seg_core.{
   specs.{Line.joined, declared.{cut.Chunks.Chunks, unit.Unit.{Unit as Which, TheVariants.{Bytes, Lines}}}},
   proofs.FirstLines.joined-append,
 }
-use Rattle.ports_core.{
-  specs.{Agreed.file_bytes, Part.IsBeginning},
+use Rattle.engine_core.{
+  specs.{Agreed.file_bytes, Written.IsBeginning},
   proofs.AgreedLemmas.{common, copies_come, none_comes, beginning_short},
 }
 use Rattle.split_core.specs.{

@@ -6,7 +6,7 @@ use Rattle.std.proofs.{
   Math.Seq.{drop-append-add, take-append-add},
 }
 use Rattle.seg_core.specs.declared.{cut.Chunks.Chunks, unit.Unit.{Unit, TheVariants.{Bytes, Lines}}}
-use Rattle.ports_core.specs.{Part.only_out, Work.IsLawful}
+use Rattle.engine_core.specs.{Written.only_out, Work.IsLawful}
 use Rattle.split_core.{
   specs.{
     Alike.AreAlike,

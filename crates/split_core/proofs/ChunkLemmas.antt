@@ -20,7 +20,8 @@ use Rattle.seg_core.{
     LineCounts.line_count-le-length,
   },
 }
-use Rattle.ports_core.specs.{Agreed.file_bytes, Draft.part_of, declared.slot.State.TheVariants.Closed}
+use Rattle.engine_core.specs.{Agreed.file_bytes, Draft.part_of}
+use Rattle.ports_core.specs.declared.slot.State.TheVariants.{Closed}
 use Rattle.split_core.{
   specs.{
     Chunks.{before_chunk, begun_before, chunk_at, chunk_start, chunks_in, chunks_of},

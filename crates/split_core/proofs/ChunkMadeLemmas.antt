@@ -13,15 +13,10 @@ use Rattle.std.proofs.{
 }
 use Rattle.std.specs.List.{filter}
 use Rattle.seg_core.specs.{Line.joined, declared.cut.Chunks.Chunks}
-use Rattle.ports_core.{
-  specs.{
-    Agreed.file_bytes,
-    Draft.{files_from},
-    Part.Part,
-    Slot.Slot,
-    declared.{slot.State.TheVariants.{Open, Closed}, verdict.Verdict.TheVariants.Changed},
-  },
-  proofs.{ShareLemmas.{closed_files}},
+use Rattle.engine_core.{specs.{Agreed.file_bytes, Draft.files_from, Written.Written}, proofs.ShareLemmas.closed_files}
+use Rattle.ports_core.specs.{
+  Slot.Slot,
+  declared.{slot.State.TheVariants.{Open, Closed}, verdict.Verdict.TheVariants.Changed},
 }
 use Rattle.split_core.specs.{
   Parts.{CutUp, unless_empty},
@@ -165,7 +160,7 @@ chunk_going place chunks None x within fits going = (
   0,
   omega arith,
   two_differ false (chunk_work 0 chunks None).whole
-      (λ (part : Part). part.out) (none_grows chunks x (omega arith)) (λ y. grind (arith, same_pieces)),
+      (λ (part : Written). part.out) (none_grows chunks x (omega arith)) (λ y. grind (arith, same_pieces)),
 )
 chunk_going place chunks (Some size) x within fits going =
     let few : ended chunks size x ≤ place = grind (arith, has_ended_before) in
@@ -173,7 +168,7 @@ chunk_going place chunks (Some size) x within fits going =
       length (chunks_of chunks size x).full,
       grind (arith, take_all, length-map-range_with_len),
       two_differ false (chunk_work (length (chunks_of chunks size x).full) chunks (Some size)).whole
-          (λ (part : Part). part.out) (said_grows chunks x (omega arith) short) (λ y. grind (arith, same_pieces)),
+          (λ (part : Written). part.out) (said_grows chunks x (omega arith) short) (λ y. grind (arith, same_pieces)),
     )
 
 -- Empty files that are left out

@@ -5,10 +5,10 @@ use Rattle.std.proofs.{
   lemmas.{Grind.common_steps, Bool.ltb-false, List.{append-nil, get_or_append_left, get_or-append_right, length-append, take_all, take-append-drop}},
 }
 use Rattle.seg_core.specs.{Line.joined, declared.cut.Chunks.Chunks}
-use Rattle.ports_core.{
-  specs.declared.slot.State.TheVariants.Closed,
+use Rattle.ports_core.specs.declared.slot.State.TheVariants.{Closed}
+use Rattle.engine_core.{
   specs.Agreed.{ArePlaced, DifferOn, GoesBy, GoesTo, NoFewerWait, Spot, spot, file_bytes, output_at},
-  specs.{Part.IsBeginning, Work.Work},
+  specs.{Written.IsBeginning, Work.Work},
   proofs.AgreedLemmas.{none_comes, other, other_comes, other_differs, spots_differ, spots_few},
   proofs.LeastLemmas.{first_stay, least_by, none_is_least},
 }

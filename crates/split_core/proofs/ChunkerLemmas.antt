@@ -9,15 +9,13 @@ use Rattle.std.proofs.{
   Common.{◌≡◌, ℕ, ◌+◌, ◌-◌, ◌<◌, ◌≤◌, min, true, false, eqb, nat_lt, List, [], ◌++◌, ◌⊎◌, length, take},
   Common.{drop, Option, Some, None, Ok, Err, inl, inr, refl, sym, ◌∙◌, ap, arith, append_assoc},
 }
-use Rattle.ports_core.{
-  specs.{
-    FileWriter.IsWrite,
-    Part.{Begins},
-    Slot.Effect,
-    Work.{IsLawful, IsNeeded, IsSpare, Work},
-    declared.{fault.Fault.{Fault, TheVariants.Verdict}, verdict.Verdict.TheVariants.Changed},
-  },
-  proofs.PartLemmas.part_begins_itself,
+use Rattle.engine_core.{
+  specs.{FileWriter.IsWrite, Written.Begins, Work.{IsLawful, IsNeeded, IsSpare, Work}},
+  proofs.WrittenLemmas.part_begins_itself,
+}
+use Rattle.ports_core.specs.{
+  Slot.Effect,
+  declared.{fault.Fault.{Fault, TheVariants.Verdict}, verdict.Verdict.TheVariants.Changed},
 }
 use Rattle.seg_core.specs.declared.cut.Chunks.{Chunks}
 use Rattle.split_core.specs.{

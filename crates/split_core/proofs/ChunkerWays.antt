@@ -6,20 +6,22 @@ use Rattle.std.{
   proofs.Common.{◌≡◌, ℕ, ◌+◌, ◌≤◌, Bool, true, false, IsTrue, List, ◌++◌, length, Option, Some, None, Result, Ok},
   proofs.Common.{Err, IfNone, IfSome, refl, ap, arith},
 }
-use Rattle.ports_core.specs.{
+use Rattle.engine_core.specs.{
   Engine.{IsMet, StandsAt},
   FileWriter.{Breaks, IsWrite},
-  Part.{Part, gets_bytes, writes},
-  Slot.{Effect, effect, Slot, is_writable},
+  Written.{Written, gets_bytes, writes},
   InTurn.fault_in,
   Work.{IsSettled, IsSpare, Judges, Means, Needs, Work},
+  inner.Written.HasLines,
+}
+use Rattle.ports_core.specs.{
+  Slot.{Effect, effect, Slot, is_writable},
   declared.{
     fault.Fault.{Fault, TheVariants.{Memory, Verdict}},
     verdict.Verdict.{Verdict as Judgement, TheVariants.{Changed, Suffixes}},
   },
-  inner.Part.HasLines,
 }
-use Rattle.ports_core.proofs.{PartLemmas.stopped_in_turn, ShareLemmas.has_told, SpareLemmas.all_used}
+use Rattle.engine_core.proofs.{WrittenLemmas.stopped_in_turn, ShareLemmas.has_told, SpareLemmas.all_used}
 use Rattle.seg_core.specs.declared.cut.Chunks.{Chunks}
 use Rattle.split_core.specs.{
   ChunkerState.{AimState, ChunkerState, Course, Holds, HoldsBy, IsAimed, course, course_of, to_files, to_output},
@@ -27,7 +29,7 @@ use Rattle.split_core.specs.{
   inner.{Chunker.{Comes, EndsAs, IsLike, PassesAs}, Brings.{AtAim, IsOf, manner_on, output_on}},
 }
 use Rattle.split_core.proofs.{PartsLemmas.{met_files, unjudged}, WayLemmas.passes_lacking}
-use Rattle.ports_core.specs.Engine as engine
+use Rattle.engine_core.specs.Engine as engine
 use Rattle.split_core.specs.Ways as ways
 use Rattle.split_core.specs.declared.splitter.Splitter.TheVariants as way
 
@@ -76,13 +78,13 @@ module _ (chunks : Chunks) (Why : Judgement → Type 0) (old new : List Slot) (f
 
 -- What a piece leaves
 
-at_aim : {told : Bool} {state : ChunkerState} {start : List Slot} {x : List ℕ} {now : List Slot}
-    → StandsAt ways.terms (way.Chunks state) told start x now
-    → AtAim told state.cutter.sink.aim start ((work state).settled x) now
+at_aim : {visible : Bool} {state : ChunkerState} {start : List Slot} {x : List ℕ} {now : List Slot}
+    → StandsAt ways.terms (way.Chunks state) visible start x now
+    → AtAim visible state.cutter.sink.aim start ((work state).settled x) now
 at_aim at = grind (arith, common_steps)
 
 -- How a call leaves the outputs that were to come to what is due.
-module _ {old : ChunkerState} (new : ChunkerState) {outs : Effect} {due : List ℕ → Part} where
+module _ {old : ChunkerState} (new : ChunkerState) {outs : Effect} {due : List ℕ → Written} where
   went_out : Comes old new due outs None
       → engine.PutsOut ways.terms (way.Chunks old) due outs
   went_out comes start x at = grind (arith, common_steps)
@@ -122,8 +124,8 @@ module _ {old new : ChunkerState} {piece : List ℕ} {outs : Effect} where
   passes_changed same bound all judged = search (rules, same_work, was_judged)
 
 -- bytes wait, and there was no room for the piece: nothing was written
-pub lacks_room : {told : Bool} (old : ChunkerState) {piece : List ℕ} {slots : List Slot} → old.said ≡ None
-    → PassesAs old old piece (effect told slots slots) (Err Memory)
+pub lacks_room : {visible : Bool} (old : ChunkerState) {piece : List ℕ} {slots : List Slot} → old.said ≡ None
+    → PassesAs old old piece (effect visible slots slots) (Err Memory)
 lacks_room old unsaid = passes_lacking (way.Chunks old) _ _ refl (omega arith) (λ first owns. owns)
     (feeds_memory (course old.cutter) old.cutter.chunks unsaid)
 
@@ -131,8 +133,8 @@ lacks_room old unsaid = passes_lacking (way.Chunks old) _ _ refl (omega arith) (
 
 aimed_writable : (aim : AimState) (chunks : Chunks) (said : Option ℕ) (slots : List Slot) → IsAimed aim slots
     → writes (work_on (course_of aim) chunks said).means.output ≡ true → IsTrue (is_writable slots 0)
-aimed_writable (to_files writer elide) chunks said slots aimed told = search rules
-aimed_writable (to_output chunk) chunks said slots aimed told = aimed
+aimed_writable (to_files writer elide) chunks said slots aimed visible = search rules
+aimed_writable (to_output chunk) chunks said slots aimed visible = aimed
 
 module _ {old new : ChunkerState} {outs : Effect} where
   pub ends_at : (result : Result (Unit {0}) Fault) → IsAimed old.cutter.sink.aim outs.old → IsLike old new

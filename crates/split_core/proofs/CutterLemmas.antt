@@ -11,16 +11,11 @@ use Rattle.std.proofs.{
   Common.{◌⊎◌, length, take, drop, Option, Some, None, Ok, inl, inr, refl, sym, ◌∙◌, ap, subst, arith, zero-add},
   Common.{append_assoc, eqb, get_or, not},
 }
-use Rattle.ports_core.{
-  specs.{
-    Draft.draft_part,
-    Part.Begins,
-    Slot.{Effect, Slot, effect},
-    Work.IsNeeded,
-    declared.{fault.Fault.Fault, slot.State.TheVariants.Open},
-  },
-  proofs.PartLemmas.{out_begins, part_begins_itself, part_trans},
+use Rattle.engine_core.{
+  specs.{Draft.draft_part, Written.Begins, Work.IsNeeded},
+  proofs.WrittenLemmas.{out_begins, part_begins_itself, part_trans},
 }
+use Rattle.ports_core.specs.{Slot.{Effect, Slot, effect}, declared.{fault.Fault.Fault, slot.State.TheVariants.Open}}
 use Rattle.seg_core.{
   specs.{
     Line.{delimiters, first_lines, lines_of},
@@ -177,7 +172,7 @@ name_of (in_output chunk) count place all less = tt
 -- Chunks end one after another
 
 -- the chunks from one place to another ended
-pub record Ending (told : Bool) (cutter : CutterState) (size : ℕ) (old slots : List Slot) (now : CutterState)
+pub record Ending (visible : Bool) (cutter : CutterState) (size : ℕ) (old slots : List Slot) (now : CutterState)
     : Type 0 where
   pub chunks : now.chunks ≡ cutter.chunks
   pub at : now.at ≡ cutter.at
@@ -185,11 +180,11 @@ pub record Ending (told : Bool) (cutter : CutterState) (size : ℕ) (old slots :
   pub stays : Stays (course cutter) cutter.sink.aim now.sink.aim old slots None
   pub brings : (x : List ℕ) → IsCutOff cutter size x
       → Brings (course cutter) cutter.sink.aim now.sink.aim (part_at cutter size x cutter.sink.place)
-      (part_at cutter size x now.sink.place) (effect told old slots) None
+      (part_at cutter size x now.sink.place) (effect visible old slots) None
   pub leads : (x : List ℕ) → IsCutOff cutter size x → IsCutOff now size x
 
-pub ends_none : {told : Bool} {cutter : CutterState} {size : ℕ} {slots : List Slot} → IsAimed cutter.sink.aim slots
-    → Ending told cutter size slots slots cutter
+pub ends_none : {visible : Bool} {cutter : CutterState} {size : ℕ} {slots : List Slot} → IsAimed cutter.sink.aim slots
+    → Ending visible cutter size slots slots cutter
 ends_none ready = search (rules, stays_none, brings_none)
 
 cut_as : {cutter next : CutterState} {x : List ℕ} {from to : CutUp} → next.chunks ≡ cutter.chunks
@@ -197,8 +192,8 @@ cut_as : {cutter next : CutterState} {x : List ℕ} {from to : CutUp} → next.c
     → HasCut cutter x from → Carries next.sink to → HasCut next x to
 cut_as chunks same at within has carries = grind (arith, common_steps)
 
-module _ {told : Bool} {cutter now : CutterState} {size : ℕ} {old slots : List Slot}
-    (whole : cutter.is_within ≡ true → size ≤ cutter.at) (so_far : Ending told cutter size old slots now)
+module _ {visible : Bool} {cutter now : CutterState} {size : ℕ} {old slots : List Slot}
+    (whole : cutter.is_within ≡ true → size ≤ cutter.at) (so_far : Ending visible cutter size old slots now)
     (less : now.sink.place < now.chunks.count)
     (ends : chunk_start now.chunks.count size (now.sink.place + 1) ≤ now.at) where
   has_ended : {x : List ℕ} → IsCutOff now size x
@@ -206,21 +201,21 @@ module _ {told : Bool} {cutter now : CutterState} {size : ℕ} {old slots : List
   has_ended {x} so = grind (arith, common_steps, passed_all)
 
   next_gives : {next : SinkState} {new : List Slot} {fault : Option Fault}
-      → Changes now.sink next with_full (effect told slots new) fault → (x : List ℕ) → IsCutOff cutter size x
+      → Changes now.sink next with_full (effect visible slots new) fault → (x : List ℕ) → IsCutOff cutter size x
       → Gives (course cutter) now.sink next (cut_before cutter.chunks size x now.sink.place)
-      (cut_before cutter.chunks size x (now.sink.place + 1)) (effect told slots new) fault
+      (cut_before cutter.chunks size x (now.sink.place + 1)) (effect visible slots new) fault
   next_gives went x so = let mid = so_far.leads x so in
       rw (so_far.stays.course, so_far.chunks) at (rw (full_next now.chunks size x now.sink.place mid.begun) at
       (went.gives _ (mid.cut.carries, name_of _ _ _ mid.cut.all less)))
 
   next_stays : {next : SinkState} {new : List Slot} {fault : Option Fault}
-      → Changes now.sink next with_full (effect told slots new) fault
+      → Changes now.sink next with_full (effect visible slots new) fault
       → Stays (course cutter) cutter.sink.aim next.aim old new fault
   next_stays went = grind (arith, common_steps)
 
   pub ends_next : {next : CutterState} {new : List Slot} → next.chunks ≡ now.chunks → next.at ≡ now.at
       → next.is_within ≡ now.is_within → next.sink.place ≡ now.sink.place + 1
-      → Changes now.sink next.sink with_full (effect told slots new) None → Ending told cutter size old new next
+      → Changes now.sink next.sink with_full (effect visible slots new) None → Ending visible cutter size old new next
   ends_next {next} chunks at within place went = record {
     chunks = chunks ∙ so_far.chunks;
     at = at ∙ so_far.at;
@@ -239,8 +234,8 @@ module _ {told : Bool} {cutter now : CutterState} {size : ℕ} {old slots : List
   }
 
   pub ends_stopped : {next : CutterState} {new : List Slot} {why : Fault} → next.chunks ≡ now.chunks
-      → next.at ≡ now.at → Changes now.sink next.sink with_full (effect told slots new) (Some why)
-      → EndsFull cutter next size (effect told old new) (Some why)
+      → next.at ≡ now.at → Changes now.sink next.sink with_full (effect visible slots new) (Some why)
+      → EndsFull cutter next size (effect visible old new) (Some why)
   ends_stopped chunks at stopped = record {
     chunks = chunks ∙ so_far.chunks;
     at = at ∙ so_far.at;
@@ -255,11 +250,11 @@ module _ {told : Bool} {cutter now : CutterState} {size : ℕ} {old slots : List
   }
 
 -- no further chunk has ended
-pub ends_all : {told : Bool} {cutter now : CutterState} {size : ℕ} {old slots : List Slot}
-    → Ending told cutter size old slots now
+pub ends_all : {visible : Bool} {cutter now : CutterState} {size : ℕ} {old slots : List Slot}
+    → Ending visible cutter size old slots now
     → ((x : List ℕ) → IsCutOff now size x → now.sink.place < now.chunks.count
     → passed now.chunks size x < chunk_start now.chunks.count size (now.sink.place + 1))
-    → EndsFull cutter now size (effect told old slots) None
+    → EndsFull cutter now size (effect visible old slots) None
 ends_all {now = now} {size} so_far last = record {
   chunks = so_far.chunks;
   at = so_far.at;
@@ -275,8 +270,8 @@ ends_all {now = now} {size} so_far last = record {
   same {x} so = within_are x (some_in so.cut) so.fits (record { within = so.few; before = so.before; next = last x so })
 
 -- none does if a line is open before the end of its chunk
-pub ends_open : {told : Bool} {cutter : CutterState} {size : ℕ} {slots : List Slot} → IsAimed cutter.sink.aim slots
-    → cutter.is_within ≡ true → cutter.at < size → EndsFull cutter cutter size (effect told slots slots) None
+pub ends_open : {visible : Bool} {cutter : CutterState} {size : ℕ} {slots : List Slot} → IsAimed cutter.sink.aim slots
+    → cutter.is_within ≡ true → cutter.at < size → EndsFull cutter cutter size (effect visible slots slots) None
 ends_open {cutter = cutter} {size} ready within short = ends_all (ends_none ready) (λ x so less. omega (
   arith,
   passed_open cutter.chunks size x (omega (arith, so.cut.at)),
@@ -284,16 +279,16 @@ ends_open {cutter = cutter} {size} ready within short = ends_all (ends_none read
 ))
 
 -- nor before the end of the chunk that was begun
-pub ends_so : {told : Bool} {cutter now : CutterState} {size : ℕ} {old slots : List Slot}
-    → Ending told cutter size old slots now
+pub ends_so : {visible : Bool} {cutter now : CutterState} {size : ℕ} {old slots : List Slot}
+    → Ending visible cutter size old slots now
     → (now.sink.place < now.chunks.count → now.at < chunk_start now.chunks.count size (now.sink.place + 1))
-    → EndsFull cutter now size (effect told old slots) None
+    → EndsFull cutter now size (effect visible old slots) None
 ends_so {now = now} {size} so_far last = ends_all so_far
     (λ x so less. omega (arith, last less, so.cut.at, passed_few now.chunks size x so.fits))
 
-pub ends_short : {told : Bool} {cutter : CutterState} {size : ℕ} {slots : List Slot} → IsAimed cutter.sink.aim slots
+pub ends_short : {visible : Bool} {cutter : CutterState} {size : ℕ} {slots : List Slot} → IsAimed cutter.sink.aim slots
     → cutter.at < chunk_start cutter.chunks.count size (min (cutter.sink.place + 1) cutter.chunks.count)
-    → EndsFull cutter cutter size (effect told slots slots) None
+    → EndsFull cutter cutter size (effect visible slots slots) None
 ends_short {cutter = cutter} {size} ready short = ends_so (ends_none ready)
     (λ less. subst (λ place. cutter.at < chunk_start cutter.chunks.count size place) (omega arith) short)
 
@@ -378,19 +373,19 @@ module _ {cutter : CutterState} {size : ℕ} (text : List ℕ) {x y : List ℕ}
   all_begun : before_chunk cutter.chunks size (cutter.sink.place + 1) (x ++ y) ≡ x ++ y
   all_begun = grind (arith, common_steps, place_of, all_within)
 
-  rest_gives : {told : Bool} {next : SinkState} {old wet : List Slot} {fault : Option Fault}
-      → Changes cutter.sink next (with_rest y) (effect told old wet) fault
+  rest_gives : {visible : Bool} {next : SinkState} {old wet : List Slot} {fault : Option Fault}
+      → Changes cutter.sink next (with_rest y) (effect visible old wet) fault
       → Gives (course cutter) cutter.sink next (chunks_within cutter.chunks size x)
-      (cut_before cutter.chunks size (x ++ y) cutter.sink.place) (effect told old wet) fault
-  rest_gives {told} {next} {old} {wet} {fault} changes = let off = off_of has in let place = place_of y has some within in
+      (cut_before cutter.chunks size (x ++ y) cutter.sink.place) (effect visible old wet) fault
+  rest_gives {visible} {next} {old} {wet} {fault} changes = let off = off_of has in let place = place_of y has some within in
       let ends = rw (placed_at has) at (ended_is cutter.chunks size x) in
-      subst (λ cut. Gives (course cutter) cutter.sink next (chunks_within cutter.chunks size x) cut (effect told old wet) fault)
+      subst (λ cut. Gives (course cutter) cutter.sink next (chunks_within cutter.chunks size x) cut (effect visible old wet) fault)
       (ap (with_rest y) (within_are x (some_in has.cut) has.fits ends)
       ∙ sym (rest_more cutter.chunks size x y cutter.sink.place within off.before))
       (changes.gives _ (has.cut.carries, name_of _ _ _ has.cut.all place.less))
 
-  off_after : {told : Bool} {mid : CutterState} {old wet : List Slot} → Cutting cutter mid y
-      → Changes cutter.sink mid.sink (with_rest y) (effect told old wet) None → IsCutOff mid size (x ++ y)
+  off_after : {visible : Bool} {mid : CutterState} {old wet : List Slot} → Cutting cutter mid y
+      → Changes cutter.sink mid.sink (with_rest y) (effect visible old wet) None → IsCutOff mid size (x ++ y)
   off_after {mid = mid} step changes = let off = off_of has in
       let same : cut_before cutter.chunks size (x ++ y) cutter.sink.place ≡ cut_before mid.chunks size (x ++ y) mid.sink.place =
       rw (step.chunks, step.place) refl in record {
@@ -402,10 +397,10 @@ module _ {cutter : CutterState} {size : ℕ} (text : List ℕ) {x y : List ℕ}
         begun = rw (step.chunks, step.place) all_begun;
       }
 
-pub cuts_on : {told : Bool} {cutter mid next : CutterState} {size : ℕ} (text : List ℕ) {y : List ℕ}
+pub cuts_on : {visible : Bool} {cutter mid next : CutterState} {size : ℕ} (text : List ℕ) {y : List ℕ}
     {old wet new : List Slot} (fault : Option Fault) → y ≡ cut_to cutter (end_so cutter size) text
-    → Cutting cutter mid y → Changes cutter.sink mid.sink (with_rest y) (effect told old wet) None
-    → EndsFull mid next size (effect told wet new) fault → CutsMore cutter next size y (effect told old new) fault
+    → Cutting cutter mid y → Changes cutter.sink mid.sink (with_rest y) (effect visible old wet) None
+    → EndsFull mid next size (effect visible wet new) fault → CutsMore cutter next size y (effect visible old new) fault
 cuts_on text {y} fault is step changes ends = record {
   chunks = ends.chunks ∙ step.chunks;
   bound = omega arith;
@@ -486,10 +481,10 @@ pub cutting : {cutter mid : CutterState} {end n : ℕ} (text : List ℕ) {outs :
 cutting {n = n} text writes = grind (arith, common_steps)
 
 -- what was written of a text goes with the chunk that was begun, and what is full has ended
-pub steps_so : {told : Bool} {cutter mid next : CutterState} {size n : ℕ} (text : List ℕ) {old wet new : List Slot}
-    → WritesTo cutter mid (end_so cutter size) text (effect told old wet) (Ok n)
-    → EndsFull mid next size (effect told wet new) None
-    → CutsStretch cutter next size text (effect told old new) (Ok n)
+pub steps_so : {visible : Bool} {cutter mid next : CutterState} {size n : ℕ} (text : List ℕ) {old wet new : List Slot}
+    → WritesTo cutter mid (end_so cutter size) text (effect visible old wet) (Ok n)
+    → EndsFull mid next size (effect visible wet new) None
+    → CutsStretch cutter next size text (effect visible old new) (Ok n)
 steps_so {n = n} text writes ends = let is = writes.count.2 in (
   writes.count.0,
   writes.count.1,
@@ -507,15 +502,16 @@ steps_short {size = size} text writes short = steps_so _ writes
 
 -- Stretch after stretch
 
-pub cuts_nothing : {told : Bool} {cutter : CutterState} {size : ℕ} {slots : List Slot} → IsAimed cutter.sink.aim slots
-    → CutsMore cutter cutter size [] (effect told slots slots) None
-cuts_nothing {told} {cutter} {size} {slots} ready = search (rules, stays_none, append-nil, brings_none)
+pub cuts_nothing : {visible : Bool} {cutter : CutterState} {size : ℕ} {slots : List Slot}
+    → IsAimed cutter.sink.aim slots
+    → CutsMore cutter cutter size [] (effect visible slots slots) None
+cuts_nothing {visible} {cutter} {size} {slots} ready = search (rules, stays_none, append-nil, brings_none)
 
-pub cuts_again : {told : Bool} {cutter mid next : CutterState} {size : ℕ} (first more : List ℕ)
-    {old wet new : List Slot} (fault : Option Fault) → CutsMore cutter mid size first (effect told old wet) None
-    → CutsMore mid next size more (effect told wet new) fault
-    → CutsMore cutter next size (first ++ more) (effect told old new) fault
-cuts_again {told} {cutter} {mid} {next} {size} first more {wet = wet} {new} fault one other = record {
+pub cuts_again : {visible : Bool} {cutter mid next : CutterState} {size : ℕ} (first more : List ℕ)
+    {old wet new : List Slot} (fault : Option Fault) → CutsMore cutter mid size first (effect visible old wet) None
+    → CutsMore mid next size more (effect visible wet new) fault
+    → CutsMore cutter next size (first ++ more) (effect visible old new) fault
+cuts_again {visible} {cutter} {mid} {next} {size} first more {wet = wet} {new} fault one other = record {
   chunks = other.chunks ∙ one.chunks;
   bound = omega (arith, length-append first more);
   stays = stays_then one.stays (rw one.stays.course at other.stays);
@@ -529,28 +525,28 @@ cuts_again {told} {cutter} {mid} {next} {size} first more {wet = wet} {new} faul
   low x within = omega (arith, length-append x (first ++ more), length-append first more, length-append x first)
 
 -- what was cut off of a text, and what is left of it
-pub record CutsAway (told : Bool) (cutter : CutterState) (size : ℕ) (text left : List ℕ) (old slots : List Slot)
+pub record CutsAway (visible : Bool) (cutter : CutterState) (size : ℕ) (text left : List ℕ) (old slots : List Slot)
     (now : CutterState) : Type 0 where
   pub done : List ℕ
   pub both : text ≡ done ++ left
-  pub cuts : CutsMore cutter now size done (effect told old slots) None
+  pub cuts : CutsMore cutter now size done (effect visible old slots) None
   pub at : now.at ≡ cutter.at + length done
   pub start : ((now ≡ cutter) × (done ≡ [])) ⊎ (is_past_on cutter.sink ≡ false)
   pub needed : (done ≡ []) ⊎ ((x : List ℕ) → IsCut cutter size x → length (x ++ text) ≤ size
       → IsNeeded (said_work cutter size).is_complete 1 (x ++ done))
 
-pub away_none : {told : Bool} {cutter : CutterState} {size : ℕ} {text : List ℕ} {slots : List Slot}
-    → IsAimed cutter.sink.aim slots → CutsAway told cutter size text text slots slots cutter
+pub away_none : {visible : Bool} {cutter : CutterState} {size : ℕ} {text : List ℕ} {slots : List Slot}
+    → IsAimed cutter.sink.aim slots → CutsAway visible cutter size text text slots slots cutter
 away_none {text = text} ready = record { done = []; both = refl; cuts = cuts_nothing ready; at = omega arith; start = inl (refl, refl); needed = inl refl }
 
-module _ {told : Bool} {cutter now : CutterState} {size : ℕ} {text left : List ℕ} {old slots : List Slot}
-    (so_far : CutsAway told cutter size text left old slots now) where
+module _ {visible : Bool} {cutter now : CutterState} {size : ℕ} {text left : List ℕ} {old slots : List Slot}
+    (so_far : CutsAway visible cutter size text left old slots now) where
   pub away_more : {next : CutterState} {rest : List ℕ} {n : ℕ} {new : List Slot}
       → (0 < n) × (n ≤ length left) × (next.at ≡ now.at + n) × CutsMore now next size (take n left)
-      (effect told slots new) None
+      (effect visible slots new) None
       × (is_past_on now.sink ≡ false → (x : List ℕ) → IsCut now size x → length (x ++ left) ≤ size
       → IsOpen now size (x ++ take (n - 1) left)) → is_past_on now.sink ≡ false → rest ≡ drop n left
-      → CutsAway told cutter size text rest old new next
+      → CutsAway visible cutter size text rest old new next
   away_more {next} {rest} {n} (some, within, at, step, going) not_past is = record {
     done = so_far.done ++ take n left;
     both = rw (is, append_assoc so_far.done (take n left) (drop n left), take-append-drop n left) so_far.both;
@@ -584,13 +580,13 @@ module _ {told : Bool} {cutter now : CutterState} {size : ℕ} {text left : List
   }
 
   pub away_stops : {next : CutterState} {new : List Slot} {why : Fault}
-      → CutsMore now next size left (effect told slots new) (Some why)
-      → CutsMore cutter next size text (effect told old new) (Some why)
+      → CutsMore now next size left (effect visible slots new) (Some why)
+      → CutsMore cutter next size text (effect visible old new) (Some why)
   away_stops {why = why} stops = rw so_far.both (cuts_again _ _ _ so_far.cuts stops)
 
   pub away_so : (piece : List ℕ) (own : ℕ) {count : ℕ} → own ≡ min (length piece) (size - cutter.at)
       → text ≡ take own piece → count ≡ length left + (length piece - own)
-      → (length left ≡ 0) ⊎ (is_past_on now.sink ≡ true) → CutsAs cutter now size piece count (effect told old slots)
+      → (length left ≡ 0) ⊎ (is_past_on now.sink ≡ true) → CutsAs cutter now size piece count (effect visible old slots)
   away_so piece own {count} is text_is count_is ends = record {
     few = omega (arith, long, is, count_is);
     at = omega (arith, so_far.at, long, is, count_is);

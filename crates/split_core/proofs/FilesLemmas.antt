@@ -13,29 +13,32 @@ use Rattle.std.proofs.{
 use Rattle.std.specs.List.{range_with_len}
 use Rattle.ports_core.specs.{
   Name.{Naming, name_at, has_name},
+  declared.{slot.Mode.TheVariants.Fresh, fault.Fault.Fault},
+  Slot.{Effect, Slot, changed_at, effect, opened, adds, closes, is_closable, with_written, SlotBreaks, visible_of},
+  Slot.KeepsBroken,
+}
+use Rattle.engine_core.specs.{
   Names.{next_name, has_next, line_next, told_next, CanTell, OpensNone, no_memory, no_name, no_line, no_number},
   Names.no_file,
-  declared.{names.Names.Names, slot.Mode.TheVariants.Fresh, fault.Fault.Fault},
-  Slot.{Effect, Slot, changed_at, effect, opened, adds, closes, is_closable, with_written, SlotBreaks, told_of, KeepsBroken},
-  Part.{Part, OutputsAt, FilesBegin, Begins, IsBeginning, IsDueLine, IsNext, IsAt, LinesInOrder, Marks},
+  declared.names.Names.Names,
+  Written.{Written, OutputsAt, FilesBegin, Begins, IsBeginning, IsDueLine, IsNext, IsAt, LinesInOrder, Marks},
   Draft.{manner_by, opening_line, output_of, part_with, told_before, told_of_files},
   FileWriter.Breaks,
   InTurn.fault_in,
   inner.Write.Wrote,
 }
-use Rattle.ports_core.proofs.{
-  PartLemmas.{IsNoOpen, begins_itself, begins_trans, due_by, kept_trans, marks_by, none_due, openings-append, openings_since},
-  PartLemmas.{out_more, sound_at, part_trans},
-  PartSteps.line_begins,
+use Rattle.engine_core.proofs.{
+  WrittenLemmas.{IsNoOpen, begins_itself, begins_trans, due_by, kept_trans, marks_by, none_due, openings-append},
+  WrittenLemmas.{openings_since, out_more, sound_at, part_trans},
+  WrittenSteps.line_begins,
   SlotSteps.{keeps_again, keeps_close, keeps_open, keeps_write, rose_later, write_rose, writable_before},
   SlotSteps.{writable_elsewhere, writable_within, opened_writable, broken_there, written_size, short_size},
   SlotSteps.broken_size,
   OpenLemmas.{IsNextName, stops_opening},
   FileWriterLemmas.{breaks_later, can_tell, make_breaks},
-  SlotLemmas.length-changed_at,
-  WriteLemmas.writable-written,
   FileLemmas.{file_more, file_changes, write_makes},
 }
+use Rattle.ports_core.proofs.{SlotLemmas.length-changed_at, WriteLemmas.writable-written}
 use Rattle.split_core.specs.{
   Split.{Filing, Share, is_verbose, output_by},
   FilesState.{FilesState, filing_in},
@@ -45,7 +48,7 @@ use Rattle.split_core.specs.{
   inner.Sharing.{Halts, Shares, closed_first, Opens, ClosesAll, with_opened},
   Sharing.CannotOpen,
 }
-use Rattle.ports_core.specs.inner.Write as short
+use Rattle.engine_core.specs.inner.Write as short
 use Rattle.ports_core.specs.declared.fault.Fault.TheVariants as fault
 
 -- what has a name after a place, has one there
@@ -145,7 +148,7 @@ next_due filing part high {many} more (is, less) = let file : ℕ → Slot = λ 
     }
 
 -- the lines that standard output got after those for some files
-lines_in : (verbose : Bool) (low : List Slot) (part high : Part) (place : ℕ) (bytes : List ℕ) (why : Fault)
+lines_in : (verbose : Bool) (low : List Slot) (part high : Written) (place : ℕ) (bytes : List ℕ) (why : Fault)
     → FilesBegin low part.files → part.out ≡ told_of_files (output_by verbose) part.files ++ bytes
     → IsDueLine (IsNext part high) (told_before (output_by verbose)) bytes why
     → LinesInOrder (output_by verbose) (part_with (output_by verbose) low) part high place why
@@ -163,13 +166,13 @@ halts_at : {outs : Effect} {filing : Filing} {part : Shares} {many place : ℕ} 
     → (bytes ≡ []) ⊎ ((part.count < many)
     × IsBeginning bytes (told_before (output_by filing.verbose) (name_at filing.names part.count)))
     → IsDueLine Due (told_before (output_by filing.verbose)) bytes why
-    → OutputsAt outs.told outs.old
+    → OutputsAt outs.visible outs.old
     (record { out = (part_by filing part).out ++ bytes; files = files_by filing part }) reached
     → Marks Due why reached outs.new → IsAt why (length outs.old) place part.count
     → Halts filing part (record part { count = many }) place (place + 1) outs why
 halts_at {outs} {filing} {part} {place = place} {why} {reached} Due bytes inside few due begun line outputs marks came = record {
   stops = λ first last end front back.
-      let at : Part = record { out = (part_by filing part).out ++ bytes; files = files_by filing part } in
+      let at : Written = record { out = (part_by filing part).out ++ bytes; files = files_by filing part } in
       let some = part.count in
       let below = grow_begins filing {count = some} few back in
       let above : Begins (part_by filing first) at = part_trans _ _ _ (grow_begins filing {count = first.count} (omega arith) front) (line_begins bytes) in
@@ -206,7 +209,7 @@ halts_at {outs} {filing} {part} {place = place} {why} {reached} Due bytes inside
 
 -- standard output got nothing about a file that isn't open
 halts : {outs : Effect} {filing : Filing} {part : Shares} {place : ℕ} {why : Fault} {reached : List Slot} → IsNoOpen why
-    → place ≤ part.count → OutputsAt outs.told outs.old (part_by filing part) reached
+    → place ≤ part.count → OutputsAt outs.visible outs.old (part_by filing part) reached
     → Marks (λ name. ⊥) why reached outs.new → IsAt why (length outs.old) place part.count
     → Halts filing part part place (place + 1) outs why
 halts other inside outputs marks came =
@@ -225,12 +228,12 @@ halts_wider {to = to} {place} {end} stop less past above below = record {
 -- Steps in a row
 
 -- a later step
-pub adds_then : {told : Bool} {files between next : FilesState} {first second more : ℕ → List ℕ} {from to place : ℕ}
+pub adds_then : {visible : Bool} {files between next : FilesState} {first second more : ℕ → List ℕ} {from to place : ℕ}
     {old mid new : List Slot} (result : Result (Unit {0}) Fault)
-    → Adds files between first from to (effect told old mid) (Ok tt)
-    → Adds between next second place (place + 1) (effect told mid new) result → from ≤ place → to ≤ place + 1
-    → ((i : ℕ) → more i ≡ first i ++ second i) → Adds files next more from (place + 1) (effect told old new) result
-adds_then {told} {files} {between} {next} {first} {second} {more} {from} {to} {place} {old} {mid} {new} result one other less near are = record {
+    → Adds files between first from to (effect visible old mid) (Ok tt)
+    → Adds between next second place (place + 1) (effect visible mid new) result → from ≤ place → to ≤ place + 1
+    → ((i : ℕ) → more i ≡ first i ++ second i) → Adds files next more from (place + 1) (effect visible old new) result
+adds_then {visible} {files} {between} {next} {first} {second} {more} {from} {to} {place} {old} {mid} {new} result one other less near are = record {
   filing = other.filing ∙ one.filing;
   owned = λ start owns. other.owned start (one.owned start owns);
   ready = other.ready;
@@ -241,7 +244,7 @@ adds_then {told} {files} {between} {next} {first} {second} {more} {from} {to} {p
   leaves = λ before had has at is. further result before had has (rw (← count, ← one.opened, ← one.filing)
       (other.leaves before (λ i. had i ++ first i) has (record {
         owns = one.owned (length before) at.owns;
-        outputs = subst (λ filing. OutputsAt told before (part_by filing (all_open (λ i. had i ++ first i) (length between.outputs))) mid)
+        outputs = subst (λ filing. OutputsAt visible before (part_by filing (all_open (λ i. had i ++ first i) (length between.outputs))) mid)
             (sym one.filing)
             (rw (← one.opened) at (one.leaves before had _ at (λ i. refl)));
         none = λ i past. cc (at.none i (omega arith), one.outside i (inr (omega arith)));
@@ -252,9 +255,9 @@ adds_then {told} {files} {between} {next} {first} {second} {more} {from} {to} {p
 
   further : (result : Result (Unit {0}) Fault) (before : List Slot) (had has : ℕ → List ℕ)
       → Leaves (filing_in files) (all_open (λ i. had i ++ first i) (max (length files.outputs) to))
-      (all_open has (max (length files.outputs) (place + 1))) place (place + 1) (effect told before new) result
+      (all_open has (max (length files.outputs) (place + 1))) place (place + 1) (effect visible before new) result
       → Leaves (filing_in files) (all_open had (length files.outputs))
-      (all_open has (max (length files.outputs) (place + 1))) from (place + 1) (effect told before new) result
+      (all_open has (max (length files.outputs) (place + 1))) from (place + 1) (effect visible before new) result
   further (Ok done) before had has at = at
   further (Err why) before had has stop = halts_wider stop less (omega arith)
       (grow_by first (omega arith) (omega arith) (λ i out. one.outside i (grind (arith, out))) (λ i. refl)) grow_same
@@ -279,19 +282,19 @@ adds_wider {some = some} low most rest adds are none less near far = record {
 }
 
 -- files get what was gathered for them, one after another
-module _ {told : Bool} {files between next : FilesState} {old mid new : List Slot} {place : ℕ}
+module _ {visible : Bool} {files between next : FilesState} {old mid new : List Slot} {place : ℕ}
     (gathered : List (List ℕ)) {one bytes : List ℕ}
-    (before : Adds files between (λ i. get_or (take place gathered) i []) 0 place (effect told old mid) (Ok tt))
+    (before : Adds files between (λ i. get_or (take place gathered) i []) 0 place (effect visible old mid) (Ok tt))
     (within : place < length gathered) (at : one ≡ get_or gathered place one) (same : bytes ≡ one) where
   pub sent_next : (result : Result (Unit {0}) Fault)
-      → Adds between next (only_at place bytes) place (place + 1) (effect told mid new) result
-      → Adds files next (λ i. get_or (take (place + 1) gathered) i []) 0 (place + 1) (effect told old new) result
+      → Adds between next (only_at place bytes) place (place + 1) (effect visible mid new) result
+      → Adds files next (λ i. get_or (take (place + 1) gathered) i []) 0 (place + 1) (effect visible old new) result
   sent_next result after = adds_then result before after (omega arith) (omega arith)
       (λ i. grind (arith, common_steps, nat_tests, get_or-take, get_or_past, length-take-le, append-nil))
 
   pub sent_stops : {why : Fault}
-      → Adds between next (only_at place bytes) place (place + 1) (effect told mid new) (Err why)
-      → Adds files next (λ i. get_or gathered i []) 0 (length gathered) (effect told old new) (Err why)
+      → Adds between next (only_at place bytes) place (place + 1) (effect visible mid new) (Err why)
+      → Adds files next (λ i. get_or gathered i []) 0 (length gathered) (effect visible old new) (Err why)
   sent_stops {why} after = adds_wider (place + 1) (length gathered) (λ i. cond (ltb i (place + 1)) [] (get_or gathered i []))
       (sent_next (Err why) after) (λ i. grind (arith, common_steps, nat_tests, get_or-take, get_or_past, length-take-le, append-nil))
       (λ i out. grind (arith, nat_tests, get_or_past gathered i [], out)) (omega arith) (omega arith) (omega arith)
@@ -313,8 +316,8 @@ ready_opened {files} {old} {new} name ready is = search (rules, can_tell, writab
 
 -- The file could not be opened: then a name was drawn for it, or no output was added; and standard output can break only if it gets lines
 -- about files.
-fails_caused : {told : Bool} {files : FilesState} {next : Names} {old new : List Slot} {why : Fault}
-    → AreReady files old → IsTrue (has_next files.names) → OpensNone told files.tells files.names next old new why
+fails_caused : {visible : Bool} {files : FilesState} {next : Names} {old new : List Slot} {why : Fault}
+    → AreReady files old → IsTrue (has_next files.names) → OpensNone visible files.tells files.names next old new why
     → Breaks (manner_by files.names.naming (output_of files.tells)) old new why
     → ((length new ≡ length old) ⊎ (next.drawn ≡ files.names.drawn + 1))
     × CannotOpen (is_verbose files.tells) old new why × IsOfFiles (is_verbose files.tells) old new why
@@ -334,12 +337,12 @@ line_is : {files : FilesState} {slots : List Slot} → AreReady files slots → 
 line_is ready = cc (ready.tells, ready.drawn)
 
 -- the next file was opened, after the line about it
-pub reached : (told : Bool) (files : FilesState) {old new : List Slot} (place : ℕ) → AreReady files old
+pub reached : (visible : Bool) (files : FilesState) {old new : List Slot} (place : ℕ) → AreReady files old
     → place ≡ length files.outputs
-    → new ≡ told_next told files.tells files.names old ++ opened (next_name files.names) Fresh ∷ []
-    → Opens files (with_opened (length old) files) place (place + 1) (effect told old new) (Ok tt)
-reached told files {old} place ready here is =
-    let size : length (told_next told files.tells files.names old) ≡ length old = written_size 0 _ _ _ refl in record {
+    → new ≡ told_next visible files.tells files.names old ++ opened (next_name files.names) Fresh ∷ []
+    → Opens files (with_opened (length old) files) place (place + 1) (effect visible old new) (Ok tt)
+reached visible files {old} place ready here is =
+    let size : length (told_next visible files.tells files.names old) ≡ length old = written_size 0 _ _ _ refl in record {
       adds = record {
         filing = refl;
         owned = λ first owns. grind (arith, common_steps, size, ready, owns);
@@ -364,12 +367,12 @@ reached told files {old} place ready here is =
     }
 
 -- the next file couldn't be opened
-pub reached_not : (told : Bool) (files : FilesState) {names : Names} {old new : List Slot} (place : ℕ) {why : Fault}
+pub reached_not : (visible : Bool) (files : FilesState) {names : Names} {old new : List Slot} (place : ℕ) {why : Fault}
     → AreReady files old → place ≡ length files.outputs → has_name files.names.naming place ≡ true
-    → names.naming ≡ files.names.naming → OpensNone told files.tells files.names names old new why
-    → Opens files (record files { names = names }) place (place + 1) (effect told old new) (Err why)
-reached_not told files {old = old} place ready here named same fails =
-    let caused = fails_caused ready (rw (here ∙ sym ready.drawn) at named) fails (make_breaks told files.tells ready.output fails) in
+    → names.naming ≡ files.names.naming → OpensNone visible files.tells files.names names old new why
+    → Opens files (record files { names = names }) place (place + 1) (effect visible old new) (Err why)
+reached_not visible files {old = old} place ready here named same fails =
+    let caused = fails_caused ready (rw (here ∙ sym ready.drawn) at named) fails (make_breaks visible files.tells ready.output fails) in
     let stops = stops_opening {old = old} (let two = ready.streams in omega arith) fails in record {
       adds = record {
         filing = cc;
@@ -401,22 +404,22 @@ changed_files : (filing : Filing) (makes : Slot → Slot) (low high : Shares) {p
     ≡ part_by filing high
 changed_files filing makes low high {place} same within other here = grind (arith, common_steps, told_same, changed_by)
 
-writes : {told : Bool} {files : FilesState} {before : List Slot} {had has : ℕ → List ℕ} {old new : List Slot}
+writes : {visible : Bool} {files : FilesState} {before : List Slot} {had has : ℕ → List ℕ} {old new : List Slot}
     {place : ℕ} (bytes : List ℕ) → place < length files.outputs
-    → new ≡ with_written (output_at files place) (told_of told bytes) old → StandAt told files before had old
+    → new ≡ with_written (output_at files place) (visible_of visible bytes) old → StandAt visible files before had old
     → ((i : ℕ) → has i ≡ had i ++ only_at place bytes i)
-    → OutputsAt told before (part_by (filing_in files) (all_open has (length files.outputs))) new
-writes {told} {files} {had = had} {has} {place = place} bytes within is at are =
+    → OutputsAt visible before (part_by (filing_in files) (all_open has (length files.outputs))) new
+writes {visible} {files} {had = had} {has} {place = place} bytes within is at are =
     rw (changed_files (filing_in files) (adds bytes) (all_open had (length files.outputs)) (all_open has _) refl within
     (λ i differs. grind (arith, nat_tests, are i, append-nil (had i), differs)) (grind (arith, nat_tests, are place))) at
-    (file_changes told _ (adds bytes) (write_makes told bytes) _ _ _ _ place at.outputs (rw (at.owns.stand place within) at is))
+    (file_changes visible _ (adds bytes) (write_makes visible bytes) _ _ _ _ place at.outputs (rw (at.owns.stand place within) at is))
 
 -- bytes were written to a file that is open, or it broke among them
-written : (told : Bool) {files : FilesState} {old new : List Slot} (place : ℕ) (bytes : List ℕ)
+written : (visible : Bool) {files : FilesState} {old new : List Slot} (place : ℕ) (bytes : List ℕ)
     (result : Result (Unit {0}) Fault) → AreReady files old → place < length files.outputs
-    → Wrote told (output_at files place) bytes old new (fault_in result)
-    → Adds files files (only_at place bytes) place (place + 1) (effect told old new) result
-written told {files} place bytes (Ok done) ready within is = record {
+    → Wrote visible (output_at files place) bytes old new (fault_in result)
+    → Adds files files (only_at place bytes) place (place + 1) (effect visible old new) result
+written visible {files} place bytes (Ok done) ready within is = record {
   filing = refl;
   owned = owned_same (written_size _ _ _ _ is);
   ready = ready_written _ _ ready is;
@@ -427,7 +430,7 @@ written told {files} place bytes (Ok done) ready within is = record {
   leaves = λ before had has at are. let count : length files.outputs ≡ max (length files.outputs) (place + 1) = omega arith in
       rw count at (writes _ within is at are);
 }
-written told {files} {old} place bytes (Err _) ready within (short.broke n cut) = record {
+written visible {files} {old} place bytes (Err _) ready within (short.broke n cut) = record {
   filing = refl;
   owned = owned_same (short_size _ _ _ _ _ _ (short.broke n cut));
   ready = tt;
@@ -447,9 +450,9 @@ written told {files} {old} place bytes (Err _) ready within (short.broke n cut) 
 }
 
 -- there was no room for any of it
-pub no_room : (told : Bool) (files : FilesState) (more : ℕ → List ℕ) (to : ℕ) {slots : List Slot}
-    → ((i : ℕ) → to ≤ i → more i ≡ []) → Adds files files more 0 to (effect told slots slots) (Err fault.Memory)
-no_room told files more to none = record {
+pub no_room : (visible : Bool) (files : FilesState) (more : ℕ → List ℕ) (to : ℕ) {slots : List Slot}
+    → ((i : ℕ) → to ≤ i → more i ≡ []) → Adds files files more 0 to (effect visible slots slots) (Err fault.Memory)
+no_room visible files more to none = record {
   filing = refl;
   owned = λ first owns. owns;
   ready = tt;
@@ -465,28 +468,28 @@ no_room told files more to none = record {
 
 -- the first `count` files were closed
 abbrev pub HaveClosed : FilesState → ℕ → Effect → Type 0
-HaveClosed files count outs = (before : List Slot) (had : ℕ → List ℕ) → StandAt outs.told files before had outs.old
-    → OutputsAt outs.told before (part_by (filing_in files) (closed_first count had (length files.outputs))) outs.new
+HaveClosed files count outs = (before : List Slot) (had : ℕ → List ℕ) → StandAt outs.visible files before had outs.old
+    → OutputsAt outs.visible before (part_by (filing_in files) (closed_first count had (length files.outputs))) outs.new
 
 -- the files before this place are closed, and the others can be
-pub record Closing (told : Bool) (files : FilesState) (place : ℕ) (old now : List Slot) : Type 0 where
+pub record Closing (visible : Bool) (files : FilesState) (place : ℕ) (old now : List Slot) : Type 0 where
   pub size : length now ≡ length old
   pub left : (other : ℕ) → place ≤ other → other < length files.outputs → is_closable now (output_at files other)
-  pub closed : HaveClosed files place (effect told old now)
+  pub closed : HaveClosed files place (effect visible old now)
   pub output : CanTell files.tells now
   pub sound : KeepsBroken old now
 
-module _ (told : Bool) {files : FilesState} {place : ℕ} {old now : List Slot} (ready : AreReady files old)
-    (within : place < length files.outputs) (so_far : Closing told files place old now) where
+module _ (visible : Bool) {files : FilesState} {place : ℕ} {old now : List Slot} (ready : AreReady files old)
+    (within : place < length files.outputs) (so_far : Closing visible files place old now) where
   closes_next : {new : List Slot} → new ≡ changed_at (output_at files place) closes now
-      → HaveClosed files (place + 1) (effect told old new)
+      → HaveClosed files (place + 1) (effect visible old new)
   closes_next is before had at =
       rw (changed_files (filing_in files) closes (closed_first place had (length files.outputs)) (closed_first (place + 1) had _) refl within
       (λ i differs. grind (arith, nat_tests, differs)) (grind (arith, nat_tests))) at
-      (file_changes told _ closes (λ file. refl) _ _ _ _ place (so_far.closed before had at) (rw (at.owns.stand place within) at is))
+      (file_changes visible _ closes (λ file. refl) _ _ _ _ place (so_far.closed before had at) (rw (at.owns.stand place within) at is))
 
   pub one_closed : {new : List Slot} → new ≡ changed_at (output_at files place) closes now
-      → Closing told files (place + 1) old new
+      → Closing visible files (place + 1) old new
   one_closed {new} is = record {
     size = grind (arith, length-changed_at);
     left = grind (arith, common_steps, writable_elsewhere);
@@ -497,7 +500,7 @@ module _ (told : Bool) {files : FilesState} {place : ℕ} {old now : List Slot} 
 
   pub not_closed : {new : List Slot} {slot : ℕ} {why : Fault} → slot ≡ output_at files place
       → (why ≡ fault.Write slot) × SlotBreaks slot (changed_at slot closes now) new
-      → ClosesAll files (effect told old new) (Err why)
+      → ClosesAll files (effect visible old new) (Err why)
   not_closed {new} slot_is failed =
       let can = so_far.left place (omega arith) within in let breaks = rw slot_is at failed.1 in
       let there : output_at files place < length (changed_at (output_at files place) closes now) =
@@ -507,7 +510,7 @@ module _ (told : Bool) {files : FilesState} {place : ℕ} {old now : List Slot} 
         writable_within (output_at files place) old
             (ready.closable place within).1,
       ) in
-      subst (λ those. ClosesAll files (effect told old new) (Err those)) (sym (failed.0 ∙ ap fault.Write slot_is)) (record {
+      subst (λ those. ClosesAll files (effect visible old new) (Err those)) (sym (failed.0 ∙ ap fault.Write slot_is)) (record {
         output = tt;
         leaves = λ before had at. halts_wider (halts {part = closed_first (place + 1) had (length files.outputs)} tt (omega arith)
             (closes_next refl before had at) (there, breaks) (inr (at.owns.stand place within))) (omega arith) (omega arith)
@@ -525,7 +528,7 @@ module _ (told : Bool) {files : FilesState} {place : ℕ} {old now : List Slot} 
       })
 
 pub all_closed : {files : FilesState} {place : ℕ} {outs : Effect} → place ≡ length files.outputs
-    → Closing outs.told files place outs.old outs.new → ClosesAll files outs (Ok tt)
+    → Closing outs.visible files place outs.old outs.new → ClosesAll files outs (Ok tt)
 all_closed is so_far = record {
   leaves = rw is at so_far.closed;
   output = so_far.output;
@@ -535,17 +538,17 @@ all_closed is so_far = record {
 
 -- A file was reached, and then written to.
 
-module _ {told : Bool} {files next : FilesState} {old mid : List Slot} {place : ℕ} (bytes : List ℕ) where
+module _ {visible : Bool} {files next : FilesState} {old mid : List Slot} {place : ℕ} (bytes : List ℕ) where
   pub sent : {new : List Slot} {slot : ℕ} (result : Result (Unit {0}) Fault)
-      → Opens files next place (place + 1) (effect told old mid) (Ok tt) → slot ≡ output_at next place
-      → Wrote told slot bytes mid new (fault_in result)
-      → Adds files next (only_at place bytes) place (place + 1) (effect told old new) result
-  sent result reached slot_is wrote = adds_then result reached.adds (written told place bytes result reached.adds.ready
+      → Opens files next place (place + 1) (effect visible old mid) (Ok tt) → slot ≡ output_at next place
+      → Wrote visible slot bytes mid new (fault_in result)
+      → Adds files next (only_at place bytes) place (place + 1) (effect visible old new) result
+  sent result reached slot_is wrote = adds_then result reached.adds (written visible place bytes result reached.adds.ready
       (omega (arith, reached.adds.opened)) (rw slot_is at wrote)) (omega arith) (omega arith) (λ i. refl)
 
   -- a file that couldn't be reached stops the write to it as well
-  pub sent_unreached : {why : Fault} → Opens files next place (place + 1) (effect told old mid) (Err why)
-      → Adds files next (only_at place bytes) place (place + 1) (effect told old mid) (Err why)
+  pub sent_unreached : {why : Fault} → Opens files next place (place + 1) (effect visible old mid) (Err why)
+      → Adds files next (only_at place bytes) place (place + 1) (effect visible old mid) (Err why)
   sent_unreached reached = adds_wider place (place + 1) (only_at place bytes) reached.adds (λ i. refl)
       (λ i out. grind (arith, nat_tests, out)) (omega arith) (omega arith) (omega arith)
 

@@ -7,7 +7,7 @@ use Rattle.std.proofs.{
   Math.Seq.{drop-nil, take-nil},
 }
 use Rattle.seg_core.specs.declared.{cut.Chunks.Chunks}
-use Rattle.ports_core.{specs.{Draft.draft_part, Part.nothing}, proofs.ShareLemmas.nothing_part}
+use Rattle.engine_core.{specs.{Draft.draft_part, Written.nothing}, proofs.ShareLemmas.nothing_part}
 use Rattle.split_core.specs.{
   ChunkWork.{draft_by, piece_at},
   Split.{Filing, manner_of},

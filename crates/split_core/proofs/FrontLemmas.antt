@@ -8,7 +8,7 @@ use Rattle.std.proofs.{
     List.{append-nil, length-append, length-replicate, take_all, FromFn.length-map-range_with_len},
   },
 }
-use Rattle.ports_core.specs.{Engine.TookIn, Part.{only_out, nothing}, Work.Work}
+use Rattle.engine_core.specs.{Engine.TookIn, Written.{only_out, nothing}, Work.Work}
 use Rattle.seg_core.specs.{Line.delimiters, declared.{cut.Chunks.Chunks, unit.Unit.TheVariants.{Bytes, Lines}}}
 use Rattle.split_core.{
   specs.Alike.{AreAlike, as_if},

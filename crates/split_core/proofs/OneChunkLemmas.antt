@@ -5,7 +5,7 @@ use Rattle.std.proofs.{
   Common.{◌∷◌, ◌++◌, length, take, drop, get_or, replicate, Option, Some, None, inl, inr, refl, sym, ◌∙◌, arith},
 }
 use Rattle.seg_core.specs.{Line.joined, declared.cut.Chunks.Chunks}
-use Rattle.ports_core.{
+use Rattle.engine_core.{
   specs.Agreed.{ArePlaced, DifferOn, GoesBy, Spot, spot},
   proofs.AgreedLemmas.{AtMostOne, copies_come, some_spot, spots_differ, spots_few, stretch_placed, beginning_short},
 }

@@ -6,25 +6,27 @@ use Rattle.std.proofs.{
   Common.{take, drop, append_assoc, not, cond, rules},
   Math.Seq.take-length,
 }
-use Rattle.ports_core.specs.{
+use Rattle.engine_core.specs.{
   Draft.{Manner, Draft, share, Share, shares_of, draft_part, output_of, with_bytes, with_next},
   Engine.{CutsOff, EndsWith, IsMet, StandsAt, is_verdict},
   FileWriter.{Leaves, At, Breaks, CanCount, CanTell, Goes, IsWrite, is_file, manner_in},
-  Name.has_name,
-  Part.writes,
-  Slot.{Effect, effect, Slot, is_writable},
+  Written.writes,
   InTurn.fault_in,
   inner.Shares.SharesBegin,
-  declared.fault.Fault.{Fault, TheVariants.{Memory, Write, Open}},
-  declared.verdict.Verdict.{Verdict, TheVariants.Suffixes},
   declared.file_writer.{Opening.TheVariants.{Never, Late}, Tells.{Tells, TheVariants.{Nothing, Sizes, Openings}}},
   Work.Needs,
 }
-use Rattle.ports_core.proofs.{
+use Rattle.ports_core.specs.{
+  Name.has_name,
+  Slot.{Effect, effect, Slot, is_writable},
+  declared.fault.Fault.{Fault, TheVariants.{Memory, Write, Open}},
+  declared.verdict.Verdict.{Verdict, TheVariants.Suffixes},
+}
+use Rattle.engine_core.proofs.{
   FileWriterLemmas.{goes_still, made_count, leaves_again, reaches_again, reaches_as},
   FileWriterLemmas.{stops_wider, where_short, where_well},
   WriterSteps.{goes_again, goes_lacking},
-  PartLemmas.{kept_there, stopped_in_turn},
+  WrittenLemmas.{kept_there, stopped_in_turn},
   ShareLemmas.{has_told, bytes_begin},
 }
 use Rattle.seg_core.specs.{Cut.most}
@@ -44,7 +46,7 @@ use Rattle.split_core.specs.{
   },
 }
 use Rattle.split_core.proofs.{CutLaws.cut_two}
-use Rattle.ports_core.specs.Engine as engine
+use Rattle.engine_core.specs.Engine as engine
 use Rattle.ports_core.specs.declared.fault.Fault.TheVariants as fault_is
 use Rattle.ports_core.specs.declared.slot.State.TheVariants as file_state
 use Rattle.split_core.specs.Ways as ways
@@ -246,16 +248,16 @@ module _ {state : PartsState} (piece : List ℕ) (end bytes : ℕ) (leads : Lead
       (draft_of state.limit x))) (most state.limit - length (drop end (take bytes piece)), false, [])
   ends_to x stands = rw (all_of (take end piece) stands) (turned_so (leads (rest_of state x) stands.lacks))
 
-  pub ends_stopped : {told : Bool} {mid : PartsState} {old wet : List Slot} {f : Fault}
-      → Extends state mid (take end piece) (effect told old wet) (Some f)
-      → Takes state mid piece (effect told old wet) (Some f)
+  pub ends_stopped : {visible : Bool} {mid : PartsState} {old wet : List Slot} {f : Fault}
+      → Extends state mid (take end piece) (effect visible old wet) (Some f)
+      → Takes state mid piece (effect visible old wet) (Some f)
   ends_stopped extends = takes_not (λ x stands. still_begins _ _ _ _ (rw (map-append, append_assoc) at (below piece bytes (ends_to x stands))))
       extends
 
-  pub ends_on : {told : Bool} {mid next : PartsState} {old wet new : List Slot} (fault : Option Fault) → end ≤ bytes
-      → Extends state mid (take end piece) (effect told old wet) None
-      → BeginsNext mid next (take (bytes - end) (drop end piece)) (effect told wet new) fault
-      → Takes state next (taken bytes piece fault) (effect told old new) fault
+  pub ends_on : {visible : Bool} {mid next : PartsState} {old wet new : List Slot} (fault : Option Fault) → end ≤ bytes
+      → Extends state mid (take end piece) (effect visible old wet) None
+      → BeginsNext mid next (take (bytes - end) (drop end piece)) (effect visible wet new) fault
+      → Takes state next (taken bytes piece fault) (effect visible old new) fault
   ends_on {mid = mid} fault low extends turn = takes_by piece bytes fault
       (λ draft. begins_next _ _) ends_to (record {
         limit = turn.limit ∙ extends.limit;
@@ -270,28 +272,29 @@ module _ {state : PartsState} (piece : List ℕ) (end bytes : ℕ) (leads : Lead
 
 -- all of the piece waits
 
-pub waited : (told : Bool) (state next : PartsState) (piece : List ℕ) (slots : List Slot) (result : Result ℕ Fault)
+pub waited : (visible : Bool) (state next : PartsState) (piece : List ℕ) (slots : List Slot) (result : Result ℕ Fault)
     → 0 < length piece → LeadsOn state piece Waits
     → IsReady state slots → IfOk result (λ n. n ≡ length piece)
     → OnOk result (next ≡ record state { left = state.left - length piece; waiting = state.waiting ++ piece })
-    → IfErr result (λ f. (f ≡ Memory) × (next ≡ state)) → TakesStretch state next piece (effect told slots slots) result
-waited told state next piece slots (Ok n) some leads ready count waits err = grind (arith, common_steps, takes_by, take-length, none_full, goes_still)
+    → IfErr result (λ f. (f ≡ Memory) × (next ≡ state))
+    → TakesStretch state next piece (effect visible slots slots) result
+waited visible state next piece slots (Ok n) some leads ready count waits err = grind (arith, common_steps, takes_by, take-length, none_full, goes_still)
 -- there is no room for it
-waited told state next piece slots (Err f) some leads ready count waits err =
+waited visible state next piece slots (Err f) some leads ready count waits err =
     rw (err.0, err.1) (takes_not {change = with_bytes []} {are = numbers state}
     (λ x stands. rw (← append-nil (begun_of state x)) at (settled_grow state.limit x piece))
     (record { limit = refl; same = tt; goes = goes_lacking ready.writer refl }))
 
 -- A piece is taken in step by step.
 
-pub takes_none : (told : Bool) (state : PartsState) {slots : List Slot} → IsReady state slots
-    → Takes state state [] (effect told slots slots) None
-takes_none told state ready = search rules
+pub takes_none : (visible : Bool) (state : PartsState) {slots : List Slot} → IsReady state slots
+    → Takes state state [] (effect visible slots slots) None
+takes_none visible state ready = search rules
 
-pub takes_again : {told : Bool} {state mid next : PartsState} (first more : List ℕ) {old wet new : List Slot}
+pub takes_again : {visible : Bool} {state mid next : PartsState} (first more : List ℕ) {old wet new : List Slot}
     (fault : Option Fault)
-    → Takes state mid first (effect told old wet) None → Takes mid next more (effect told wet new) fault
-    → Takes state next (first ++ more) (effect told old new) fault
+    → Takes state mid first (effect visible old wet) None → Takes mid next more (effect visible wet new) fault
+    → Takes state next (first ++ more) (effect visible old new) fault
 takes_again {state = state} {mid} first more fault one other = record {
   limit = other.limit ∙ one.limit;
   leaves = leaves_again one.leaves other.leaves;
@@ -322,9 +325,9 @@ no_rest state x none = by _ (settled_some _ _) where
   by [] some = refl
   by (byte ∷ rest) some = absurd (omega (arith, ap length none))
 
-pub finishes_none : (told : Bool) (state : PartsState) {slots : List Slot} → IsReady state slots
-    → false ≡ is_file state.writer.current → Finishes state state (effect told slots slots) None
-finishes_none told state ready none = grind (arith, no_rest, append-nil)
+pub finishes_none : (visible : Bool) (state : PartsState) {slots : List Slot} → IsReady state slots
+    → false ≡ is_file state.writer.current → Finishes state state (effect visible slots slots) None
+finishes_none visible state ready none = grind (arith, no_rest, append-nil)
 
 -- what waits is written, and then the part has all that is left
 abbrev pub closes : PartsState → Draft → Draft
@@ -365,13 +368,14 @@ work_by : (state next : PartsState) → next.limit ≡ state.limit → filing_of
     → work next ≡ work state
 work_by state next limit names = cc
 
-at_writer : {told : Bool} {before : List Slot} {state : PartsState} {x : List ℕ} {now : List Slot}
-    → StandsAt ways.terms (way.Parts state) told before x now → At told state.writer before (settled_part state x) now
+at_writer : {visible : Bool} {before : List Slot} {state : PartsState} {x : List ℕ} {now : List Slot}
+    → StandsAt ways.terms (way.Parts state) visible before x now
+    → At visible state.writer before (settled_part state x) now
 at_writer at = search rules
 
-module _ (told : Bool) (state next : PartsState) (piece : List ℕ) (old new : List Slot) where
-  cut_off : (f : Fault) → Takes state next piece (effect told old new) (Some f)
-      → CutsOff ways.terms (way.Parts state) (λ x. (work state).settled (x ++ piece)) (effect told old new) f
+module _ (visible : Bool) (state next : PartsState) (piece : List ℕ) (old new : List Slot) where
+  cut_off : (f : Fault) → Takes state next piece (effect visible old new) (Some f)
+      → CutsOff ways.terms (way.Parts state) (λ x. (work state).settled (x ++ piece)) (effect visible old new) f
   cut_off (fault_is.Verdict Suffixes) stop before x at = engine.judged refl new ((stop.short refl x at.holds).all before (at_writer at)) refl
   cut_off Memory stop before x at = grind (arith, stopped_in_turn, has_told)
   cut_off (Write slot) stop before x at = grind (arith, stopped_in_turn, has_told)
@@ -379,9 +383,9 @@ module _ (told : Bool) (state next : PartsState) (piece : List ℕ) (old new : L
   cut_off f stop before x at = absurd stop.leaves.slots
 
   pub passes_by : (result : Result (Unit {0}) Fault) → IsReady state old
-      → Takes state next piece (effect told old new) (fault_in result)
+      → Takes state next piece (effect visible old new) (fault_in result)
       → engine.Passes ways.terms piece (way.Parts state) (way.Parts next)
-      (effect told old new) (engine.IsMetWith ways.terms piece (way.Parts state)) result
+      (effect visible old new) (engine.IsMetWith ways.terms piece (way.Parts state)) result
   passes_by (Ok done) ready takes = grind arith
   passes_by (Err f) ready takes =
       let cut = cut_off f takes in
@@ -393,10 +397,10 @@ module _ (told : Bool) (state next : PartsState) (piece : List ℕ) (old new : L
 
 -- the end
 
-pub finishes_by : (told : Bool) (state next : PartsState) (old new : List Slot) (result : Result (Unit {0}) Fault)
-    → IsReady state old → Finishes state next (effect told old new) (fault_in result)
+pub finishes_by : (visible : Bool) (state next : PartsState) (old new : List Slot) (result : Result (Unit {0}) Fault)
+    → IsReady state old → Finishes state next (effect visible old new) (fault_in result)
     → engine.Finishes ways.terms (way.Parts state) (way.Parts next)
-    (effect told old new) (engine.IsMetThere ways.terms (way.Parts state)) result
-finishes_by told state next old new (Ok done) ready ends = grind (arith, all_have_names)
-finishes_by told state next old new (Err f) ready ends =
+    (effect visible old new) (engine.IsMetThere ways.terms (way.Parts state)) result
+finishes_by visible state next old new (Ok done) ready ends = grind (arith, all_have_names)
+finishes_by visible state next old new (Err f) ready ends =
     grind (arith, common_steps, work_by, filing_same, stopped_in_turn, has_told, at_writer)

@@ -15,16 +15,18 @@ use Rattle.seg_core.{
 use Rattle.ports_core.specs.{
   Name.{Naming, has_name},
   Slot.{Effect, Slot, effect},
-  Part.{OutputsAt, StoppedBetween, gets_bytes, nothing},
-  Work.{Judges, Work},
   declared.verdict.Verdict.TheVariants.Suffixes,
   declared.fault.Fault.Fault,
   declared.slot.State.{State, TheVariants.{Open, Closed}},
+}
+use Rattle.engine_core.specs.{
+  Written.{OutputsAt, StoppedBetween, gets_bytes, nothing},
+  Work.{Judges, Work},
   declared.file_writer.Tells.Tells,
   Engine.{MayGet, EndsWith, EndsThere, PutsOut, StandsAt, is_verdict, cut},
   Draft.{part_of, part_with},
 }
-use Rattle.ports_core.proofs.{SpareLemmas.none_spare, PartLemmas.outputs_count, ShareLemmas.nothing_part}
+use Rattle.engine_core.proofs.{SpareLemmas.none_spare, WrittenLemmas.outputs_count, ShareLemmas.nothing_part}
 use Rattle.split_core.specs.{
   Alike.as_if,
   laws.{ChunkLaws.map_same, WorkLaws.lawful, DealLaws.{dealt_append, dealt_none, dealt_files_are, share_none}},
@@ -132,9 +134,9 @@ stands_is : {round : RoundState} {x : List ℕ} → Holds round x → (y : List 
     → part_by (filing_in round.files) (all_open (share_of round.delim round.count y) count) ≡ (work round).settled y
 stands_is {round} holds y is = search (rules, filed_are)
 
-stand_at : {told : Bool} {round : RoundState} {before : List Slot} {x : List ℕ} {now : List Slot}
-    → StandsAt ways.terms (way.Round round) told before x now
-    → StandAt told round.files before (share_of round.delim round.count x) now
+stand_at : {visible : Bool} {round : RoundState} {before : List Slot} {x : List ℕ} {now : List Slot}
+    → StandsAt ways.terms (way.Round round) visible before x now
+    → StandAt visible round.files before (share_of round.delim round.count x) now
 stand_at at = search (rules, stands_is, none_yet)
 
 count_is : {round : RoundState} {x : List ℕ} (piece : List ℕ) → Holds round x
@@ -142,14 +144,14 @@ count_is : {round : RoundState} {x : List ℕ} (piece : List ℕ) → Holds roun
     ≡ opened_by round.delim round.elide round.count (x ++ piece)
 count_is piece holds = search (rules, length-map-range_with_len, opened_after)
 
-pub passes_at : (told : Bool) (round : RoundState) (piece : List ℕ) {place : ℕ} {next : FilesState}
+pub passes_at : (visible : Bool) (round : RoundState) (piece : List ℕ) {place : ℕ} {next : FilesState}
     {before after : List Slot} (result : Result (Unit {0}) Fault)
     → OnOk result (place ≡ (round.next + delimiters round.delim piece) % round.count)
     → Adds round.files next (λ i. get_or (dealt_first round.delim round.count round.next piece) i []) 0
-    (length (dealt_first round.delim round.count round.next piece)) (effect told before after) result
+    (length (dealt_first round.delim round.count round.next piece)) (effect visible before after) result
     → PassesAs (way.Round round) (way.Round (record round { files = next; next = place })) piece
-    (effect told before after) result
-passes_at told round piece (Ok u) is adds = record {
+    (effect visible before after) result
+passes_at visible round piece (Ok u) is adds = record {
   same = cc adds.filing;
   size = omega arith;
   holds = λ x holds. grind (arith, common_steps, mod-add-mod, delimiters-append, count_is);
@@ -162,7 +164,7 @@ passes_at told round piece (Ok u) is adds = record {
   cut = tt;
   met = tt;
 }
-passes_at told round piece {before = before} {after} (Err why) is adds =
+passes_at visible round piece {before = before} {after} (Err why) is adds =
     let tells = is_verbose round.files.tells in let lacks = part.none_lacks tells before after adds.caused in record {
       same = cc adds.filing;
       size = omega arith;
@@ -195,7 +197,7 @@ closed_part {round} {x} holds =
 whole_closed : {round : RoundState} {outs : Effect} → ClosesAll round.files outs (Ok tt)
     → PutsOut ways.terms (way.Round round) (work round).whole outs
 whole_closed {outs = outs} closes before x at =
-    subst (λ part. OutputsAt outs.told before part outs.new) (closed_part at.holds) (closes.leaves before _ (stand_at at))
+    subst (λ part. OutputsAt outs.visible before part outs.new) (closed_part at.holds) (closes.leaves before _ (stand_at at))
 
 pub finishes_by : (round : RoundState) {outs : Effect} (result : Result (Unit {0}) Fault)
     → ClosesAll round.files outs result → EndsAs (way.Round round) (way.Round round) outs result
@@ -220,8 +222,8 @@ finishes_by round {outs} (Err why) closes = record {
 abbrev pub no_files : Naming → Tells → FilesState
 no_files names tells = record { names = record { naming = names; drawn = 0 }; tells = tells; outputs = [] }
 
-starts_at : {told : Bool} (names : Naming) (tells : Tells) {before slots : List Slot}
-    → OutputsAt told before nothing slots → StandAt told (no_files names tells) before (λ i. []) slots
+starts_at : {visible : Bool} (names : Naming) (tells : Tells) {before slots : List Slot}
+    → OutputsAt visible before nothing slots → StandAt visible (no_files names tells) before (λ i. []) slots
 starts_at names tells at = search (rules, outputs_count, nothing_part)
 
 -- no line has come in yet
@@ -230,16 +232,17 @@ starts_with : (delim : ℕ) (elide : Bool) (n : ℕ) {count : ℕ} → count ≡
 starts_with delim elide n is = grind (arith, nat_tests)
 
 -- what is there once the first were opened is all that must be written of no input
-module _ {told : Bool} (names : Naming) (tells : Tells) (delim : ℕ) (elide : Bool) (n : ℕ) {count : ℕ}
+module _ {visible : Bool} (names : Naming) (tells : Tells) (delim : ℕ) (elide : Bool) (n : ℕ) {count : ℕ}
     {files next : FilesState} {before old new : List Slot} (is : files ≡ no_files names tells)
-    (are : are_named names n ≡ true) (counted : count ≡ cond elide 0 n) (at : OutputsAt told before nothing old) where
-  pub opens_so : Opens files next 0 count (effect told old new) (Ok tt)
-      → OutputsAt told before (settled_by (round_plan delim n elide (filing_in (no_files names tells))) []) new
+    (are : are_named names n ≡ true) (counted : count ≡ cond elide 0 n)
+    (at : OutputsAt visible before nothing old) where
+  pub opens_so : Opens files next 0 count (effect visible old new) (Ok tt)
+      → OutputsAt visible before (settled_by (round_plan delim n elide (filing_in (no_files names tells))) []) new
   opens_so opens = let made = filed_are delim (filing_in (no_files names tells)) elide n [] are Open (starts_with delim elide n counted) in
       rw made at ((rw is at opens).adds.leaves before _ (λ i. []) (starts_at names tells at) (λ i. refl))
 
-  pub opens_cut : {why : Fault} → Opens files next 0 count (effect told old new) (Err why)
-      → StoppedBetween (output_by (is_verbose tells)) told before nothing
+  pub opens_cut : {why : Fault} → Opens files next 0 count (effect visible old new) (Err why)
+      → StoppedBetween (output_by (is_verbose tells)) visible before nothing
       (settled_by (round_plan delim n elide (filing_in (no_files names tells))) []) why new
   opens_cut opens = let made = filed_are delim (filing_in (no_files names tells)) elide n [] are Open (starts_with delim elide n counted) in
       rw (nothing_part (output_by (is_verbose tells)), made) at
@@ -307,7 +310,7 @@ told_beside false is = cc
 pub open_after : (those : Work) (verbose : Bool) → those.means.output ≡ output_by verbose
     → (after : Splitter) (z : List ℕ) → ways.work after ≡ those → (as_if ways.terms).Holds after z
     → those.is_complete z ≡ false
-open_after those verbose told after z same is = rw (← same) (goes_on _ z is (λ bytes. told_beside verbose (cc)))
+open_after those verbose visible after z same is = rw (← same) (goes_on _ z is (λ bytes. told_beside verbose (cc)))
 
 pub spares_none : (most : ℕ) (splitter : Splitter) → ((state : ChunkerState) → splitter ≡ way.Chunks state → ⊥)
     → MayGet (as_if ways.terms) splitter most

@@ -6,26 +6,28 @@ use Rattle.std.proofs.{
   Common.{◌≡◌, ℕ, ◌+◌, ◌≤◌, zero, suc, Bool, true, false, List, [], ◌∷◌, ◌++◌, length, get_or, cond, eqb, Option},
   Common.{Some, None, Result, Ok, Err, IfSome, IfNone, IfErr, IsTrue, inl, refl, sym, ◌∙◌, ap, subst, arith},
 }
-use Rattle.ports_core.specs.{
+use Rattle.engine_core.specs.{
   Draft.{Draft, Manner, draft_part, made_of, with_bytes, with_next},
   FileWriter.{At, Goes, IsCurrent, IsReady, IsWrite, KeepsOrBreaks, Leaves, Writes, WriterState, is_file},
-  Part.{Begins, FilesBegin, Output, OutputsAt, Part, gets_bytes, only_out},
-  Slot.{Effect, effect, Slot, is_writable},
-  Write.BrokeAfter,
+  Written.{Begins, FilesBegin, Output, OutputsAt, Written, gets_bytes, only_out},
   inner.Write.Wrote,
   InTurn.{IsThere, StoppedInTurn, fault_in},
-  declared.fault.Fault.{Fault, TheVariants.{Verdict, Write}},
-  declared.verdict.Verdict.TheVariants.Suffixes,
   declared.file_writer.{
     Current.{Current, TheVariants.{Skipped, Due, File, Unopened}},
     Opening.{Opening, TheVariants.{Late, AtOnce, Never}},
     Tells.Tells,
   },
 }
-use Rattle.ports_core.proofs.{
+use Rattle.ports_core.specs.{
+  Slot.{Effect, effect, Slot, is_writable},
+  Write.BrokeAfter,
+  declared.fault.Fault.{Fault, TheVariants.{Verdict, Write}},
+  declared.verdict.Verdict.TheVariants.Suffixes,
+}
+use Rattle.engine_core.proofs.{
   FileWriterLemmas.{in_any, leaves_again, reaches_again, reaches_as, stops_wider, where_well, where_short},
-  PartLemmas.{out_begins, out_cut, out_more, part_begins_itself, part_trans, turn_between},
-  PartSteps.there_from,
+  WrittenLemmas.{out_begins, out_cut, out_more, part_begins_itself, part_trans, turn_between},
+  WrittenSteps.there_from,
   ShareLemmas.{bytes_begin, next_begins},
 }
 use Rattle.split_core.specs.{
@@ -40,7 +42,7 @@ use Rattle.split_core.specs.{
   laws.ChunkWorkLaws.length-kept,
 }
 use Rattle.split_core.proofs.FilesLemmas.{named_before}
-use Rattle.ports_core.specs.inner.Write as short
+use Rattle.engine_core.specs.inner.Write as short
 
 -- The files
 
@@ -66,13 +68,13 @@ files_as {next = next} {fault = fault} same files = record {
   writes = where_well fault files.writes (λ later manner draft writes. subst (Writes manner next) (same draft writes.current) (later manner draft writes));
 }
 
-pub files_again : {told : Bool} {one two three : WriterState} {first second : Draft → Draft} (both : Draft → Draft)
+pub files_again : {visible : Bool} {one two three : WriterState} {first second : Draft → Draft} (both : Draft → Draft)
     {old mid new : List Slot} {fault : Option Fault} → ((draft : Draft) → second (first draft) ≡ both draft)
     → ((manner : Manner) (draft : Draft) → Begins (draft_part manner draft) (draft_part manner (first draft)))
     → IfSome fault (λ why. why ≡ Verdict Suffixes → (manner : Manner) (draft : Draft) → Writes manner two draft → ⊥)
-    → Files one two first (effect told old mid) None → Files two three second (effect told mid new) fault
-    → Files one three both (effect told old new) fault
-files_again {told} {three = three} {first} {second} both {new = new} {fault} is begins never before after = record {
+    → Files one two first (effect visible old mid) None → Files two three second (effect visible mid new) fault
+    → Files one three both (effect visible old new) fault
+files_again {visible} {three = three} {first} {second} both {new = new} {fault} is begins never before after = record {
   leaves = leaves_again before.leaves after.leaves;
   reaches = λ manner draft writes. reaches_again (begins manner draft) (before.reaches manner draft writes)
       (reaches_as refl (ap (draft_part manner) (sym (is draft))) (after.reaches manner (first draft) (before.writes manner draft writes)));
@@ -122,10 +124,10 @@ empties_begin false manner draft = by (made_of draft.opening draft.bytes) where
   by [] = next_begins manner AtOnce draft
   by (file ∷ files) = part_begins_itself _
 
-pub file_ends : {told : Bool} {writer mid next : WriterState} (elide : Bool) {old between new : List Slot}
-    {fault : Option Fault} → Files writer mid (empties_by elide) (effect told old between) None
-    → Goes mid next (with_next Late) (effect told between new) fault
-    → Files writer next (ends_by elide) (effect told old new) fault
+pub file_ends : {visible : Bool} {writer mid next : WriterState} (elide : Bool) {old between new : List Slot}
+    {fault : Option Fault} → Files writer mid (empties_by elide) (effect visible old between) None
+    → Goes mid next (with_next Late) (effect visible between new) fault
+    → Files writer next (ends_by elide) (effect visible old new) fault
 file_ends elide {fault = fault} emptied goes = files_again (ends_by elide) (late_after elide) (λ manner draft. empties_begin elide manner draft)
     (where_short fault goes.short (λ ran manner draft writes. let none : [] ≡ [] ∷ [] = (ran manner draft writes).begun in cc)) emptied
     (files_go (λ manner draft writes nameless none. absurd (cc)) goes)
@@ -143,12 +145,12 @@ filing_same : (writer next : WriterState) {old new : List Slot} {fault : Option 
     → Leaves writer next old new fault → filing_by next ≡ filing_by writer
 filing_same writer next leaves = cc
 
-at_aim : (output : Output) (told : Bool) (next : WriterState) (elide : Bool) (before : List Slot) (low : Part)
-    {mid high : Part} (new : List Slot) (fault : Option Fault) → mid ≡ high
-    → IsThere output told (At told next before mid new) before low mid new fault
-    → IsThere output told (AtAim told (to_files next elide) before high new) before low high new fault
-at_aim output told next elide before low new None is at = grind (arith, common_steps)
-at_aim output told next elide before low new (Some why) is stops = rw is at stops
+at_aim : (output : Output) (visible : Bool) (next : WriterState) (elide : Bool) (before : List Slot) (low : Written)
+    {mid high : Written} (new : List Slot) (fault : Option Fault) → mid ≡ high
+    → IsThere output visible (At visible next before mid new) before low mid new fault
+    → IsThere output visible (AtAim visible (to_files next elide) before high new) before low high new fault
+at_aim output visible next elide before low new None is at = grind (arith, common_steps)
+at_aim output visible next elide before low new (Some why) is stops = rw is at stops
 
 slots_as : {manner other : Manner} (old new : List Slot) (fault : Option Fault) → other ≡ manner
     → KeepsOrBreaks other old new fault → KeepsOrBreaks manner old new fault
@@ -165,7 +167,7 @@ module _ {writer next : WriterState} {elide : Bool} {change : Draft → Draft} {
       (to_files next elide) outs.old outs.new fault
   stays_files = grind (arith, common_steps, filing_same, slots_as, of_files, where_well)
 
-  brings_files : (cut : CutUp) {high : Part} → Writes (manner_of (filing_by writer)) writer (draft_by elide cut)
+  brings_files : (cut : CutUp) {high : Written} → Writes (manner_of (filing_by writer)) writer (draft_by elide cut)
       → draft_part (manner_of (filing_by writer)) (change (draft_by elide cut)) ≡ high
       → ((manner : Manner) (draft : Draft) → Begins (draft_part manner draft) (draft_part manner (change draft)))
       → IfSome fault (λ why. why ≡ Verdict Suffixes → ⊥)
@@ -264,10 +266,10 @@ none_files [] begins = refl
 none_files (file ∷ files) begins = absurd begins
 
 -- standard output broke among these bytes
-out_stops : (told : Bool) (before : List Slot) (had more : List ℕ) {high : List ℕ} (n : ℕ) {old new : List Slot}
-    → had ++ more ≡ high → OutputsAt told before (only_out had) old → BrokeAfter told old new 0 more n
-    → StoppedInTurn gets_bytes told before (only_out had) (only_out high) (Write 0) new
-out_stops told before had more {high} n {old} {new} is at broke = let stops = out_cut _ _ _ _ _ _ n at broke in rw (← is) (record {
+out_stops : (visible : Bool) (before : List Slot) (had more : List ℕ) {high : List ℕ} (n : ℕ) {old new : List Slot}
+    → had ++ more ≡ high → OutputsAt visible before (only_out had) old → BrokeAfter visible old new 0 more n
+    → StoppedInTurn gets_bytes visible before (only_out had) (only_out high) (Write 0) new
+out_stops visible before had more {high} n {old} {new} is at broke = let stops = out_cut _ _ _ _ _ _ n at broke in rw (← is) (record {
   part = stops.part;
   above = stops.above;
   below = stops.below;
@@ -285,26 +287,26 @@ out_stops told before had more {high} n {old} {new} is at broke = let stops = ou
   from = inl refl;
 })
 
-out_there : (told : Bool) (chunk : ℕ) (before : List Slot) (had more : List ℕ) {high : List ℕ} (old new : List Slot)
-    (fault : Option Fault) → had ++ more ≡ high → OutputsAt told before (only_out had) old
-    → Wrote told 0 more old new fault
-    → IsThere gets_bytes told (AtAim told (to_output chunk) before (only_out high) new) before (only_out had)
+out_there : (visible : Bool) (chunk : ℕ) (before : List Slot) (had more : List ℕ) {high : List ℕ} (old new : List Slot)
+    (fault : Option Fault) → had ++ more ≡ high → OutputsAt visible before (only_out had) old
+    → Wrote visible 0 more old new fault
+    → IsThere gets_bytes visible (AtAim visible (to_output chunk) before (only_out high) new) before (only_out had)
     (only_out high) new fault
-out_there told chunk before had more old new None is at wrote = record { owns = tt; outputs = rw is at (out_more _ _ _ _ _ _ at wrote) }
-out_there told chunk before had more old new (Some _) is at (short.broke n cut) = out_stops _ _ _ _ n is at cut
+out_there visible chunk before had more old new None is at wrote = record { owns = tt; outputs = rw is at (out_more _ _ _ _ _ _ at wrote) }
+out_there visible chunk before had more old new (Some _) is at (short.broke n cut) = out_stops _ _ _ _ n is at cut
 
-out_slots : (told : Bool) (chunk : ℕ) (more : List ℕ) (old new : List Slot) (fault : Option Fault)
-    → IsTrue (is_writable old 0) → Wrote told 0 more old new fault
+out_slots : (visible : Bool) (chunk : ℕ) (more : List ℕ) (old new : List Slot) (fault : Option Fault)
+    → IsTrue (is_writable old 0) → Wrote visible 0 more old new fault
     → KeepsOrBreaks (manner_on (in_output chunk)) old new fault × IfSome fault (IsOf (in_output chunk))
     × IfNone fault (IsTrue (is_writable new 0))
-out_slots told chunk more old new None can wrote = grind (arith, common_steps)
-out_slots told chunk more old new (Some _) can (short.broke n cut) = grind (arith, common_steps)
+out_slots visible chunk more old new None can wrote = grind (arith, common_steps)
+out_slots visible chunk more old new (Some _) can (short.broke n cut) = grind (arith, common_steps)
 
-pub output_put : {told : Bool} {chunk place : ℕ} (bytes : List ℕ) {old new : List Slot} (fault : Option Fault)
-    → IsTrue (is_writable old 0) → Wrote told 0 (cond (eqb chunk place) bytes []) old new fault
+pub output_put : {visible : Bool} {chunk place : ℕ} (bytes : List ℕ) {old new : List Slot} (fault : Option Fault)
+    → IsTrue (is_writable old 0) → Wrote visible 0 (cond (eqb chunk place) bytes []) old new fault
     → Changes (record { place = place; aim = to_output chunk }) (record { place = place; aim = to_output chunk })
-    (with_rest bytes) (effect told old new) fault
-output_put {told} {chunk} {place} bytes {old} {new} fault can wrote = let so = out_slots told chunk _ old new fault can wrote in record {
+    (with_rest bytes) (effect visible old new) fault
+output_put {visible} {chunk} {place} bytes {old} {new} fault can wrote = let so = out_slots visible chunk _ old new fault can wrote in record {
   stays = record {
     course = refl;
     owns = λ first owns. tt;
@@ -317,7 +319,7 @@ output_put {told} {chunk} {place} bytes {old} {new} fault can wrote = let so = o
     brings = record {
       named = never_named fault so.1;
       begins = out_begins _ _ (_, sym is);
-      reaches = λ before at. out_there told chunk before _ _ old new fault is at.outputs wrote;
+      reaches = λ before at. out_there visible chunk before _ _ old new fault is at.outputs wrote;
     };
     carries = in_any fault (record { placed = has.0.placed; has = tt });
   };
@@ -338,13 +340,13 @@ pub stays_none : {aim : AimState} {slots : List Slot} → IsAimed aim slots
     → Stays (course_of aim) aim aim slots slots None
 stays_none ready = grind (arith, common_steps)
 
-pub brings_none : {told : Bool} {on : Course} {aim : AimState} {part : Part} {slots : List Slot}
-    → Brings on aim aim part part (effect told slots slots) None
+pub brings_none : {visible : Bool} {on : Course} {aim : AimState} {part : Written} {slots : List Slot}
+    → Brings on aim aim part part (effect visible slots slots) None
 brings_none = record { named = tt; begins = part_begins_itself _; reaches = λ before at. at }
 
-pub output_next : {told : Bool} {chunk place : ℕ} {slots : List Slot} → IsTrue (is_writable slots 0)
+pub output_next : {visible : Bool} {chunk place : ℕ} {slots : List Slot} → IsTrue (is_writable slots 0)
     → Changes (record { place = place; aim = to_output chunk })
-    (record { place = place + 1; aim = to_output chunk }) with_full (effect told slots slots) None
+    (record { place = place + 1; aim = to_output chunk }) with_full (effect visible slots slots) None
 output_next {chunk = chunk} can = grind (arith, common_steps, stays_none, piece_full, brings_none, length-append)
 
 -- One after another
@@ -359,14 +361,14 @@ module _ {on : Course} {old mid new : List Slot} {fault : Option Fault} where
       → Stays on one three old new fault
   stays_then first second = grind (arith, common_steps, slots_again, where_well)
 
-  pub brings_then : {told : Bool} {one two three : AimState} {low middle high : Part}
-      → Brings on one two low middle (effect told old mid) None
-      → Brings on two three middle high (effect told mid new) fault
-      → Brings on one three low high (effect told old new) fault
-  brings_then {told} first second = grind (arith, common_steps, part_trans, there_from)
+  pub brings_then : {visible : Bool} {one two three : AimState} {low middle high : Written}
+      → Brings on one two low middle (effect visible old mid) None
+      → Brings on two three middle high (effect visible mid new) fault
+      → Brings on one three low high (effect visible old new) fault
+  brings_then {visible} first second = grind (arith, common_steps, part_trans, there_from)
 
 -- a call that was stopped was stopped on its way to more
-pub brings_wider : {on : Course} {aim next : AimState} {low middle high : Part} {outs : Effect}
+pub brings_wider : {on : Course} {aim next : AimState} {low middle high : Written} {outs : Effect}
     {why : Fault} → Begins middle high → Brings on aim next low middle outs (Some why)
     → Brings on aim next low high outs (Some why)
 brings_wider wider brings = record {

@@ -5,16 +5,11 @@ use Rattle.std.proofs.{
   Math.Nat.{mod-add-mod},
 }
 use Rattle.seg_core.{proofs.Delimiters.delimiters-append, specs.Line.{delimiters, lines_of}}
-use Rattle.ports_core.{
-  specs.{
-    Engine.{cut},
-    Slot.{effect, Slot, is_writable},
-    InTurn.fault_in,
-    inner.Write.Wrote,
-    declared.fault.Fault.{Fault, TheVariants.Memory},
-  },
-  proofs.{PartLemmas.{out_cut, out_more}, SlotSteps.{write_rose, written_writable}},
+use Rattle.engine_core.{
+  specs.{Engine.cut, InTurn.fault_in, inner.Write.Wrote},
+  proofs.{WrittenLemmas.{out_cut, out_more}, SlotSteps.{write_rose, written_writable}},
 }
+use Rattle.ports_core.specs.{Slot.{effect, Slot, is_writable}, declared.fault.Fault.{Fault, TheVariants.Memory}}
 use Rattle.split_core.{
   specs.{
     inner.{Dealt.dealt_piece, Ways.{EndsAs, PassesAs}},
@@ -24,10 +19,10 @@ use Rattle.split_core.{
   },
   proofs.{CutLaws.dealt_same, WayLemmas.passes_lacking},
 }
-use Rattle.ports_core.specs.inner.Write as short
+use Rattle.engine_core.specs.inner.Write as short
 use Rattle.split_core.specs.Ways as ways
 use Rattle.split_core.specs.declared.splitter.Splitter.TheVariants as way
-use Rattle.ports_core.specs.Engine.{PutsOut, CutsOff}
+use Rattle.engine_core.specs.Engine.{PutsOut, CutsOff}
 
 -- what a piece adds, and where it leaves the stage
 abbrev pub due : TurnState → List ℕ → List ℕ
@@ -49,25 +44,25 @@ went_out : {turn : TurnState} {x : List ℕ} (piece : List ℕ) → Holds turn x
     ≡ (work turn).settled (x ++ piece)
 went_out {turn} {x} piece holds = grind (arith, dealt_append, dealt_same)
 
-pub passes_at : (told : Bool) (turn : TurnState) (piece : List ℕ) {before after : List Slot}
+pub passes_at : (visible : Bool) (turn : TurnState) (piece : List ℕ) {before after : List Slot}
     (result : Result (Unit {0}) Fault) → IsTrue (is_writable before 0)
-    → Wrote told 0 (due turn piece) before after (fault_in result)
-    → PassesAs (way.Turn turn) (way.Turn (passed turn piece)) piece (effect told before after) result
-passes_at told turn piece {before} {after} (Ok u) can wrote =
-    let outputs : PutsOut ways.terms (way.Turn turn) (λ x. (work turn).settled (x ++ piece)) (effect told before after) =
+    → Wrote visible 0 (due turn piece) before after (fault_in result)
+    → PassesAs (way.Turn turn) (way.Turn (passed turn piece)) piece (effect visible before after) result
+passes_at visible turn piece {before} {after} (Ok u) can wrote =
+    let outputs : PutsOut ways.terms (way.Turn turn) (λ x. (work turn).settled (x ++ piece)) (effect visible before after) =
     λ start x at. rw (went_out _ at.holds) at (out_more _ _ _ _ _ _ at.outputs wrote) in
     let ready = written_writable _ _ 0 0 _ can wrote in grind (arith, mod-add-mod, delimiters-append)
-passes_at told turn piece {before} {after} (Err why) can (short.broke n broke) =
-    let cuts : CutsOff ways.terms (way.Turn turn) (λ x. (work turn).settled (x ++ piece)) (effect told before after) why =
+passes_at visible turn piece {before} {after} (Err why) can (short.broke n broke) =
+    let cuts : CutsOff ways.terms (way.Turn turn) (λ x. (work turn).settled (x ++ piece)) (effect visible before after) why =
     λ start x at. cut refl (rw (went_out _ at.holds) at (out_cut _ _ _ _ _ _ n at.outputs broke)) in
     let rose = write_rose _ 0 _ n _ _ can broke in grind (arith, common_steps)
 
 -- there was no room for it
-pub lacks_room : {told : Bool} (turn : TurnState) (next : ℕ) (piece : List ℕ) {slots : List Slot}
-    → PassesAs (way.Turn turn) (way.Turn (record turn { next = next })) piece (effect told slots slots) (Err Memory)
+pub lacks_room : {visible : Bool} (turn : TurnState) (next : ℕ) (piece : List ℕ) {slots : List Slot}
+    → PassesAs (way.Turn turn) (way.Turn (record turn { next = next })) piece (effect visible slots slots) (Err Memory)
 lacks_room turn next piece = passes_lacking (way.Turn turn) _ piece refl (omega arith) (λ first own. tt) refl
 
 -- At the end nothing is left to be written.
-pub finishes_by : (told : Bool) (turn : TurnState) (slots : List Slot) → IsTrue (is_writable slots 0)
-    → EndsAs (way.Turn turn) (way.Turn turn) (effect told slots slots) (Ok tt)
-finishes_by told turn slots can = grind arith
+pub finishes_by : (visible : Bool) (turn : TurnState) (slots : List Slot) → IsTrue (is_writable slots 0)
+    → EndsAs (way.Turn turn) (way.Turn turn) (effect visible slots slots) (Ok tt)
+finishes_by visible turn slots can = grind arith

@@ -21,15 +21,13 @@ use Rattle.seg_core.{
   specs.{Line.{joined, delimiters, lines_of}, declared.cut.{Limit.{Limit}, Cut.Cut}, Cut.{most, IsPositive}},
   proofs.FirstLines.joined-append,
 }
-use Rattle.ports_core.specs.{
-  Name.{Naming, has_name},
+use Rattle.ports_core.specs.{Name.{Naming, has_name}, Slot.Slot, declared.slot.State.TheVariants.{Open, Closed}}
+use Rattle.engine_core.specs.{
   Work.{IsLawful, Work},
   Agreed.{spot, spots_from, output_at, GoesTo, file_bytes, ArePlaced, CanCome, IsUndecided, NoFewerWait},
-  Part.FilesBegin,
-  Slot.Slot,
-  declared.slot.State.TheVariants.{Open, Closed},
+  Written.FilesBegin,
 }
-use Rattle.ports_core.proofs.{
+use Rattle.engine_core.proofs.{
   AgreedLemmas.{none_comes, common, none_before, same_spots, spots_differ, spots_few, AreFront, stretch_placed},
   LeastLemmas.{early_enough, least_by, none_is_least},
 }

@@ -11,19 +11,15 @@ use Rattle.std.proofs.{
   Common.{arith, append_assoc},
   Math.Seq.drop-append-add,
 }
-use Rattle.ports_core.{
-  specs.{
-    Part.Begins,
-    Slot.{Effect, Slot, effect},
-    declared.{fault.Fault.Fault, file_writer.Opening.TheVariants.Never},
-    InTurn.fault_in,
-  },
+use Rattle.engine_core.{
+  specs.{Written.Begins, declared.file_writer.Opening.TheVariants.Never, InTurn.fault_in},
   proofs.{
-    PartLemmas.{part_begins_itself, part_trans},
+    WrittenLemmas.{part_begins_itself, part_trans},
     ShareLemmas.next_begins,
     FileWriterLemmas.{in_any, where_well},
   },
 }
+use Rattle.ports_core.specs.{Slot.{Effect, Slot, effect}, declared.fault.Fault.Fault}
 use Rattle.seg_core.specs.declared.{cut.Chunks.Chunks}
 use Rattle.split_core.specs.{
   Chunks.{before_chunk, pieces_in, begun_before, chunk_start, chunks_within, open_from, passed},
@@ -68,10 +64,10 @@ still_all : (cutter : CutterState) (waiting : List ℕ) (end : ℕ) (z : List �
 still_all cutter waiting end z (has, all) (inl none) = grind (arith, common_steps)
 still_all cutter waiting end z (has, all) (inr stops) = grind (arith, common_steps, or_parts, no_line, begun_stays, ltb-false)
 
-pub settles_none : {told : Bool} {cutter : CutterState} {waiting : List ℕ} {end : ℕ} {slots : List Slot}
+pub settles_none : {visible : Bool} {cutter : CutterState} {waiting : List ℕ} {end : ℕ} {slots : List Slot}
     → IsAimed cutter.sink.aim slots
     → (length waiting ≡ 0) ⊎ (false ≡ (nat_lt cutter.at end || cutter.is_within))
-    → Settles cutter cutter waiting waiting end (effect told slots slots) None
+    → Settles cutter cutter waiting waiting end (effect visible slots slots) None
 settles_none {cutter = cutter} {waiting} {end} ready ends = record {
   chunks = refl;
   bound = omega arith;
@@ -80,19 +76,19 @@ settles_none {cutter = cutter} {waiting} {end} ready ends = record {
   leads = λ z so. rw (still_all _ _ _ z so ends) (so.0, sym (drop_at z waiting (length z) refl));
 }
 
-module _ {told : Bool} {cutter : CutterState} (waiting : List ℕ) (end : ℕ) {old : List Slot}
+module _ {visible : Bool} {cutter : CutterState} (waiting : List ℕ) (end : ℕ) {old : List Slot}
     (short : true ≡ (nat_lt cutter.at end || cutter.is_within)) where
   gives_on : {next : SinkState} {new : List Slot} {fault : Option Fault}
-      → Changes cutter.sink next (with_rest (cut_to cutter end waiting)) (effect told old new) fault → (z : List ℕ)
+      → Changes cutter.sink next (with_rest (cut_to cutter end waiting)) (effect visible old new) fault → (z : List ℕ)
       → BeginsBefore cutter end z
       → Gives (course cutter) cutter.sink next (uncut z) (uncut (all_before cutter waiting end z))
-      (effect told old new) fault
+      (effect visible old new) fault
   gives_on changes z so = let has = so.0 in let less : cutter.sink.place < cutter.chunks.count = omega (arith, some_in has) in
       rw (writes_on _ _ z _ so short) (changes.gives (uncut z) (has.carries, name_of _ _ _ has.all less))
 
   pub settles_on : {next : CutterState} {left : List ℕ} {new : List Slot} {n : ℕ}
-      → WritesTo cutter next end waiting (effect told old new) (Ok n) → left ≡ drop n waiting
-      → Settles cutter next waiting left end (effect told old new) None
+      → WritesTo cutter next end waiting (effect visible old new) (Ok n) → left ≡ drop n waiting
+      → Settles cutter next waiting left end (effect visible old new) None
   settles_on {next} {left} {new} {n} writes is = let y = cut_to cutter end waiting in let step = cutting _ writes in
       let long : length y ≡ n = omega (arith, ap length writes.count.2, length-take n waiting) in
       record {
@@ -109,8 +105,8 @@ module _ {told : Bool} {cutter : CutterState} (waiting : List ℕ) (end : ℕ) {
       }
 
   pub settles_not : {next : CutterState} {new : List Slot} {why : Fault}
-      → WritesTo cutter next end waiting (effect told old new) (Err why)
-      → Settles cutter next waiting waiting end (effect told old new) (Some why)
+      → WritesTo cutter next end waiting (effect visible old new) (Err why)
+      → Settles cutter next waiting waiting end (effect visible old new) (Some why)
   settles_not {why = why} writes = record {
     chunks = writes.chunks;
     bound = omega arith;
@@ -298,17 +294,17 @@ to_whole : {cutter : CutterState} {waiting : List ℕ} {size : ℕ} (z : List �
 to_whole {cutter} {waiting} {size} z so = part_trans _ _ _ (so_grows (course cutter) cutter.chunks size z waiting
     (some_in so.cut) (omega (arith, length-append z waiting))) (whole_begins (course cutter) _)
 
-module _ {told : Bool} {cutter start mid : CutterState} {waiting : List ℕ} {size : ℕ} {old wet : List Slot}
+module _ {visible : Bool} {cutter start mid : CutterState} {waiting : List ℕ} {size : ℕ} {old wet : List Slot}
     (is : start ≡ first_begun cutter) where
-  gives_first : {fault : Option Fault} → EndsFull start mid size (effect told old wet) fault → {z : List ℕ}
+  gives_first : {fault : Option Fault} → EndsFull start mid size (effect visible old wet) fault → {z : List ℕ}
       → IsFront cutter waiting size z
       → Brings (course cutter) cutter.sink.aim mid.sink.aim (part_on (course cutter) (uncut z))
-      (part_on (course cutter) (chunks_within cutter.chunks size z)) (effect told old wet) fault
+      (part_on (course cutter) (chunks_within cutter.chunks size z)) (effect visible old wet) fault
       × IfNone fault (IsCut mid size z)
   gives_first {fault} ends {z} so = grind (arith, common_steps, front_part, cut_off_so)
 
-  pub held_not_ended : {why : Fault} → EndsFull start mid size (effect told old wet) (Some why)
-      → EndsHeld cutter mid waiting waiting size (effect told old wet) (Some why)
+  pub held_not_ended : {why : Fault} → EndsFull start mid size (effect visible old wet) (Some why)
+      → EndsHeld cutter mid waiting waiting size (effect visible old wet) (Some why)
   held_not_ended ends = let full = rw is at ends in record {
     chunks = full.chunks;
     bound = omega arith;
@@ -316,13 +312,13 @@ module _ {told : Bool} {cutter start mid : CutterState} {waiting : List ℕ} {si
     brings = λ z so. brings_wider (to_whole z so) (gives_first ends so).0;
   }
 
-  module _ (ends : EndsFull start mid size (effect told old wet) None) {done : List ℕ} {next : CutterState}
+  module _ (ends : EndsFull start mid size (effect visible old wet) None) {done : List ℕ} {next : CutterState}
       {new : List Slot}
       {fault : Option Fault} (few : length done ≤ length waiting)
-      (cuts : CutsMore mid next size done (effect told wet new) fault) where
+      (cuts : CutsMore mid next size done (effect visible wet new) fault) where
     rest_cut : (z : List ℕ) → IsFront cutter waiting size z
         → Brings (course cutter) cutter.sink.aim next.sink.aim (part_on (course cutter) (uncut z))
-        (part_on (course cutter) (chunks_within cutter.chunks size (z ++ done))) (effect told old new) fault
+        (part_on (course cutter) (chunks_within cutter.chunks size (z ++ done))) (effect visible old new) fault
         × IfNone fault (IsCut next size (z ++ done))
     rest_cut z so = let full = rw is at ends in let first = gives_first ends so in
         let fits : length (z ++ done) ≤ size = omega (arith, so.all, length-append z done) in (
@@ -331,9 +327,9 @@ module _ {told : Bool} {cutter start mid : CutterState} {waiting : List ℕ} {si
         )
 
   pub held_not_cut : {next : CutterState} {new : List Slot} {why : Fault}
-      → size ≡ cutter.at + length waiting → EndsFull start mid size (effect told old wet) None
-      → CutsMore mid next size (take (min (length waiting) (size - mid.at)) waiting) (effect told wet new) (Some why)
-      → EndsHeld cutter next waiting [] size (effect told old new) (Some why)
+      → size ≡ cutter.at + length waiting → EndsFull start mid size (effect visible old wet) None
+      → CutsMore mid next size (take (min (length waiting) (size - mid.at)) waiting) (effect visible wet new) (Some why)
+      → EndsHeld cutter next waiting [] size (effect visible old new) (Some why)
   held_not_cut all full stopped =
       let ends = rw is at full in let same = take_all (min (length waiting) (size - mid.at)) waiting (omega arith) in
       let cuts = rw same at stopped in record {
@@ -345,10 +341,11 @@ module _ {told : Bool} {cutter start mid : CutterState} {waiting : List ℕ} {si
 
   -- what is left once the output is complete changes nothing
   pub held_ends : {later next : CutterState} {left : ℕ} {between new : List Slot} (fault : Option Fault)
-      → size ≡ cutter.at + length waiting → EndsFull start mid size (effect told old wet) None
-      → CutsAs mid later size waiting left (effect told wet between)
-      → EndsAll later.sink next.sink (effect told between new) fault → next.chunks ≡ later.chunks → next.at ≡ later.at
-      → EndsHeld cutter next waiting [] size (effect told old new) fault
+      → size ≡ cutter.at + length waiting → EndsFull start mid size (effect visible old wet) None
+      → CutsAs mid later size waiting left (effect visible wet between)
+      → EndsAll later.sink next.sink (effect visible between new) fault → next.chunks ≡ later.chunks
+      → next.at ≡ later.at
+      → EndsHeld cutter next waiting [] size (effect visible old new) fault
   held_ends {later} {left = left} {between} fault all full cuts last chunks at = record {
     chunks = chunks ∙ same;
     bound = omega (arith, ends.at);
@@ -356,7 +353,7 @@ module _ {told : Bool} {cutter start mid : CutterState} {waiting : List ℕ} {si
     brings = λ z so. let (brings, has) = rest_cut full few cuts.cuts z so in
         brings_then brings (rw (first.course, whole z so has) at (last.brings _ (rw same at has.cut.carries)));
   } where
-    ends : EndsFull (first_begun cutter) mid size (effect told old wet) None
+    ends : EndsFull (first_begun cutter) mid size (effect visible old wet) None
     ends = rw is at full
 
     done : List ℕ

@@ -6,7 +6,7 @@ use Rattle.std.{
   proofs.lemmas.{Bool.{false≢true, cases_lt, leb-true}, List.{append-nil, length-append, take_at}},
   specs.Option.is_some,
 }
-use Rattle.ports_core.{specs.{Engine.MayGet, Work.{IsSpare, Work}}, proofs.SpareLemmas.{none_spare, spare_within}}
+use Rattle.engine_core.{specs.{Engine.MayGet, Work.{IsSpare, Work}}, proofs.SpareLemmas.{none_spare, spare_within}}
 use Rattle.seg_core.specs.declared.cut.Chunks.{Chunks}
 use Rattle.split_core.specs.{
   Alike.as_if,

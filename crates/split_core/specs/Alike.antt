@@ -1,6 +1,6 @@
 -- Inputs that a tool's work can't tell apart.
 use Rattle.std.specs.Prelude.{◌≡◌, ℕ, ◌↔◌, List, ◌++◌, length}
-use Rattle.ports_core.specs.{Work.{Work, IsSpare}, Engine.Terms}
+use Rattle.engine_core.specs.{Work.{Work, IsSpare}, Engine.Terms}
 
 -- Two beginnings of an input: whatever follows, the work makes the same of both.
 pub record AreAlike (work : Work) (x z : List ℕ) : Type 0 where

@@ -5,14 +5,13 @@ use Rattle.std.specs.{
   Prelude.{Option, if◌then◌else◌},
 }
 use Rattle.seg_core.specs.{Line.joined, declared.cut.Chunks.Chunks}
-use Rattle.ports_core.specs.{
+use Rattle.engine_core.specs.{
   Agreed.{CanCome, Spot, file_bytes, output_at, spots_from},
-  Part.{Part, IsBeginning, Begins},
-  Slot.Slot,
+  Written.{Written, IsBeginning, Begins},
   InTurn.AllClosed,
   Work.Work,
-  declared.slot.State.TheVariants.Open,
 }
+use Rattle.ports_core.specs.{Slot.Slot, declared.slot.State.TheVariants.Open}
 use Rattle.split_core.specs.{Chunks.{in_the_end, is_as_said, pieces_in}, ChunkWork.{ChunksPlan, chunks_whole}}
 
 -- bytes that may come after x: with them it has the size that the input showed
@@ -20,13 +19,13 @@ abbrev pub CanFollow : Option ℕ → List ℕ → List ℕ → Type 0
 CanFollow said x y = CanCome y × (is_as_said said (x ++ y) ≡ true)
 
 -- two continuations of x have no more in common in this output than `agreed` has
-abbrev pub HasNoMore : (List ℕ → Type 0) → Work → List ℕ → Part → ℕ → Type 0
+abbrev pub HasNoMore : (List ℕ → Type 0) → Work → List ℕ → Written → ℕ → Type 0
 HasNoMore comes work x agreed place = (y : List ℕ) × (z : List ℕ) × comes y × comes z
     × ((front : List ℕ) → IsBeginning front (output_at (work.whole (x ++ y)) place)
     → IsBeginning front (output_at (work.whole (x ++ z)) place) → length front ≤ length (output_at agreed place))
 
 -- The most that all continuations of x have in common in each output: nothing, if `agreed` has no such output.
-pub record AgreeAt (comes : List ℕ → Type 0) (work : Work) (x : List ℕ) (agreed : Part) : Type 0 where
+pub record AgreeAt (comes : List ℕ → Type 0) (work : Work) (x : List ℕ) (agreed : Written) : Type 0 where
   -- at the end every continuation has these outputs, each with this beginning
   pub common : (y : List ℕ) → comes y → Begins agreed (work.whole (x ++ y))
   -- in each output two continuations have no more in common

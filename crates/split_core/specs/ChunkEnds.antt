@@ -1,7 +1,7 @@
 -- What the laws of chunks say of the end.
 use Rattle.std.specs.Prelude.{◌≡◌, ℕ, ◌<◌, true, false, List, [], ◌++◌, get_or, Option}
 use Rattle.seg_core.specs.declared.cut.Way.{Way}
-use Rattle.ports_core.specs.{Agreed.file_bytes, Part.only_out, Work.Work}
+use Rattle.engine_core.specs.{Agreed.file_bytes, Written.only_out, Work.Work}
 use Rattle.split_core.specs.{
   ChunkAgreed.{CanFollow, TwoDiffer},
   ChunkWork.{ChunksPlan, way_work},

@@ -9,17 +9,19 @@ use Rattle.seg_core.specs.{
   Line.lines_of,
   declared.{cut.{Chunks.Chunks, Way.Way}, unit.Unit.{Unit as Counted, TheVariants.{Bytes, Lines}}},
 }
-use Rattle.ports_core.specs.{
+use Rattle.engine_core.specs.{
   Draft.{Draft, draft_part, part_of, share},
   FileWriter.CanTell,
-  Name.Naming,
-  Part.{Part, only_out},
-  Slot.{Slot, is_writable},
+  Written.{Written, only_out},
   Work.{Work, always_well, on_output},
+  declared.file_writer.{Opening.TheVariants.Late, Tells.Tells},
+}
+use Rattle.ports_core.specs.{
+  Name.Naming,
+  Slot.{Slot, is_writable},
   declared.{
     fault.Fault.{Fault, TheVariants.Memory},
     verdict.Verdict.TheVariants.Changed,
-    file_writer.{Opening.TheVariants.Late, Tells.Tells},
     slot.State.TheVariants.Closed,
   },
 }
@@ -52,11 +54,11 @@ abbrev pub files_by : Bool → CutUp → List (List ℕ)
 files_by elide cut = kept elide cut.full ++ unless_empty cut.rest
 
 -- what is written once x came in
-abbrev pub chunks_settled : ChunksPlan → Option ℕ → List ℕ → Part
+abbrev pub chunks_settled : ChunksPlan → Option ℕ → List ℕ → Written
 chunks_settled plan said x = draft_part (manner_of plan.filing) (draft_by plan.elide (decided plan.chunks 1 said x))
 
 -- what is written if the input ends after x; all files are closed
-abbrev pub chunks_whole : ChunksPlan → Option ℕ → List ℕ → Part
+abbrev pub chunks_whole : ChunksPlan → Option ℕ → List ℕ → Written
 chunks_whole plan said x =
     part_of (manner_of plan.filing) (map (share Closed) (files_by plan.elide (in_the_end plan.chunks said x)))
 
@@ -77,7 +79,7 @@ chunks_work plan said = record {
 
 -- To standard output, what the file at a place would have
 
-abbrev pub piece_at : ℕ → CutUp → Part
+abbrev pub piece_at : ℕ → CutUp → Written
 piece_at place cut = only_out (get_or (pieces_in cut) place [])
 
 -- The chunk and those before it have all that goes with them. That is known only if the input showed its size. The
@@ -107,7 +109,7 @@ chunk_work place chunks said = record {
 }
 
 -- the lines that are dealt to the file at a place, on standard output
-abbrev pub turn_of : ℕ → ℕ → ℕ → List ℕ → Part
+abbrev pub turn_of : ℕ → ℕ → ℕ → List ℕ → Written
 turn_of place count delim x = only_out (dealt count place 0 (lines_of delim x))
 
 -- the work of `-n r/K/N`, where the place is K - 1

@@ -2,14 +2,13 @@
 use Rattle.std.specs.{
   Prelude.{◌≡◌, ℕ, ◌+◌, ◌≤◌, max, nat_lt, Bool, true, false, List, [], length, map, Option, Some, None, IsTrue},
 }
-use Rattle.ports_core.specs.{
+use Rattle.engine_core.specs.{
   Draft.{draft_part, part_of, share},
   FileWriter.{WriterState, Writes, OwnsFiles, IsReady as CanWrite},
-  Part.Part,
-  Slot.{Slot, is_writable},
+  Written.Written,
   Work.{Work, IsSpare},
-  declared.slot.State.TheVariants.Closed,
 }
+use Rattle.ports_core.specs.{Slot.{Slot, is_writable}, declared.slot.State.TheVariants.Closed}
 use Rattle.seg_core.specs.declared.cut.Chunks.{Chunks}
 use Rattle.split_core.specs.{
   Parts.CutUp,
@@ -51,12 +50,12 @@ first_on (in_files filing elide) = 1
 first_on (in_output chunk) = max chunk 1
 
 -- what is written of a text that is cut up
-abbrev pub part_on : Course → CutUp → Part
+abbrev pub part_on : Course → CutUp → Written
 part_on (in_files filing elide) cut = draft_part (manner_of filing) (draft_by elide cut)
 part_on (in_output chunk) cut = piece_at chunk cut
 
 -- what is written of a whole text that is cut up
-abbrev pub whole_on : Course → CutUp → Part
+abbrev pub whole_on : Course → CutUp → Written
 whole_on (in_files filing elide) cut = part_of (manner_of filing) (map (share Closed) (files_by elide cut))
 whole_on (in_output chunk) cut = piece_at chunk cut
 

@@ -1,6 +1,6 @@
 -- What contracts see of the files that lines are dealt to.
 use Rattle.std.specs.Prelude.{ℕ, List}
-use Rattle.ports_core.specs.declared.{file_writer.Tells.Tells, names.Names.Names}
+use Rattle.engine_core.specs.declared.{file_writer.Tells.Tells, names.Names.Names}
 use Rattle.split_core.specs.Split.{Filing, is_verbose}
 
 pub record FilesState : Type 0 where

@@ -1,7 +1,8 @@
 -- Where the bytes of an input go: into files, of which the first has place 1 among the outputs.
 use Rattle.std.specs.Prelude.{ℕ, ◌+◌, ◌%◌, nat_lt, ◌&&◌, List, [], ◌∷◌, length, take, if◌then◌else◌}
 use Rattle.seg_core.specs.{Line.{lines_of, delimiters}, declared.cut.Cut.{Cut, TheVariants.{Parts, Round}}}
-use Rattle.ports_core.specs.{Name.{Naming, has_name}, Work.Work, Agreed.{Spot, spot, spots_from, file_bytes}}
+use Rattle.ports_core.specs.Name.{Naming, has_name}
+use Rattle.engine_core.specs.{Work.Work, Agreed.{Spot, spot, spots_from, file_bytes}}
 use Rattle.split_core.specs.{Parts.dealt, Split.{Plan, whole_by}}
 
 -- the file to which the line of byte i is dealt; bytes and files are counted from 0

@@ -3,7 +3,8 @@ use Rattle.std.specs.{
   Prelude.{◌≡◌, ℕ, ◌+◌, ◌%◌, ◌<◌, ◌≤◌, Bool, true, false, List, length, min, slice_index_or, if◌then◌else◌},
 }
 use Rattle.seg_core.specs.{Line.{delimiters, line_count}, declared.cut.Cut.TheVariants.Round}
-use Rattle.ports_core.specs.{FileWriter.CanTell, Slot.{Slot, is_closable}, Work.{Work, always_well}}
+use Rattle.engine_core.specs.{FileWriter.CanTell, Work.{Work, always_well}}
+use Rattle.ports_core.specs.Slot.{Slot, is_closable}
 use Rattle.split_core.specs.{
   Split.{Filing, Plan, TellsNoSizes, are_named, split_work},
   FilesState.{FilesState, filing_in},

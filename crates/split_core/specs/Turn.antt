@@ -1,7 +1,8 @@
 -- One turn of lines that are dealt, as a stage: GNU coreutils manual, split, `-n r/K/N`.
 use Rattle.std.specs.Prelude.{◌≡◌, ℕ, ◌%◌, ◌<◌, List, IsTrue}
 use Rattle.seg_core.specs.Line.{delimiters}
-use Rattle.ports_core.specs.{Slot.{Slot, is_writable}, Work.Work}
+use Rattle.ports_core.specs.Slot.{Slot, is_writable}
+use Rattle.engine_core.specs.Work.{Work}
 use Rattle.split_core.specs.ChunkWork.{turn_work}
 
 -- what contracts see of such a stage

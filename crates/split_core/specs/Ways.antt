@@ -1,6 +1,7 @@
 -- The ways to cut an input, as one stage.
 use Rattle.std.specs.Prelude.{◌≡◌, ℕ, List, [], true}
-use Rattle.ports_core.specs.{Slot.Slot, Work.Work, Engine.Terms}
+use Rattle.ports_core.specs.Slot.{Slot}
+use Rattle.engine_core.specs.{Work.Work, Engine.Terms}
 use Rattle.split_core.specs.{
   declared.splitter.Splitter.{Splitter, TheVariants.{Parts, Round, Chunks, Turn}},
   PartsState.{Stands, IsReady},

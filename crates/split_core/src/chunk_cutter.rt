@@ -1,6 +1,7 @@
 //! Cutting an input into chunks.
 ghost use Rattle.std.specs.Prelude.{◌≡◌, ◌+◌, ◌<◌, ◌^◌, ◌≤◌, ◌||◌, length, min, nat_lt, true};
-ghost use Rattle.ports_core.specs.{InTurn.fault_in, Slot.effect_of};
+ghost use Rattle.engine_core.specs.InTurn.{fault_in};
+ghost use Rattle.ports_core.specs.Slot.{effect_of};
 ghost use Rattle.split_core.specs.{
   Chunks.chunk_start as start_of,
   ChunkerState.IsAimed,
@@ -41,7 +42,7 @@ impl ChunkCutter {
         requires some { 0 < length text.now }
         requires fits { self.old.at + length text.now < 2 ^ 64 }
         ensures { WritesTo (seen_cutter self.old) (seen_cutter self.new) end text.now
-            (effect_of O.told O.slots outs.old outs.new) result }
+            (effect_of O.visible O.slots outs.old outs.new) result }
     {
         let n = next_cut(self.chunks, end.saturating_sub(self.at), text);
         self.sink.put(&text[..n], outs)?;
@@ -76,7 +77,7 @@ impl ChunkCutter {
         requires ready { IsAimed (seen_cutter self.old).sink.aim (O.slots outs.old) }
         requires some { 0 < self.old.chunks.count }
         ensures { EndsFull (seen_cutter self.old) (seen_cutter self.new) size
-            (effect_of O.told O.slots outs.old outs.new) (fault_in result) }
+            (effect_of O.visible O.slots outs.old outs.new) (fault_in result) }
     {
         if self.is_within && self.at < size {
             return Ok(());
@@ -90,7 +91,7 @@ impl ChunkCutter {
         requires some { 0 < self.old.chunks.count }
         requires whole { self.old.is_within ≡ true → size ≤ self.old.at }
         ensures { EndsFull (seen_cutter self.old) (seen_cutter self.new) size
-            (effect_of O.told O.slots outs.old outs.new) (fault_in result) }
+            (effect_of O.visible O.slots outs.old outs.new) (fault_in result) }
     {
         'places: while self.sink.place < self.chunks.count
             && chunk_start(self.chunks.count, size, self.sink.place + 1) <= self.at
@@ -112,7 +113,7 @@ impl ChunkCutter {
         requires text { 0 < length text.now }
         requires fits { self.old.at + length text.now < 2 ^ 64 }
         ensures { CutsStretch (seen_cutter self.old) (seen_cutter self.new) size text.now
-            (effect_of O.told O.slots outs.old outs.new) result }
+            (effect_of O.visible O.slots outs.old outs.new) result }
     {
         let end = self.end_of(size);
         let n = self.write_to(end, text, outs)?;
@@ -137,7 +138,7 @@ impl ChunkCutter {
         requires some { 0 < self.old.chunks.count }
         requires fits { self.old.at + length text.now < 2 ^ 64 }
         ensures { CutsSo (seen_cutter self.old) (seen_cutter self.new) size text.now
-            (effect_of O.told O.slots outs.old outs.new) result }
+            (effect_of O.visible O.slots outs.old outs.new) result }
     {
         let own = text.len().min(size.saturating_sub(self.at) as usize);
         let past = text.len() - own;
@@ -166,7 +167,7 @@ impl ChunkCutter {
         requires ready { IsAimed (seen_cutter self.old).sink.aim (O.slots outs.old) }
         requires fits { self.old.at + length waiting.old < 2 ^ 64 }
         ensures { Settles (seen_cutter self.old) (seen_cutter self.new) waiting.old waiting.new end
-            (effect_of O.told O.slots outs.old outs.new) (fault_in result) }
+            (effect_of O.visible O.slots outs.old outs.new) (fault_in result) }
     {
         if waiting.is_empty() {
             return Ok(());
@@ -194,7 +195,7 @@ impl ChunkCutter {
         requires some { 0 < self.old.chunks.count }
         requires fits { self.old.at + length waiting.old < 2 ^ 64 }
         ensures { EndsHeld (seen_cutter self.old) (seen_cutter self.new) waiting.old waiting.new
-            (self.old.at + length waiting.old) (effect_of O.told O.slots outs.old outs.new) (fault_in result) }
+            (self.old.at + length waiting.old) (effect_of O.visible O.slots outs.old outs.new) (fault_in result) }
     {
         let size = self.at + waiting.len();
         self.sink.begin_first();

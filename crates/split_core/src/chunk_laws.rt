@@ -3,12 +3,12 @@ ghost use Rattle.std.specs.{
   Prelude.{◌≡◌, ◌<◌, ◌≤◌, ◌+◌, ◌-◌, ◌++◌, ℕ, List, [], Option, Some, drop, false, get_or, length, take, true},
   List.{filter, flat_map, range_with_len},
 };
-ghost use Rattle.ports_core.specs.{
+ghost use Rattle.engine_core.specs.{
   Agreed.{ArePlaced, DifferOn, GoesBy, IsAgreed, NoFewerWait, file_bytes},
   Draft.opening_line,
-  Part.{only_out, openings_for},
-  declared.verdict.Verdict.TheVariants.Changed,
+  Written.{only_out, openings_for},
 };
+ghost use Rattle.ports_core.specs.declared.verdict.Verdict.TheVariants.{Changed};
 ghost use Rattle.seg_core.specs.{
   Line.joined,
   declared.{cut.{Chunks.Chunks, Cut.TheVariants.Round}, unit.Unit.TheVariants.{Bytes, Lines}},

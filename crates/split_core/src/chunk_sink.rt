@@ -1,11 +1,7 @@
 //! Where chunks go: each to a file of its own, or one of them to standard output.
 ghost use Rattle.std.specs.Prelude.{◌≡◌, ◌+◌, ◌-◌, ◌<◌, ◌^◌, [], if◌then◌else◌, IsTrue, IfErr};
-ghost use Rattle.ports_core.specs.{
-  FileWriter.{IsReady, IsWrite, seen_writer},
-  Slot.{is_writable, effect_of},
-  InTurn.fault_in,
-  inner.Write.Wrote,
-};
+ghost use Rattle.engine_core.specs.{FileWriter.{IsReady, IsWrite, seen_writer}, InTurn.fault_in, inner.Write.Wrote};
+ghost use Rattle.ports_core.specs.Slot.{is_writable, effect_of};
 ghost use Rattle.split_core.specs.{
   ChunkerState.{IsAimed, course_of, first_on},
   inner.{
@@ -15,7 +11,8 @@ ghost use Rattle.split_core.specs.{
 };
 
 use crate::files::write_bytes;
-use ports_core::{Fault, FileWriter, Keeps, Naming, Opening, Outs, Tells};
+use engine_core::{FileWriter, Keeps, Opening, Tells};
+use ports_core::{Fault, Naming, Outs};
 use std::alloc::Global;
 
 /// Where chunks go.
@@ -101,7 +98,7 @@ impl ChunkSink {
     pub(crate) fn put<O: Outs>(&mut self, bytes: &[u8], outs: &mut O) -> Result<(), Fault>
         requires { IsAimed (seen_sink self.old).aim (O.slots outs.old) }
         ensures changes { Changes (seen_sink self.old) (seen_sink self.new) (with_rest bytes.now)
-            (effect_of O.told O.slots outs.old outs.new) (fault_in result) }
+            (effect_of O.visible O.slots outs.old outs.new) (fault_in result) }
         ensures place { (seen_sink self.new).place ≡ (seen_sink self.old).place }
     {
         let place = self.place;
@@ -120,7 +117,7 @@ impl ChunkSink {
         requires ready { IsAimed (seen_sink self.old).aim (O.slots outs.old) }
         requires fits { (seen_sink self.old).place + 1 < 2 ^ 64 }
         ensures changes { Changes (seen_sink self.old) (seen_sink self.new) with_full
-            (effect_of O.told O.slots outs.old outs.new) (fault_in result) }
+            (effect_of O.visible O.slots outs.old outs.new) (fault_in result) }
         ensures place { (seen_sink self.new).place ≡ (seen_sink self.old).place + 1 }
     {
         self.place += 1;
@@ -138,7 +135,7 @@ impl ChunkSink {
     pub(crate) fn end<O: Outs>(&mut self, outs: &mut O) -> Result<(), Fault>
         requires { IsAimed (seen_sink self.old).aim (O.slots outs.old) }
         ensures brings { EndsAll (seen_sink self.old) (seen_sink self.new)
-            (effect_of O.told O.slots outs.old outs.new) (fault_in result) }
+            (effect_of O.visible O.slots outs.old outs.new) (fault_in result) }
         ensures broke { IfErr result IsWrite }
         ensures place { (seen_sink self.new).place ≡ (seen_sink self.old).place }
     {
@@ -152,7 +149,8 @@ impl ChunkSink {
 /// Writes these bytes to standard output, if they are to go there.
 fn write_where<O: Outs>(goes: bool, bytes: &[u8], outs: &mut O) -> Result<(), Fault>
     requires { IsTrue (is_writable (O.slots outs.old) 0) }
-    ensures { Wrote O.told 0 (if goes then bytes.now else []) (O.slots outs.old) (O.slots outs.new) (fault_in result) }
+    ensures { Wrote O.visible 0 (if goes then bytes.now else []) (O.slots outs.old) (O.slots outs.new)
+        (fault_in result) }
 {
     if !goes {
         return Ok(());
@@ -164,7 +162,7 @@ fn write_where<O: Outs>(goes: bool, bytes: &[u8], outs: &mut O) -> Result<(), Fa
 fn end_file<O: Outs>(writer: &mut FileWriter, elide: bool, outs: &mut O) -> Result<(), Fault>
     requires { IsReady (seen_writer writer.old) (O.slots outs.old) }
     ensures { Files (seen_writer writer.old) (seen_writer writer.new) (ends_by elide)
-        (effect_of O.told O.slots outs.old outs.new) (fault_in result) }
+        (effect_of O.visible O.slots outs.old outs.new) (fault_in result) }
 {
     make_empty(writer, elide, outs)?;
     writer.next(Opening::Late, outs)
@@ -174,7 +172,7 @@ fn end_file<O: Outs>(writer: &mut FileWriter, elide: bool, outs: &mut O) -> Resu
 fn make_empty<O: Outs>(writer: &mut FileWriter, elide: bool, outs: &mut O) -> Result<(), Fault>
     requires { IsReady (seen_writer writer.old) (O.slots outs.old) }
     ensures { Files (seen_writer writer.old) (seen_writer writer.new) (empties_by elide)
-        (effect_of O.told O.slots outs.old outs.new) (fault_in result) }
+        (effect_of O.visible O.slots outs.old outs.new) (fault_in result) }
 {
     if elide || writer.is_open() {
         return Ok(());

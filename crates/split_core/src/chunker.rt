@@ -6,7 +6,8 @@ ghost use Rattle.split_core.specs.{
   Alike.as_if,
   inner.{Seen.seen_sink, Chunker.{EndsAs, PassesAs, TakesFront, piece_for}},
 };
-ghost use Rattle.ports_core.specs.{Engine.{MayGet, TookIn}, Inputs.PassesOver, Slot.effect_of, Source.is_readable};
+ghost use Rattle.engine_core.specs.Engine.{MayGet, TookIn};
+ghost use Rattle.ports_core.specs.{Inputs.PassesOver, Slot.effect_of, Source.is_readable};
 ghost use Rattle.split_core.specs.Ways as ways;
 ghost use Rattle.split_core.specs.declared.splitter.Splitter.TheVariants as way;
 
@@ -88,7 +89,7 @@ impl Chunker {
     pub(crate) fn pass<O: Outs>(&mut self, piece: &[u8], outs: &mut O) -> Result<(), Fault>
         requires ready { Ready self.old (O.slots outs.old) }
         requires fits { total self.old + length piece.now < 2 ^ 63 }
-        ensures { PassesAs self.old self.new piece.now (effect_of O.told O.slots outs.old outs.new) result }
+        ensures { PassesAs self.old self.new piece.now (effect_of O.visible O.slots outs.old outs.new) result }
     {
         match self.said {
             Some(size) => self.pass_said(size, piece, outs),
@@ -102,7 +103,7 @@ impl Chunker {
         requires fresh { Holds self.old [] }
         requires none { total self.old ≡ 0 }
         requires input { IsTrue (is_readable (I.sources inputs.old) slot) }
-        ensures loads { PassesOver I.told slot result
+        ensures loads { PassesOver I.visible slot result
             (TookIn (as_if ways.terms) (way.Chunks self.old) (way.Chunks self.new)) (I.sources inputs.old)
             (I.sources inputs.new) }
         ensures laid { I.laid inputs.new ≡ I.laid inputs.old }
@@ -148,7 +149,7 @@ impl Chunker {
     /// `pass`.
     pub(crate) fn finish<O: Outs>(&mut self, outs: &mut O) -> Result<(), Fault>
         requires ready { Ready self.old (O.slots outs.old) }
-        ensures { EndsAs self.old self.new (effect_of O.told O.slots outs.old outs.new) result }
+        ensures { EndsAs self.old self.new (effect_of O.visible O.slots outs.old outs.new) result }
     {
         match self.said {
             Some(size) => self.finish_said(size, outs),
@@ -198,7 +199,7 @@ impl Chunker {
         requires said { self.old.said ≡ Some size }
         requires ready { Ready self.old (O.slots outs.old) }
         requires fits { total self.old + length piece.now < 2 ^ 63 }
-        ensures { PassesAs self.old self.new piece.now (effect_of O.told O.slots outs.old outs.new) result }
+        ensures { PassesAs self.old self.new piece.now (effect_of O.visible O.slots outs.old outs.new) result }
     {
         let past = self.cutter.cut(size, piece, outs)?;
         if past > 0 && self.cutter.sink.is_each() {
@@ -213,7 +214,7 @@ impl Chunker {
         requires said { self.old.said ≡ None }
         requires ready { Ready self.old (O.slots outs.old) }
         requires fits { total self.old + length piece.now < 2 ^ 63 }
-        ensures { PassesAs self.old self.new piece.now (effect_of O.told O.slots outs.old outs.new) result }
+        ensures { PassesAs self.old self.new piece.now (effect_of O.visible O.slots outs.old outs.new) result }
     {
         self.waiting.put(piece)?;
         let size = self.cutter.at + self.waiting.len();
@@ -226,7 +227,7 @@ impl Chunker {
     fn finish_said<O: Outs>(&mut self, size: u64, outs: &mut O) -> Result<(), Fault>
         requires said { self.old.said ≡ Some size }
         requires ready { Ready self.old (O.slots outs.old) }
-        ensures { EndsAs self.old self.new (effect_of O.told O.slots outs.old outs.new) result }
+        ensures { EndsAs self.old self.new (effect_of O.visible O.slots outs.old outs.new) result }
     {
         self.cutter.sink.end(outs)?;
         if self.cutter.at < size && !self.cutter.sink.is_past() {

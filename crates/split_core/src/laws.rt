@@ -2,14 +2,14 @@
 ghost use Rattle.std.specs.{
   Prelude.{◌≡◌, ◌<◌, ◌≤◌, ◌+◌, ◌*◌, ◌++◌, ℕ, List, [], true, get_or, length, map, take, drop, All, false},
 };
-ghost use Rattle.ports_core.specs.{
+ghost use Rattle.engine_core.specs.{
   Agreed.{ArePlaced, CanCome, IsAgreed, IsUndecided, NoFewerWait},
   Draft.opening_line,
-  Part.{gets_bytes, openings_for},
-  Guard.{GuardState, HoldsIn},
+  Written.{gets_bytes, openings_for},
+  EngineState.{EngineState, HoldsIn},
   Work.Judges,
-  declared.{slot.State.TheVariants.Closed, verdict.Verdict.TheVariants.Suffixes},
 };
+ghost use Rattle.ports_core.specs.declared.{slot.State.TheVariants.Closed, verdict.Verdict.TheVariants.Suffixes};
 ghost use Rattle.seg_core.specs.{
   Line.{delimiters, joined, line_count, lines_of},
   declared.cut.Limit.TheVariants.{Bytes, LineBytes, Lines},
@@ -122,8 +122,8 @@ pub fn lines_are_of_opened_files()
 /// An engine that has returned no fault has named all files that its input needs: names that ran out are always reported. And unless it
 /// writes what one file would have, more that comes can still change its output.
 pub fn all_files_have_names()
-    ensures named { (engine : GuardState Splitter) (x : List ℕ) → HoldsIn (as_if terms).Holds engine x
+    ensures named { (engine : EngineState Splitter) (x : List ℕ) → HoldsIn (as_if terms).Holds engine x
         → Judges (work engine.stage) x Suffixes → ⊥ }
-    ensures goes_on { (engine : GuardState Splitter) (x : List ℕ) → HoldsIn (as_if terms).Holds engine x
+    ensures goes_on { (engine : EngineState Splitter) (x : List ℕ) → HoldsIn (as_if terms).Holds engine x
         → ((work engine.stage).means.output ≡ gets_bytes → ⊥) → (work engine.stage).is_complete x ≡ false }
 {}

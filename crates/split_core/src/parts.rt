@@ -1,12 +1,10 @@
 //! Parts of an input that follow one another, each in a file of its own (POSIX.1-2017, XCU split; `-C` is GNU's). They take memory for
 //! names, and under `-C` for twice the most bytes that waited, which are fewer than a part has.
 ghost use Rattle.std.specs.Prelude.{◌≡◌, ◌+◌, ◌-◌, ◌++◌, ◌<◌, [], length, IfOk, IfErr, OnOk};
-ghost use Rattle.ports_core.specs.{
-  FileWriter.new_writer,
-  InTurn.fault_in,
-  Slot.effect_of,
-  declared.file_writer.Keeps.TheVariants.Open,
+ghost use Rattle.engine_core.{
+  specs.{FileWriter.new_writer, InTurn.fault_in, declared.file_writer.Keeps.TheVariants.Open},
 };
+ghost use Rattle.ports_core.specs.Slot.{effect_of};
 ghost use Rattle.seg_core.specs.Cut.{most};
 ghost use Rattle.split_core.specs.{
   PartsState.{IsReady, Stands, parts_work, work},
@@ -17,7 +15,8 @@ ghost use Rattle.split_core.specs.{
 use crate::Limit;
 use crate::files::put_waiting;
 use crate::step::{Step, next_step};
-use ports_core::{Fault, FileWriter, Keeps, Naming, Opening, Outs, Tells};
+use engine_core::{FileWriter, Keeps, Opening, Tells};
+use ports_core::{Fault, Naming, Outs};
 use std::alloc::Global;
 use std::marker::Model;
 
@@ -35,7 +34,7 @@ pub struct Parts {
 }
 
 impl Model for Parts {
-    ghost use Rattle.ports_core.specs.FileWriter.{seen_writer};
+    ghost use Rattle.engine_core.specs.FileWriter.{seen_writer};
     ghost use Rattle.split_core.specs.{PartsState.PartsState, inner.Step.Fits};
 
     ghost Value = { PartsState };
@@ -79,7 +78,8 @@ impl Parts {
     /// Writes what waits, and then these bytes, to the part that was begun.
     fn extend<O: Outs>(&mut self, bytes: &[u8], outs: &mut O) -> Result<(), Fault>
         requires { IsReady self.old (O.slots outs.old) }
-        ensures { Extends self.old self.new bytes.now (effect_of O.told O.slots outs.old outs.new) (fault_in result) }
+        ensures { Extends self.old self.new bytes.now (effect_of O.visible O.slots outs.old outs.new)
+            (fault_in result) }
     {
         put_waiting(&mut self.waiting, &mut self.writer, outs)?;
         self.writer.put(bytes, outs)
@@ -90,7 +90,7 @@ impl Parts {
         requires ready { IsReady self.old (O.slots outs.old) }
         requires room { length self.old.waiting + length bytes.now < most self.old.limit }
         ensures { BeginsNext self.old self.new bytes.now
-            (effect_of O.told O.slots outs.old outs.new) (fault_in result) }
+            (effect_of O.visible O.slots outs.old outs.new) (fault_in result) }
     {
         let size = (self.waiting.len() + bytes.len()) as u64;
         self.writer.next(Opening::Late, outs)?;
@@ -116,7 +116,7 @@ impl Parts {
     fn step<O: Outs>(&mut self, piece: &[u8], outs: &mut O) -> Result<usize, Fault>
         requires some { 0 < length piece.now }
         requires ready { IsReady self.old (O.slots outs.old) }
-        ensures { TakesStretch self.old self.new piece.now (effect_of O.told O.slots outs.old outs.new) result }
+        ensures { TakesStretch self.old self.new piece.now (effect_of O.visible O.slots outs.old outs.new) result }
     {
         match next_step(self.limit, self.left, self.has_line, piece) {
             Step::Goes {
@@ -150,7 +150,7 @@ impl Parts {
     /// no room for what waits, for a name or its line, `Suffixes` if no name is left for the next file.
     pub(crate) fn pass<O: Outs>(&mut self, piece: &[u8], outs: &mut O) -> Result<(), Fault>
         requires { IsReady self.old (O.slots outs.old) }
-        ensures { Takes self.old self.new piece.now (effect_of O.told O.slots outs.old outs.new) (fault_in result) }
+        ensures { Takes self.old self.new piece.now (effect_of O.visible O.slots outs.old outs.new) (fault_in result) }
     {
         let mut left = piece;
         'stretches: while !left.is_empty() {
@@ -167,7 +167,7 @@ impl Parts {
     /// `Write` if its file broke.
     pub(crate) fn finish<O: Outs>(&mut self, outs: &mut O) -> Result<(), Fault>
         requires { IsReady self.old (O.slots outs.old) }
-        ensures { Finishes self.old self.new (effect_of O.told O.slots outs.old outs.new) (fault_in result) }
+        ensures { Finishes self.old self.new (effect_of O.visible O.slots outs.old outs.new) (fault_in result) }
     {
         if !self.writer.is_open() {
             return Ok(());

@@ -6,7 +6,8 @@ ghost use Rattle.ports_core.specs.{Name.has_name, Slot.effect_of};
 
 use crate::files::write_bytes;
 use crate::gathered::Gathered;
-use ports_core::{Fault, Names, Naming, Outs, Tells};
+use engine_core::{Names, Tells};
+use ports_core::{Fault, Naming, Outs};
 use std::alloc::Global;
 use std::marker::Model;
 
@@ -49,7 +50,7 @@ impl RoundFiles {
         requires ready { AreReady self.old (O.slots outs.old) }
         requires none { self.old.outputs ≡ [] }
         requires named { are_named self.old.names.naming count ≡ true }
-        ensures { Opens self.old self.new 0 count (effect_of O.told O.slots outs.old outs.new) result }
+        ensures { Opens self.old self.new 0 count (effect_of O.visible O.slots outs.old outs.new) result }
     {
         for place in 0..count {
             self.reach(place, outs)?;
@@ -71,7 +72,7 @@ impl RoundFiles {
         requires ready { AreReady self.old (O.slots outs.old) }
         requires named { are_named self.old.names.naming (length gathered.now) ≡ true }
         ensures { Adds self.old self.new (λ place. slice_index_or gathered.now place []) 0 (length gathered.now)
-            (effect_of O.told O.slots outs.old outs.new) result }
+            (effect_of O.visible O.slots outs.old outs.new) result }
     {
         for place in 0..gathered.len() {
             self.send(place, gathered[place].bytes(), outs)?;
@@ -86,7 +87,7 @@ impl RoundFiles {
     /// `Write` if a close failed: later files stay open.
     pub(crate) fn close<O: Outs>(&self, outs: &mut O) -> Result<(), Fault>
         requires ready { AreReady self.now (O.slots outs.old) }
-        ensures { ClosesAll self.now (effect_of O.told O.slots outs.old outs.new) result }
+        ensures { ClosesAll self.now (effect_of O.visible O.slots outs.old outs.new) result }
     {
         for place in 0..self.outputs.len() {
             outs.close(self.outputs[place])?;
@@ -100,7 +101,7 @@ impl RoundFiles {
         requires near { place ≤ length self.old.outputs }
         requires named { has_name self.old.names.naming place ≡ true }
         ensures { Adds self.old self.new (only_at place bytes.now) place (place + 1)
-            (effect_of O.told O.slots outs.old outs.new) result }
+            (effect_of O.visible O.slots outs.old outs.new) result }
     {
         self.reach(place, outs)?;
         write_bytes(self.outputs[place], bytes, outs)
@@ -111,7 +112,7 @@ impl RoundFiles {
         requires ready { AreReady self.old (O.slots outs.old) }
         requires near { place ≤ length self.old.outputs }
         requires named { has_name self.old.names.naming place ≡ true }
-        ensures { Opens self.old self.new place (place + 1) (effect_of O.told O.slots outs.old outs.new) result }
+        ensures { Opens self.old self.new place (place + 1) (effect_of O.visible O.slots outs.old outs.new) result }
     {
         if place < self.outputs.len() {
             return Ok(());

@@ -1,5 +1,6 @@
 ghost use Rattle.std.specs.Prelude.{◌≡◌, ◌<◌, ◌≤◌, [], None, true, if◌then◌else◌, length, IfOk, IfErr, OnOk};
-ghost use Rattle.ports_core.specs.{FileWriter.CanTell, Slot.effect_of};
+ghost use Rattle.engine_core.specs.FileWriter.{CanTell};
+ghost use Rattle.ports_core.specs.Slot.{effect_of};
 ghost use Rattle.split_core.specs.{
   ChunkWork.work_by,
   Round.{Holds, Owns, Ready, work},
@@ -13,7 +14,8 @@ ghost use Rattle.split_core.specs.declared.splitter.Splitter.TheVariants as way;
 
 use crate::deal::Deal;
 use crate::round_files::RoundFiles;
-use ports_core::{Fault, Naming, Outs, Tells};
+use engine_core::Tells;
+use ports_core::{Fault, Naming, Outs};
 use std::alloc::Global;
 use std::marker::Model;
 
@@ -71,9 +73,10 @@ impl RoundSplitter {
             None) }
         ensures ready { IfOk result (λ round. Ready round (O.slots outs.new)) }
         ensures owns { IfOk result (λ round. Owns round (length (O.slots outs.old)) (O.slots outs.new)) }
-        ensures outputs { OnOk result (HaveOpened O.told (work_by (cut.Cut (Round count delim)) elide naming tells None)
+        ensures outputs { OnOk result
+            (HaveOpened O.visible (work_by (cut.Cut (Round count delim)) elide naming tells None)
             (O.slots outs.old) (O.slots outs.new)) }
-        ensures cut { IfErr result (StoppedOpening O.told (work_by (cut.Cut (Round count delim)) elide naming tells
+        ensures cut { IfErr result (StoppedOpening O.visible (work_by (cut.Cut (Round count delim)) elide naming tells
             None)
             (O.slots outs.old) (O.slots outs.new)) }
         ensures refused { IfErr result (CannotOpen (is_verbose tells) (O.slots outs.old) (O.slots outs.new)) }
@@ -93,7 +96,7 @@ impl RoundSplitter {
     pub(crate) fn pass<O: Outs>(&mut self, piece: &[u8], outs: &mut O) -> Result<(), Fault>
         requires { Ready self.old (O.slots outs.old) }
         ensures { PassesAs (way.Round self.old) (way.Round self.new) piece.now
-            (effect_of O.told O.slots outs.old outs.new) result }
+            (effect_of O.visible O.slots outs.old outs.new) result }
     {
         let reached = self.deal.gather(piece)?;
         self.files.write(self.deal.first(reached), outs)
@@ -106,7 +109,7 @@ impl RoundSplitter {
     /// `Write` if one broke.
     pub(crate) fn finish<O: Outs>(&self, outs: &mut O) -> Result<(), Fault>
         requires { Ready self.now (O.slots outs.old) }
-        ensures { ClosesAll self.now.files (effect_of O.told O.slots outs.old outs.new) result }
+        ensures { ClosesAll self.now.files (effect_of O.visible O.slots outs.old outs.new) result }
     {
         self.files.close(outs)
     }

@@ -1,6 +1,6 @@
 //! The stage of `split`, for all ways to cut.
 ghost use Rattle.std.specs.Prelude.{◌≡◌, ◌^◌, ◌<◌, ◌≤◌, [], List, ℕ, length, IfOk, IfErr, IfSome, OnOk};
-ghost use Rattle.ports_core.specs.{Guard.HoldsIn, Engine.MayGet, Work.IsSpare};
+ghost use Rattle.engine_core.specs.{EngineState.HoldsIn, Engine.MayGet, Work.IsSpare};
 ghost use Rattle.split_core.specs.{
   Sharing.{HaveOpened, StoppedOpening},
   Split.{TellsNoSizes, is_verbose},
@@ -18,7 +18,8 @@ use crate::parts::Parts;
 use crate::round_splitter::RoundSplitter;
 use crate::turn::Turn;
 use crate::{Cut, Way};
-use ports_core::{Fault, Guarded, Inputs, Naming, Outs, Stage, Tells};
+use engine_core::{Engine, Stage, Tells};
+use ports_core::{Fault, Inputs, Naming, Outs};
 use std::alloc::Global;
 
 /// Cuts its input into files, or writes what one of them would have (POSIX.1-2017, XCU split; `-C` and `-n` are GNU's). A file is opened
@@ -57,7 +58,7 @@ impl Splitter {
         elide: bool,
         tells: Tells,
         outs: &mut O,
-    ) -> Result<Guarded<Splitter>, Fault>
+    ) -> Result<Engine<Splitter>, Fault>
         requires some { IsWay way }
         requires enough { HasAllNames way naming }
         requires long { IfSome said (λ size. 0 < size) }
@@ -70,33 +71,33 @@ impl Splitter {
         ensures ready { IfOk result (λ engine. Ready engine.stage (O.slots outs.new)) }
         ensures owns { IfOk result (λ engine. Owns engine.stage (length (O.slots outs.old)) (O.slots outs.new)) }
         ensures outputs { OnOk result
-            (HaveOpened O.told (work_by way elide naming tells said) (O.slots outs.old) (O.slots outs.new)) }
+            (HaveOpened O.visible (work_by way elide naming tells said) (O.slots outs.old) (O.slots outs.new)) }
         ensures cut { IfErr result
-            (StoppedOpening O.told (work_by way elide naming tells said) (O.slots outs.old) (O.slots outs.new)) }
+            (StoppedOpening O.visible (work_by way elide naming tells said) (O.slots outs.old) (O.slots outs.new)) }
         ensures refused { IfErr result
             (CannotBegin way (is_verbose tells) (O.slots outs.old) (O.slots outs.new)) }
     {
         match way {
             Way::Cut(Cut::Parts(limit)) => {
                 let parts = Parts::open(alloc, limit, naming, tells);
-                Ok(Guarded::new(Splitter::Parts(parts)))
+                Ok(Engine::new(Splitter::Parts(parts)))
             }
             Way::Cut(Cut::Round(count, delim)) => {
                 let round = RoundSplitter::open(alloc, count, naming, elide, tells, delim, outs)?;
-                Ok(Guarded::new(Splitter::Round(round)))
+                Ok(Engine::new(Splitter::Round(round)))
             }
             Way::Chunks(chunks) => {
                 let sink = ChunkSink::files(alloc, naming, elide, tells);
                 let chunker = Chunker::open(alloc, chunks, said, sink);
-                Ok(Guarded::new(Splitter::Chunks(chunker)))
+                Ok(Engine::new(Splitter::Chunks(chunker)))
             }
             Way::Chunk(place, chunks) => {
                 let chunker = Chunker::open(alloc, chunks, said, ChunkSink::output(place));
-                Ok(Guarded::new(Splitter::Chunks(chunker)))
+                Ok(Engine::new(Splitter::Chunks(chunker)))
             }
             Way::Turn(place, count, delim) => {
                 let turn = Turn::open(alloc, place, count, delim)?;
-                Ok(Guarded::new(Splitter::Turn(turn)))
+                Ok(Engine::new(Splitter::Turn(turn)))
             }
         }
     }

@@ -61,7 +61,7 @@ impl Turn {
     pub(crate) fn pass<O: Outs>(&mut self, piece: &[u8], outs: &mut O) -> Result<(), Fault>
         requires { Ready (O.slots outs.old) }
         ensures passes { PassesAs (way.Turn self.old) (way.Turn self.new) piece.now
-            (effect_of O.told O.slots outs.old outs.new) result }
+            (effect_of O.visible O.slots outs.old outs.new) result }
         ensures no_room { IfErr result (λ fault. fault ≡ Fault.Memory → O.slots outs.new ≡ O.slots outs.old) }
     {
         self.deal.gather(piece)?;

@@ -4,12 +4,14 @@ use Rattle.std.proofs.{
   Common.{◌≡◌, ℕ, ◌+◌, ◌<◌, ◌≤◌, zero, suc, List, [], ◌∷◌, ◌++◌, length, map, get_or, Bool, inl, inr, refl, sym},
   Common.{◌∙◌, ap, arith},
 }
-use Rattle.ports_core.{
+use Rattle.engine_core.{
   specs.Agreed.{file_bytes, IsAgreed, IsUndecided, Spot, spot, output_at, GoesTo, ArePlaced},
-  specs.Part.{FilesBegin, OutputsAt},
-  specs.Slot.{streams, opened, adds, closes, told_of, told_slot},
-  specs.declared.slot.{Mode.Mode, State.{State, TheVariants.{Open, Closed}}},
+  specs.Written.{FilesBegin, OutputsAt},
   proofs.AgreedLemmas.{agreed_now, same_spots},
+}
+use Rattle.ports_core.{
+  specs.Slot.{streams, opened, adds, closes, visible_of, visible_slot},
+  specs.declared.slot.{Mode.Mode, State.{State, TheVariants.{Open, Closed}}},
 }
 use Rattle.tee_core.specs.{Copy.{copies, copy_in, tee_work, spots_each, tee_spots}, Run.all_copied}
 
@@ -96,12 +98,12 @@ tee_placed mode names = record {
 
 -- the outputs of a run in which nothing breaks
 
-copied_files : (told : Bool) (mode : Mode) (names : List (List ℕ)) (x : List ℕ)
-    → map (λ name. closes (adds (told_of told x) (opened name mode))) names
-    ≡ map (told_slot told) (map (copy_in mode Closed x) names)
-copied_files told mode [] x = refl
-copied_files told mode (name ∷ names) x = cc (copied_files told mode names x)
+copied_files : (visible : Bool) (mode : Mode) (names : List (List ℕ)) (x : List ℕ)
+    → map (λ name. closes (adds (visible_of visible x) (opened name mode))) names
+    ≡ map (visible_slot visible) (map (copy_in mode Closed x) names)
+copied_files visible mode [] x = refl
+copied_files visible mode (name ∷ names) x = cc (copied_files visible mode names x)
 
-pub copied_whole : (told : Bool) (mode : Mode) (names : List (List ℕ)) (x : List ℕ)
-    → OutputsAt told streams ((tee_work mode names).whole x) (all_copied told mode names x)
-copied_whole told mode names x = grind (arith, common_steps, copied_files)
+pub copied_whole : (visible : Bool) (mode : Mode) (names : List (List ℕ)) (x : List ℕ)
+    → OutputsAt visible streams ((tee_work mode names).whole x) (all_copied visible mode names x)
+copied_whole visible mode names x = grind (arith, common_steps, copied_files)

@@ -13,7 +13,7 @@ use Rattle.tee_core.specs.{
 }
 use Rattle.ports_core.{
   specs.{
-    Slot.{Slot, slot_at, changed_at, is_open, adds, breaks, closes, told_of, with_written, SlotBreaks},
+    Slot.{Slot, slot_at, changed_at, is_open, adds, breaks, closes, visible_of, with_written, SlotBreaks},
     Write.BrokeAfter,
   },
   proofs.{SlotLemmas.{length-changed_at, slot_at-changed, slot_at-elsewhere, changed_at-again}, Runs.adds_both},
@@ -151,62 +151,65 @@ next_in_turn first n broke more old now new stays so_far turned one = record {
 
 -- one output
 
-pub gets_more : (told : Bool) {x y : List ℕ} {old mid new : Slot} → Gets told x old mid → Gets told y mid new
-    → Gets told (x ++ y) old new
-gets_more told {x} {y} {old} (gets_all sound) (gets_all _) = rw (adds_both told x y old) (gets_all sound)
-gets_more told {x} {y} {old} (gets_all sound) (breaks_off again n why within) =
-    rw (← (ap (λ bytes. breaks why (adds (told_of told bytes) old)) (take-append-add x y n) ∙ sym (ap (breaks why) (adds_both told x (take n y) old))))
+pub gets_more : (visible : Bool) {x y : List ℕ} {old mid new : Slot} → Gets visible x old mid → Gets visible y mid new
+    → Gets visible (x ++ y) old new
+gets_more visible {x} {y} {old} (gets_all sound) (gets_all _) = rw (adds_both visible x y old) (gets_all sound)
+gets_more visible {x} {y} {old} (gets_all sound) (breaks_off again n why within) =
+    rw (← (ap (λ bytes. breaks why (adds (visible_of visible bytes) old)) (take-append-add x y n) ∙ sym (ap (breaks why) (adds_both visible x (take n y) old))))
     (breaks_off sound (length x + n) why (omega (arith, length-append x y)))
-gets_more told (gets_all sound) (gets_none broken) = absurd (cc)
-gets_more told (breaks_off _ n _ _) (gets_all again) = absurd (cc)
-gets_more told (breaks_off _ n _ _) (breaks_off again m _ _) = absurd (cc)
-gets_more told {x} {y} {old} (breaks_off sound n why within) (gets_none broken) =
-    rw (← (ap (λ bytes. breaks why (adds (told_of told bytes) old)) (take-append-le n x y (omega arith))))
+gets_more visible (gets_all sound) (gets_none broken) = absurd (cc)
+gets_more visible (breaks_off _ n _ _) (gets_all again) = absurd (cc)
+gets_more visible (breaks_off _ n _ _) (breaks_off again m _ _) = absurd (cc)
+gets_more visible {x} {y} {old} (breaks_off sound n why within) (gets_none broken) =
+    rw (← (ap (λ bytes. breaks why (adds (visible_of visible bytes) old)) (take-append-le n x y (omega arith))))
     (breaks_off sound n why (omega (arith, length-append x y)))
-gets_more told (gets_none broken) (gets_all again) = absurd (cc)
-gets_more told (gets_none broken) (breaks_off again m _ _) = absurd (cc)
-gets_more told (gets_none broken) (gets_none _) = gets_none broken
+gets_more visible (gets_none broken) (gets_all again) = absurd (cc)
+gets_more visible (gets_none broken) (breaks_off again m _ _) = absurd (cc)
+gets_more visible (gets_none broken) (gets_none _) = gets_none broken
 
-pub still_broken : (told : Bool) {bytes : List ℕ} (old new : Slot) → Gets told bytes old new → old.is_broken ≡ true
+pub still_broken : (visible : Bool) {bytes : List ℕ} (old new : Slot) → Gets visible bytes old new
+    → old.is_broken ≡ true
     → new.is_broken ≡ true
-still_broken told old _ (gets_all _) broken = broken
-still_broken told old _ (breaks_off _ n _ _) broken = refl
-still_broken told old _ (gets_none _) broken = broken
+still_broken visible old _ (gets_all _) broken = broken
+still_broken visible old _ (breaks_off _ n _ _) broken = refl
+still_broken visible old _ (gets_none _) broken = broken
 
 pub closed_broken : (old new : Slot) → Closes old new → old.is_broken ≡ true → new.is_broken ≡ true
 closed_broken old _ (is_closed _) broken = broken
 closed_broken old _ (fails_to_close _ _) broken = refl
 closed_broken old _ (was_broken was) broken = broken
 
-still_usable : (told : Bool) {bytes : List ℕ} {old new : Slot} → Gets told bytes old new → IsUsable old → IsUsable new
-still_usable told (gets_all _) usable = usable
-still_usable told (breaks_off sound n _ _) usable = λ sound. absurd (cc)
-still_usable told (gets_none _) usable = usable
+still_usable : (visible : Bool) {bytes : List ℕ} {old new : Slot} → Gets visible bytes old new → IsUsable old
+    → IsUsable new
+still_usable visible (gets_all _) usable = usable
+still_usable visible (breaks_off sound n _ _) usable = λ sound. absurd (cc)
+still_usable visible (gets_none _) usable = usable
 
 -- an output that is sound after it got all
-pub sound_gets : (told : Bool) {bytes : List ℕ} {old new : Slot} → Gets told bytes old new → new.is_broken ≡ false
-    → new ≡ adds (told_of told bytes) old
-sound_gets told (gets_all _) still = refl
-sound_gets told (breaks_off _ n _ _) still = absurd (cc)
-sound_gets told (gets_none broken) still = absurd (cc)
+pub sound_gets : (visible : Bool) {bytes : List ℕ} {old new : Slot} → Gets visible bytes old new → new.is_broken ≡ false
+    → new ≡ adds (visible_of visible bytes) old
+sound_gets visible (gets_all _) still = refl
+sound_gets visible (breaks_off _ n _ _) still = absurd (cc)
+sound_gets visible (gets_none broken) still = absurd (cc)
 
 -- the outputs of a tee
 
-pub all_get_more : {IsOne : ℕ → Type 0} (told : Bool) {x y : List ℕ} {old mid new : List Slot}
-    → ChangesEach (Gets told x) IsOne old mid → ChangesEach (Gets told y) IsOne mid new
-    → ChangesEach (Gets told (x ++ y)) IsOne old new
-all_get_more told first second = grind (arith, common_steps, gets_more)
+pub all_get_more : {IsOne : ℕ → Type 0} (visible : Bool) {x y : List ℕ} {old mid new : List Slot}
+    → ChangesEach (Gets visible x) IsOne old mid → ChangesEach (Gets visible y) IsOne mid new
+    → ChangesEach (Gets visible (x ++ y)) IsOne old new
+all_get_more visible first second = grind (arith, common_steps, gets_more)
 
-pub all_still_usable : {IsOne : ℕ → Type 0} (told : Bool) {bytes : List ℕ} {old new : List Slot}
-    → ChangesEach (Gets told bytes) IsOne old new → ((place : ℕ) → IsOne place → IsUsable (slot_at old place))
+pub all_still_usable : {IsOne : ℕ → Type 0} (visible : Bool) {bytes : List ℕ} {old new : List Slot}
+    → ChangesEach (Gets visible bytes) IsOne old new → ((place : ℕ) → IsOne place → IsUsable (slot_at old place))
     → (place : ℕ) → IsOne place → IsUsable (slot_at new place)
-all_still_usable told gets usable place is = still_usable told (gets.each place is) (usable place is)
+all_still_usable visible gets usable place is = still_usable visible (gets.each place is) (usable place is)
 
 -- one output's turn
 
-pub left_out : (told : Bool) {piece : List ℕ} {place : ℕ} {slots : List Slot} → (slot_at slots place).is_broken ≡ true
-    → ChangesSome (Gets told piece) (λ other. other ≡ place) slots slots 0
-left_out told {place} broken = turned_same place (gets_none broken)
+pub left_out : (visible : Bool) {piece : List ℕ} {place : ℕ} {slots : List Slot}
+    → (slot_at slots place).is_broken ≡ true
+    → ChangesSome (Gets visible piece) (λ other. other ≡ place) slots slots 0
+left_out visible {place} broken = turned_same place (gets_none broken)
 
 pub not_closed : {place : ℕ} {slots : List Slot} → (slot_at slots place).is_broken ≡ true
     → ChangesSome Closes (λ other. other ≡ place) slots slots 0
@@ -214,17 +217,18 @@ not_closed {place} broken = turned_same place (was_broken broken)
 
 module _ {place : ℕ} {old : List Slot} (usable : IsUsable (slot_at old place))
     (sound : (slot_at old place).is_broken ≡ false) where
-  pub written_whole : (told : Bool) {piece : List ℕ} {new : List Slot}
-      → new ≡ with_written place (told_of told piece) old
-      → ChangesSome (Gets told piece) (λ other. other ≡ place) old new 0
-  written_whole told {piece} is =
-      turned_one place (adds (told_of told piece)) (open_within old place (usable sound)) sound sound (gets_all sound) is
+  pub written_whole : (visible : Bool) {piece : List ℕ} {new : List Slot}
+      → new ≡ with_written place (visible_of visible piece) old
+      → ChangesSome (Gets visible piece) (λ other. other ≡ place) old new 0
+  written_whole visible {piece} is =
+      turned_one place (adds (visible_of visible piece)) (open_within old place (usable sound)) sound sound (gets_all sound) is
 
-  pub written_short : (told : Bool) {piece : List ℕ} {n : ℕ} {new : List Slot} → BrokeAfter told old new place piece n
-      → ChangesSome (Gets told piece) (λ other. other ≡ place) old new 1
-  written_short told {piece} {n} broke =
+  pub written_short : (visible : Bool) {piece : List ℕ} {n : ℕ} {new : List Slot}
+      → BrokeAfter visible old new place piece n
+      → ChangesSome (Gets visible piece) (λ other. other ≡ place) old new 1
+  written_short visible {piece} {n} broke =
       let (why, slots) = broke.slots in
-      let takes = adds (told_of told (take n piece)) in
+      let takes = adds (visible_of visible (take n piece)) in
       turned_one place (λ slot. breaks why (takes slot)) (open_within old place (usable sound)) sound refl
       (breaks_off sound n why broke.within) (slots ∙ changed_at-again place takes (breaks why) old)
 
@@ -239,10 +243,10 @@ module _ {place : ℕ} {old : List Slot} (usable : IsUsable (slot_at old place))
       (fails_to_close sound why) (is ∙ changed_at-again place closes (breaks why) old)
 
 -- standard output, and then the files
-pub fed : (told : Bool) {piece : List ℕ} (tee : TeeState) (broke more : ℕ) {old mid new : List Slot}
-    → (0 < tee.count → 2 ≤ tee.first) → ChangesSome (Gets told piece) (λ place. place ≡ 0) old mid broke
-    → ChangesSome (Gets told piece) (IsFile tee) mid new more
-    → ChangesSome (Gets told piece) (IsOutput tee) old new (broke + more)
-fed told tee broke more streams first second =
-    turned_both broke more (still_broken told) (λ place. cases_eq place 0) (is_between tee.first (tee.first + tee.count))
+pub fed : (visible : Bool) {piece : List ℕ} (tee : TeeState) (broke more : ℕ) {old mid new : List Slot}
+    → (0 < tee.count → 2 ≤ tee.first) → ChangesSome (Gets visible piece) (λ place. place ≡ 0) old mid broke
+    → ChangesSome (Gets visible piece) (IsFile tee) mid new more
+    → ChangesSome (Gets visible piece) (IsOutput tee) old new (broke + more)
+fed visible tee broke more streams first second =
+    turned_both broke more (still_broken visible) (λ place. cases_eq place 0) (is_between tee.first (tee.first + tee.count))
     (λ place is file. omega (arith, streams (omega (arith, file.0, file.1)))) (λ place is. is) (λ place is. is) first second

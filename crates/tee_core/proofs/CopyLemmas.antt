@@ -6,18 +6,18 @@ use Rattle.std.{
   specs.List.concat,
 }
 use Rattle.ports_core.specs.{
-  Slot.{Slot, adds, breaks, is_open, opened, slot_at, told_of, unopened},
-  Part.IsBeginning,
+  Slot.{Slot, adds, breaks, is_open, opened, slot_at, visible_of, unopened},
   Message.Report,
   declared.{on_broken.OnBroken.OnBroken, fault.Fault.Fault, reason.Reason.Reason, slot.Mode.Mode},
   Streams.{standard_error, standard_output},
 }
+use Rattle.engine_core.specs.Written.{IsBeginning}
 use Rattle.ports_core.proofs.{
   MessageLemmas.each_state,
-  PartLemmas.take_begins_after,
   Runs.{adds_both, adds-nil},
   SlotLemmas.{length-changed_at, slot_at-changed, slot_at-elsewhere},
 }
+use Rattle.engine_core.proofs.WrittenLemmas.{take_begins_after}
 use Rattle.tee_core.specs.{
   Opening.{OpensAs, is_opened, is_unopened},
   Outputs.{ChangesEach, Gets, gets_all, breaks_off, gets_none, IsFile, IsOutput, IsReady, IsUsable},
@@ -92,7 +92,7 @@ module _ {run : TeeRun} {reports : List Report} {old new : List Slot} (says : Sa
 
   said_open : 1 < length old → is_open (slot_at old 1).state ≡ true → is_open (slot_at new 1).state ≡ true
   said_open within opened = ap (λ slot. is_open slot.state) (said_error within)
-      ∙ ap is_open (each_state run.told (tee_called run.calling) reports (slot_at old 1) says.error says.said) ∙ opened
+      ∙ ap is_open (each_state run.visible (tee_called run.calling) reports (slot_at old 1) says.error says.said) ∙ opened
 
   pub standings_said : {count : ℕ} → HasStreams old count → standings_of new ≡ standings_of old
   standings_said has = rw (says.slots, has.are) refl
@@ -145,38 +145,38 @@ stepped {mid = mid} has apart seen changes sees says = (
 -- one output
 
 -- What an output has of the bytes x, by how it began: all; or it couldn't be opened; or it broke, and has a beginning.
-pub data Has (told : Bool) (x : List ℕ) (start : Slot) : Slot → Type 0 where
-  has_all : Has told x start (adds (told_of told x) start)
+pub data Has (visible : Bool) (x : List ℕ) (start : Slot) : Slot → Type 0 where
+  has_all : Has visible x start (adds (visible_of visible x) start)
   has_none : (kept : List ℕ) (why : Reason) → (kept ≡ start.name) ⊎ (kept ≡ [])
-      → Has told x start (unopened why kept)
+      → Has visible x start (unopened why kept)
   has_begun : (y : List ℕ) (why : Reason) → IsBeginning y x
-      → Has told x start (breaks why (adds (told_of told y) start))
+      → Has visible x start (breaks why (adds (visible_of visible y) start))
 
-has_nothing : (told : Bool) (start : Slot) → Has told [] start start
-has_nothing told start = subst (λ slot. Has told [] start slot) (adds-nil told start) has_all
+has_nothing : (visible : Bool) (start : Slot) → Has visible [] start start
+has_nothing visible start = subst (λ slot. Has visible [] start slot) (adds-nil visible start) has_all
 
-has_opened : (told : Bool) {mode : Mode} {name : List ℕ} {now : Slot} → OpensAs mode name now
-    → Has told [] (opened name mode) now
-has_opened told {mode} {name} is_opened = has_nothing told (opened name mode)
-has_opened told (is_unopened kept why named) = has_none kept why named
+has_opened : (visible : Bool) {mode : Mode} {name : List ℕ} {now : Slot} → OpensAs mode name now
+    → Has visible [] (opened name mode) now
+has_opened visible {mode} {name} is_opened = has_nothing visible (opened name mode)
+has_opened visible (is_unopened kept why named) = has_none kept why named
 
-has_more : {told : Bool} {x y : List ℕ} {start old new : Slot} → start.is_broken ≡ false → Has told x start old
-    → Gets told y old new → Has told (x ++ y) start new
-has_more {told} {x} {y} {start} sound has_all (gets_all _) = rw (adds_both told x y start) has_all
-has_more {told} {x} {y} {start} sound has_all (breaks_off _ n why within) =
-    rw (ap (breaks why) (adds_both told x (take n y) start)) (has_begun (x ++ take n y) why (take_begins_after n x y))
+has_more : {visible : Bool} {x y : List ℕ} {start old new : Slot} → start.is_broken ≡ false → Has visible x start old
+    → Gets visible y old new → Has visible (x ++ y) start new
+has_more {visible} {x} {y} {start} sound has_all (gets_all _) = rw (adds_both visible x y start) has_all
+has_more {visible} {x} {y} {start} sound has_all (breaks_off _ n why within) =
+    rw (ap (breaks why) (adds_both visible x (take n y) start)) (has_begun (x ++ take n y) why (take_begins_after n x y))
 has_more sound has_all (gets_none broken) = absurd (false≢true (sym sound ∙ broken))
 has_more sound (has_none kept why named) (gets_none _) = has_none kept why named
 has_more {y = y} sound (has_begun z why (rest, is)) (gets_none _) = has_begun z why (rest ++ y, rw (is, append_assoc))
 has_more sound has (gets_all again) = absurd (cc)
 has_more sound has (breaks_off again n why within) = absurd (cc)
 
-pub has_sound : {told : Bool} {x : List ℕ} {start slot : Slot} → Has told x start slot → slot.is_broken ≡ false
-    → slot ≡ adds (told_of told x) start
+pub has_sound : {visible : Bool} {x : List ℕ} {start slot : Slot} → Has visible x start slot → slot.is_broken ≡ false
+    → slot ≡ adds (visible_of visible x) start
 has_sound has_all sound = refl
 has_sound has sound = absurd (cc)
 
-has_usable : {told : Bool} {x : List ℕ} {start slot : Slot} → is_open start.state ≡ true → Has told x start slot
+has_usable : {visible : Bool} {x : List ℕ} {start slot : Slot} → is_open start.state ≡ true → Has visible x start slot
     → IsUsable slot
 has_usable opened has_all sound = opened
 has_usable opened has sound = absurd (cc)
@@ -207,7 +207,7 @@ output_of names (suc n) within = (λ is. omega (arith, is), omega (arith, within
 pub record Stands (run : TeeRun) (x : List ℕ) (slots : List Slot) : Type 0 where
   pub count : length slots ≡ length run.names + 2
   pub opened : is_open (slot_at slots 1).state ≡ true
-  pub each : (n : ℕ) → n ≤ length run.names → Has run.told x (start_of run n) (output_at slots n)
+  pub each : (n : ℕ) → n ≤ length run.names → Has run.visible x (start_of run n) (output_at slots n)
 
 module _ {run : TeeRun} {x : List ℕ} {slots : List Slot} (stands : Stands run x slots) where
   pub stands_streams : HasStreams slots (length run.names)
@@ -238,13 +238,13 @@ opened_first run {mid} changes = record {
   opened = ap (λ slot. is_open slot.state) (changes.others 1 (λ file. omega (arith, file.0)));
   each = by;
 } where
-  by : (n : ℕ) → n ≤ length run.names → Has run.told [] (start_of run n) (output_at mid n)
-  by zero within = rw (changes.others 0 (λ file. omega (arith, file.0))) (has_nothing run.told standard_output)
-  by (suc n) within = has_opened run.told (rw (mapped_at (λ name. opened name run.mode) run.names n within) at
+  by : (n : ℕ) → n ≤ length run.names → Has run.visible [] (start_of run n) (output_at mid n)
+  by zero within = rw (changes.others 0 (λ file. omega (arith, file.0))) (has_nothing run.visible standard_output)
+  by (suc n) within = has_opened run.visible (rw (mapped_at (λ name. opened name run.mode) run.names n within) at
       (changes.each (suc (suc n)) (omega arith, omega (arith, within))))
 
 copied_more : {run : TeeRun} {x piece : List ℕ} {old mid : List Slot} → Stands run x old
-    → ChangesEach (Gets run.told piece) (IsOutputOf run.names) old mid → Stands run (x ++ piece) mid
+    → ChangesEach (Gets run.visible piece) (IsOutputOf run.names) old mid → Stands run (x ++ piece) mid
 copied_more {run} stands changes = record {
   count = changes.count ∙ stands.count;
   opened = ap (λ slot. is_open slot.state) (changes.others 1 (λ is. is.0 refl)) ∙ stands.opened;
@@ -320,4 +320,4 @@ sound_said {run} (started new step) sound =
     sound_error step sound (stands_streams (opened_first run step.changes)) (λ file. omega (arith, file.0))
 sound_said {run} (one_more pieces piece old new so_far goes some few step) sound =
     sound_error step sound (stands_streams (copied_more (stands_of so_far) step.changes)) (λ is. is.0 refl)
-    ∙ sound_said so_far (sound_old step sound (still_broken run.told) (output_decided run.names))
+    ∙ sound_said so_far (sound_old step sound (still_broken run.visible) (output_decided run.names))

@@ -7,7 +7,7 @@ use Rattle.std.{
   specs.List.{concat, list_any},
 }
 use Rattle.ports_core.specs.{
-  Slot.{Slot, changed_at, no_slot, slot_at, adds, closes, opened, streams, told_of},
+  Slot.{Slot, changed_at, no_slot, slot_at, adds, closes, opened, streams, visible_of},
   Source.{ReadFails, Content, Source, counted, source_at, unshown, is_readable, gives, BrokeOff, Gave, IsFresh},
   declared.fault.Fault.{Fault, TheVariants.{Memory}},
   declared.on_broken.OnBroken.{OnBroken, TheVariants.{Warn, Exit, WarnNoPipe, ExitNoPipe, Signal}},
@@ -46,18 +46,18 @@ nothing_more {x} (byte ∷ rest) is = absurd (omega (arith, length-append x (byt
 
 -- An input that was read up to here, and what is left of it; if bytes aren't visible, the input goes no further.
 abbrev SeenTo : Bool → Content → List ℕ → Source → Type 0
-SeenTo told there x source = (content : Content) × (rest : List ℕ) × (told ≡ true → content ≡ there) × (content.bytes ≡ x ++ rest) × LeavesOf told source rest
-    × CameFrom told content source
+SeenTo visible there x source = (content : Content) × (rest : List ℕ) × (visible ≡ true → content ≡ there) × (content.bytes ≡ x ++ rest) × LeavesOf visible source rest
+    × CameFrom visible content source
 
 -- an input that was read to its end
 abbrev SeenWhole : Bool → Content → List ℕ → Bool → Source → Type 0
-SeenWhole told there x breaks source = (content : Content) × (told ≡ true → content ≡ there) × (content.bytes ≡ x) × (content.breaks_off ≡ breaks) × LeavesOf told source []
-    × CameFrom told content source
+SeenWhole visible there x breaks source = (content : Content) × (visible ≡ true → content ≡ there) × (content.bytes ≡ x) × (content.breaks_off ≡ breaks) × LeavesOf visible source []
+    × CameFrom visible content source
 
-whole : (told : Bool) (there : Content) (x : List ℕ) (breaks : Bool) (source : Source)
-    → (told ≡ true → (there.bytes ≡ x) × (there.breaks_off ≡ breaks) × (source.left.bytes ≡ []))
-    → ((content : Content) → (told ≡ false → content.breaks_off ≡ breaks) → CameFrom told content source)
-    → SeenWhole told there x breaks source
+whole : (visible : Bool) (there : Content) (x : List ℕ) (breaks : Bool) (source : Source)
+    → (visible ≡ true → (there.bytes ≡ x) × (there.breaks_off ≡ breaks) × (source.left.bytes ≡ []))
+    → ((content : Content) → (visible ≡ false → content.breaks_off ≡ breaks) → CameFrom visible content source)
+    → SeenWhole visible there x breaks source
 whole true there x breaks source has came =
     let had = has refl in (there, (λ t. refl), had.0, had.1, (λ t. had.2), came there (λ off. absurd (cc)))
 whole false there x breaks source has came = (
@@ -71,27 +71,27 @@ whole false there x breaks source has came = (
 )
 
 -- the read failed
-pub seen_broken : (told : Bool) (there : Content) (x : List ℕ) (size : ℕ) (sources new : List Source)
-    → (told ≡ true → HasRead there x 0 sources) → IsTrue (is_readable sources 0)
-    → (told ≡ true → BrokeOff (source_at sources 0).left) → ReadFails 0 size sources new
-    → SeenWhole told there x true (source_at new 0)
-seen_broken told there x size sources new read can broke failed =
+pub seen_broken : (visible : Bool) (there : Content) (x : List ℕ) (size : ℕ) (sources new : List Source)
+    → (visible ≡ true → HasRead there x 0 sources) → IsTrue (is_readable sources 0)
+    → (visible ≡ true → BrokeOff (source_at sources 0).left) → ReadFails 0 size sources new
+    → SeenWhole visible there x true (source_at new 0)
+seen_broken visible there x size sources new read can broke failed =
     grind (arith, common_steps, whole, read_broken, nothing_more, read_failed, came_broken)
 
 -- the read reported the end
-pub seen_ended : (told : Bool) (there : Content) (x : List ℕ) (size : ℕ) (sources new : List Source)
-    {buffer old_buffer : List ℕ} {n : ℕ} → (told ≡ true → HasRead there x 0 sources)
-    → IsTrue (is_readable sources 0) → (told ≡ true → Gave (source_at sources 0).left old_buffer buffer n) → n ≡ 0
+pub seen_ended : (visible : Bool) (there : Content) (x : List ℕ) (size : ℕ) (sources new : List Source)
+    {buffer old_buffer : List ℕ} {n : ℕ} → (visible ≡ true → HasRead there x 0 sources)
+    → IsTrue (is_readable sources 0) → (visible ≡ true → Gave (source_at sources 0).left old_buffer buffer n) → n ≡ 0
     → 0 < length old_buffer
-    → new ≡ changed_at 0 (gives size n) sources → SeenWhole told there x false (source_at new 0)
-seen_ended told there x size sources new {n = n} read can gave few room is = whole told there x false (source_at new 0)
+    → new ≡ changed_at 0 (gives size n) sources → SeenWhole visible there x false (source_at new 0)
+seen_ended visible there x size sources new {n = n} read can gave few room is = whole visible there x false (source_at new 0)
     (λ t. let at_end = (gave t).ended few room in let all = read_to_end there x 0 sources (read t) at_end.0 at_end.1 in
-    (all.1, all.0, nothing_more _ (sym all.1 ∙ read_none_more there x 0 sources new size n (read t) can few is))) (λ content. came_sound told new 0 (still_readable 0 sources new size n is can))
+    (all.1, all.0, nothing_more _ (sym all.1 ∙ read_none_more there x 0 sources new size n (read t) can few is))) (λ content. came_sound visible new 0 (still_readable 0 sources new size n is can))
 
 -- the input was read up to here
-pub seen_so_far : (told : Bool) (there : Content) (x : List ℕ) (sources : List Source)
-    → (told ≡ true → HasRead there x 0 sources) → IsTrue (is_readable sources 0)
-    → SeenTo told there x (source_at sources 0)
+pub seen_so_far : (visible : Bool) (there : Content) (x : List ℕ) (sources : List Source)
+    → (visible ≡ true → HasRead there x 0 sources) → IsTrue (is_readable sources 0)
+    → SeenTo visible there x (source_at sources 0)
 seen_so_far true there x sources read can = (
   there,
   (source_at sources 0).left.bytes,
@@ -111,12 +111,12 @@ seen_so_far false there x sources read can = (
 )
 
 -- the input gave one more piece
-pub seen_more : (told : Bool) (there : Content) (x : List ℕ) (size : ℕ) (sources new : List Source)
-    {old_buffer buffer : List ℕ} {n : ℕ} → (told ≡ true → HasRead there x 0 sources)
-    → IsTrue (is_readable sources 0) → (told ≡ true → Gave (source_at sources 0).left old_buffer buffer n)
+pub seen_more : (visible : Bool) (there : Content) (x : List ℕ) (size : ℕ) (sources new : List Source)
+    {old_buffer buffer : List ℕ} {n : ℕ} → (visible ≡ true → HasRead there x 0 sources)
+    → IsTrue (is_readable sources 0) → (visible ≡ true → Gave (source_at sources 0).left old_buffer buffer n)
     → new ≡ changed_at 0 (gives size n) sources
-    → SeenTo told there (x ++ take n buffer) (source_at new 0)
-seen_more told there x size sources new read can gave is =
+    → SeenTo visible there (x ++ take n buffer) (source_at new 0)
+seen_more visible there x size sources new read can gave is =
     grind (arith, common_steps, seen_so_far, read_more, still_readable)
 
 pub counted_more : (x buffer : List ℕ) {fed : ℕ} (n : ℕ) {sum : ℕ} → fed ≡ length x → n ≤ length buffer → sum ≡ fed + n
@@ -167,14 +167,14 @@ reads_more {pieces = pieces} piece so_far few same is =
 
 -- the fault was reported, and the run has this status
 abbrev pub ToldSo : TeeRun → Fault → List Slot → List Slot → ℕ → Type 0
-ToldSo run fault mid new status = TellsOn run.told (tee_called run.calling) fault mid new
+ToldSo run fault mid new status = TellsOn run.visible (tee_called run.calling) fault mid new
     × (status ≡ status_after fault run.calling (output_reason mid fault))
 
-module _ {run : TeeRun} {told_in : Bool} where
+module _ {run : TeeRun} {visible_in : Bool} where
   pub reads_copied : {content : Content} {source : Source} {slots : List Slot} {known : List Standing}
       {fault : Option Fault} {pieces : List (List ℕ)} {is_vain : Bool} → known ≡ standings_of slots
       → is_done run.on_broken known ≡ is_vain → Copied run pieces slots
-      → ComesIn told_in content source is_vain pieces fault → CopiesRead run told_in content source slots fault
+      → ComesIn visible_in content source is_vain pieces fault → CopiesRead run visible_in content source slots fault
   reads_copied {pieces = pieces} seen vain so_far comes = record {
     pieces = pieces;
     read = rw (← seen, vain) comes;
@@ -185,9 +185,9 @@ module _ {run : TeeRun} {told_in : Bool} where
 
   pub ends_copied : {content : Content} {source : Source} {fault : Option Fault} {status : ℕ}
       {old mid new : List Slot} {known : List Standing} → status ≡ status_for run.on_broken known fault
-      → known ≡ standings_of new → CopiesRead run told_in content source old fault
+      → known ≡ standings_of new → CopiesRead run visible_in content source old fault
       → SaysTo run (said_of_input source fault) old mid → ClosesAll run mid new
-      → EndsAs run told_in content source new status
+      → EndsAs run visible_in content source new status
   ends_copied {fault = fault} {old = old} {mid} is seen read says closes =
       copied read.pieces fault old mid read.read read.copied says closes
       (is ∙ ap (λ those. status_for run.on_broken those fault) seen)
@@ -195,8 +195,8 @@ module _ {run : TeeRun} {told_in : Bool} where
   -- there was no memory
 
   ends_nowhere : {content : Content} {source : Source} {mid new : List Slot} {fault : Fault} {status : ℕ}
-      → fault ≡ Memory → mid ≡ streams → IsAsFound told_in content source → ToldSo run fault mid new status
-      → EndsAs run told_in content source new status
+      → fault ≡ Memory → mid ≡ streams → IsAsFound visible_in content source → ToldSo run fault mid new status
+      → EndsAs run visible_in content source new status
   ends_nowhere {mid = mid} {new} {status = status} is at unread says =
       let (tells, one) = subst (λ (those : Fault). ToldSo run those mid new status) is says in
       let said = tells standard_output standard_error [] at in
@@ -205,13 +205,13 @@ module _ {run : TeeRun} {told_in : Bool} where
   pub ends_at_once : {old new_sources : List Source} {first mid new : List Slot} {fault : Fault} {status : ℕ}
       → fault ≡ Memory → IsFresh old → first ≡ streams → mid ≡ first → new_sources ≡ old
       → ToldSo run fault mid new status
-      → OfContent told_in (source_at old 0).left
-      (λ content. EndsAs run told_in content (source_at new_sources 0) new status
-      × CameFrom told_in content (source_at new_sources 0))
+      → OfContent visible_in (source_at old 0).left
+      (λ content. EndsAs run visible_in content (source_at new_sources 0) new status
+      × CameFrom visible_in content (source_at new_sources 0))
   ends_at_once {old} {new_sources} {new = new} {status = status} is fresh at same sources says =
       let unread = ap (λ those. source_at those 0) (sources ∙ fresh.only) in
-      of_content told_in (source_at old 0).left empty (source_at new_sources 0)
-      (λ content. EndsAs run told_in content (source_at new_sources 0) new status)
+      of_content visible_in (source_at old 0).left empty (source_at new_sources 0)
+      (λ content. EndsAs run visible_in content (source_at new_sources 0) new status)
       (λ _. ends_nowhere is (same ∙ at) (fresh.standard, unread, λ _. cc) says)
       (λ untold. ends_nowhere is (same ∙ at) (fresh.standard, unread, λ tells. absurd (cc)) says)
       (cc) (cc)
@@ -329,7 +329,7 @@ module _ {run : TeeRun} {pieces : List (List ℕ)} {reports : List Report} {old 
     old_sound place differs = rw (said_place says place differs) at (sound_before place differs)
 
     abbrev bytes : List ℕ
-    bytes = told_of run.told (concat pieces)
+    bytes = visible_of run.visible (concat pieces)
 
     has_copied : (n : ℕ) → n ≤ length run.names → output_at mid n ≡ adds bytes (start_of run n)
     has_copied n within = has_sound (stands_mid.each n within) (sound_before (output_slot n) (output_of run.names n within).0)
@@ -359,17 +359,17 @@ module _ {run : TeeRun} {pieces : List (List ℕ)} {reports : List Report} {old 
           ∙ ap closes (has_copied (suc n) (omega (arith, file.1)))
           ∙ sym (mapped_at (λ name. closes (adds bytes (opened name run.mode))) run.names n (omega (arith, file.1)))
 
-    pub sound_says : SaysEach run.told (tee_called run.calling) reports standard_error says.error
+    pub sound_says : SaysEach run.visible (tee_called run.calling) reports standard_error says.error
     sound_says = rw (sound_said so_far old_sound) at says.said
 
 pub said_none : (source : Source) (fault : Option Fault) → is_none fault ≡ true → said_of_input source fault ≡ []
 said_none source None ended = refl
 said_none source (Some one) ended = absurd (cc)
 
-module _ {run : TeeRun} {told_in : Bool} where
+module _ {run : TeeRun} {visible_in : Bool} where
   pub whole_if : {content : Content} {source : Source} {new : List Slot} {status : ℕ} → status ≡ 0
-      → (forgives run.on_broken ≡ true → AreSound new) → EndsAs run told_in content source new status
-      → new ≡ all_copied run.told run.mode run.names content.bytes
+      → (forgives run.on_broken ≡ true → AreSound new) → EndsAs run visible_in content source new status
+      → new ≡ all_copied run.visible run.mode run.names content.bytes
   whole_if zero_is sound (no_room _ said left at one) = absurd (omega arith)
   whole_if zero_is sound (copied pieces fault old mid comes so_far says ends is) =
       let good = well_of run.on_broken fault (end_streams so_far says ends) sound (sym is ∙ zero_is) in
@@ -377,9 +377,9 @@ module _ {run : TeeRun} {told_in : Bool} where
       let quiet : says.error ≡ standard_error = rw (said_none _ fault good.0) at (sound_says so_far says ends good.1) in
       rw (all_sound so_far says ends good.1, quiet, read_whole _ goes good.0 comes.read) refl
 
-  pub whole_of : (there : Content) {source : Source} {new : List Slot} {status : ℕ} → told_in ≡ true → status ≡ 0
+  pub whole_of : (there : Content) {source : Source} {new : List Slot} {status : ℕ} → visible_in ≡ true → status ≡ 0
       → (forgives run.on_broken ≡ true → AreSound new)
-      → OfContent told_in there
-      (λ content. EndsAs run told_in content source new status × CameFrom told_in content source)
-      → new ≡ all_copied run.told run.mode run.names there.bytes
+      → OfContent visible_in there
+      (λ content. EndsAs run visible_in content source new status × CameFrom visible_in content source)
+      → new ≡ all_copied run.visible run.mode run.names there.bytes
   whole_of there tells zero_is sound (content, is, holds) = cc (whole_if zero_is sound holds.0, is tells)

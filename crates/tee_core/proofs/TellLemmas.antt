@@ -62,12 +62,12 @@ count_standings {count} has =
 
 says_too : (report : Report) {run : TeeRun} {reports : List Report} {count : ℕ} {old now new : List Slot}
     → HasStreams old count → SaysTo run reports old now
-    → SaysOn run.told (tee_called run.calling) report.why report.message now new
+    → SaysOn run.visible (tee_called run.calling) report.why report.message now new
     → SaysTo run (reports ++ report ∷ []) old new
 says_too report {run} {reports} has so_far says =
     let said = says has.output so_far.error has.files (so_far.slots ∙ ap (changed_at 1 (λ _. so_far.error)) has.are) in record {
       error = said.0;
-      said = each_more run.told (tee_called run.calling) reports report _ so_far.error said.0 so_far.said said.1;
+      said = each_more run.visible (tee_called run.calling) reports report _ so_far.error said.0 so_far.said said.1;
       slots = said.2 ∙ sym (ap (changed_at 1 (λ _. said.0)) has.are);
     }
 
@@ -90,7 +90,7 @@ stands_there n has = rw has.are (standing_at has.output has.error has.files n)
 -- the report of the fault that ended the reading
 pub input_told : (run : TeeRun) (source : Source) {fault : Option Fault} {one : Fault} {count : ℕ} {old new : List Slot}
     {why : Reason} → fault ≡ Some one → why ≡ source.reason → HasStreams old count
-    → SaysOn run.told (tee_called run.calling) why (message_of one (codes "standard input")) old new
+    → SaysOn run.visible (tee_called run.calling) why (message_of one (codes "standard input")) old new
     → SaysTo run (said_of_input source fault) old new
 input_told run source is reason has says =
     let said = (rw reason at says) has.output has.error has.files has.are in rw (is, has.are) (record {
@@ -117,14 +117,14 @@ module _ {run : TeeRun} {fault : Fault} {before known : List Standing} {n count 
   pub error_open : is_open (slot_at now 1).state ≡ true
   error_open =
       ap (λ those. is_open (slot_at those 1).state) (so_far.said.slots ∙ ap (changed_at 1 (λ _. so_far.said.error)) has.are)
-      ∙ ap is_open (each_state run.told (tee_called run.calling) _ _ so_far.said.error so_far.said.said)
+      ∙ ap is_open (each_state run.visible (tee_called run.calling) _ _ so_far.said.error so_far.said.said)
       ∙ ap (λ those. is_open (slot_at those 1).state) has.are ∙ has.opened
 
   pub tells_next : (other : Standing) {new : List Slot} {name : List ℕ} {standing : Standing}
       → length before ≡ count + 1 → n < length before → name ≡ get_or (output_names run.names) n []
       → standing ≡ stands_as (output_at now n)
       → (tells run.on_broken (get_or known n other) standing ≡ true
-      → SaysOn run.told (tee_called run.calling) (output_at now n).reason (message_of fault name) now new)
+      → SaysOn run.visible (tee_called run.calling) (output_at now n).reason (message_of fault name) now new)
       → (tells run.on_broken (get_or known n other) standing ≡ false → new ≡ now)
       → Telling run fault before (n + 1) old new (set known n standing)
   tells_next other {new} {name} {standing} many within named sees says quiet =

@@ -2,17 +2,15 @@
 use Rattle.std.specs.Prelude.{ℕ, ◌+◌, nat_lt, true, false, List, [], ◌∷◌, length, map, if◌then◌else◌}
 use Rattle.ports_core.specs.{
   declared.slot.{Mode.Mode, State.{State, TheVariants.{Open, Closed}}},
-  Agreed.{Spot, spot},
-  Part.{Part, gets_bytes},
   Slot.{Slot, opened},
-  Work.{Work, always_well, no_needs},
 }
+use Rattle.engine_core.specs.{Agreed.{Spot, spot}, Written.{Written, gets_bytes}, Work.{Work, always_well, no_needs}}
 
 abbrev pub copy_in : Mode → State → List ℕ → List ℕ → Slot
 copy_in mode state x name = record (opened name mode) { written = x; state = state }
 
 -- standard output and each file have all of x
-abbrev pub copies : Mode → List (List ℕ) → State → List ℕ → Part
+abbrev pub copies : Mode → List (List ℕ) → State → List ℕ → Written
 copies mode names state x = record { out = x; files = map (copy_in mode state x) names }
 
 -- All that came in is written at once; at the end the files are closed. No memory is needed.

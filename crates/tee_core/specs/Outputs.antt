@@ -4,7 +4,7 @@ use Rattle.std.specs.{
   Prelude.if◌then◌else◌,
 }
 use Rattle.ports_core.specs.{
-  Slot.{Slot, slot_at, is_open, adds, breaks, closes, told_of},
+  Slot.{Slot, slot_at, is_open, adds, breaks, closes, visible_of},
   declared.reason.Reason.Reason,
 }
 use Rattle.tee_core.specs.TeeState.{TeeState}
@@ -26,11 +26,11 @@ abbrev pub IsReady : TeeState → List Slot → Type 0
 IsReady tee slots = (place : ℕ) → IsOutput tee place → IsUsable (slot_at slots place)
 
 -- Some bytes came: an output took all of them; or it took a beginning and broke; or it was broken before.
-pub data Gets (told : Bool) (bytes : List ℕ) (old : Slot) : Slot → Type 0 where
-  gets_all : old.is_broken ≡ false → Gets told bytes old (adds (told_of told bytes) old)
+pub data Gets (visible : Bool) (bytes : List ℕ) (old : Slot) : Slot → Type 0 where
+  gets_all : old.is_broken ≡ false → Gets visible bytes old (adds (visible_of visible bytes) old)
   breaks_off : old.is_broken ≡ false → (n : ℕ) (why : Reason) → n < length bytes
-      → Gets told bytes old (breaks why (adds (told_of told (take n bytes)) old))
-  gets_none : old.is_broken ≡ true → Gets told bytes old old
+      → Gets visible bytes old (breaks why (adds (visible_of visible (take n bytes)) old))
+  gets_none : old.is_broken ≡ true → Gets visible bytes old old
 
 -- The end came: a file was closed; or it broke as it was closed; or it was broken before.
 pub data Closes (old : Slot) : Slot → Type 0 where

@@ -5,7 +5,7 @@ use Rattle.std.specs.{
   List.{concat, list_any},
 }
 use Rattle.ports_core.specs.{
-  Slot.{Slot, adds, changed_at, closes, opened, slot_at, told_of},
+  Slot.{Slot, adds, changed_at, closes, opened, slot_at, visible_of},
   Inputs.{CameFrom, OfContent, largest_piece},
   Source.{Content, Source, source_of},
   Text.message_of,
@@ -29,9 +29,9 @@ use Rattle.ports_core.specs.declared.reason.Reason.TheVariants as reason
 abbrev pub tee_called : Calling → Speaker
 tee_called calling = record { calling = calling; tool = Tee }
 
--- What is asked of a run of `tee`. `told` says whether the bytes of its outputs are visible.
+-- What is asked of a run of `tee`. `visible` says whether the bytes of its outputs are visible.
 pub record TeeRun : Type 0 where
-  pub told : Bool
+  pub visible : Bool
   pub calling : Calling
   pub mode : Mode
   pub on_broken : OnBroken
@@ -134,7 +134,7 @@ said_of_input source (Some fault) =
 -- standard error got the lines of these reports, and no other slot changed
 pub record SaysTo (run : TeeRun) (reports : List Report) (old new : List Slot) : Type 0 where
   pub error : Slot
-  pub said : SaysEach run.told (tee_called run.calling) reports (slot_at old 1) error
+  pub said : SaysEach run.visible (tee_called run.calling) reports (slot_at old 1) error
   pub slots : new ≡ changed_at 1 (λ _. error) old
 
 -- whether the input failed, or an output broke whose reader isn't gone
@@ -177,11 +177,11 @@ pub data IsRead (content : Content) (Leaves : List ℕ → Type 0) : (is_vain : 
 
 -- if bytes are visible, this is left of the source
 abbrev pub LeavesOf : Bool → Source → List ℕ → Type 0
-LeavesOf told source rest = told ≡ true → source.left.bytes ≡ rest
+LeavesOf visible source rest = visible ≡ true → source.left.bytes ≡ rest
 
 -- no read was made of a source, and it didn't break; if bytes are visible, it has this input
 abbrev pub IsAsFound : Bool → Content → Source → Type 0
-IsAsFound told content source = (there : Content) × (source ≡ source_of there) × (told ≡ true → there ≡ content)
+IsAsFound visible content source = (there : Content) × (source ≡ source_of there) × (visible ≡ true → there ≡ content)
 
 -- the last read gave as many bytes as the last of these pieces has
 abbrev pub GaveLast : List (List ℕ) → Source → Type 0
@@ -189,9 +189,9 @@ GaveLast pieces source = (before : List (List ℕ)) (piece : List ℕ) → piece
     → source.last ≡ length piece
 
 -- An input came in these pieces. `is_vain` says that broken outputs ended the reading.
-pub record ComesIn (told : Bool) (content : Content) (source : Source) (is_vain : Bool) (pieces : List (List ℕ))
+pub record ComesIn (visible : Bool) (content : Content) (source : Source) (is_vain : Bool) (pieces : List (List ℕ))
     (fault : Option Fault) : Type 0 where
-  pub read : IsRead content (LeavesOf told source) is_vain (concat pieces) fault
+  pub read : IsRead content (LeavesOf visible source) is_vain (concat pieces) fault
   -- together the pieces have no more bytes than any tool takes
   pub few : length (concat pieces) < 2 ^ 63
   -- a read failed only if that is the fault
@@ -199,7 +199,7 @@ pub record ComesIn (told : Bool) (content : Content) (source : Source) (is_vain 
   -- without a fault, a read reported the end, unless broken outputs ended the reading
   pub ended : fault ≡ None → is_vain ≡ false → source.ended ≡ true
   -- if broken outputs ended the reading, the last read gave the last piece
-  pub last : told ≡ true → is_vain ≡ true → GaveLast pieces source
+  pub last : visible ≡ true → is_vain ≡ true → GaveLast pieces source
   -- one read for each piece, and one that reported the end, failed or gave too much, unless broken outputs ended that
   pub reads : source.reads ≡ length pieces + (if is_vain then 0 else 1)
 
@@ -231,7 +231,7 @@ OpensAll run = Step run (Open 0) (λ file now. OpensAs file.mode file.name now) 
 
 -- each output that wasn't broken got the piece, or it got a beginning of the piece and broke
 abbrev pub CopiesPiece : TeeRun → List ℕ → List Slot → List Slot → Type 0
-CopiesPiece run piece = Step run (Write 0) (Gets run.told piece) (IsOutputOf run.names)
+CopiesPiece run piece = Step run (Write 0) (Gets run.visible piece) (IsOutputOf run.names)
 
 -- each file that wasn't broken was closed, or broke as it was closed
 abbrev pub ClosesAll : TeeRun → List Slot → List Slot → Type 0
@@ -246,27 +246,28 @@ pub data Copied (run : TeeRun) : List (List ℕ) → List Slot → Type 0 where
       → CopiesPiece run piece old new → Copied run (pieces ++ piece ∷ []) new
 
 -- How a run ends.
-pub data EndsAs (run : TeeRun) (told_in : Bool) (content : Content) (source : Source) (new : List Slot) (status : ℕ)
+pub data EndsAs (run : TeeRun) (visible_in : Bool) (content : Content) (source : Source) (new : List Slot) (status : ℕ)
     : Type 0 where
   -- The input came in pieces, and each was copied: `fed` is what that left. Then the fault that ended the reading was
   -- reported, if one did (`mid`), with the reason of the source, and the files were closed.
   copied : (pieces : List (List ℕ)) (fault : Option Fault) (fed mid : List Slot)
-      → ComesIn told_in content source (is_done run.on_broken (standings_of fed)) pieces fault → Copied run pieces fed
+      → ComesIn visible_in content source (is_done run.on_broken (standings_of fed)) pieces fault
+      → Copied run pieces fed
       → SaysTo run (said_of_input source fault) fed mid → ClosesAll run mid new
-      → status ≡ status_for run.on_broken (standings_of new) fault → EndsAs run told_in content source new status
+      → status ≡ status_for run.on_broken (standings_of new) fault → EndsAs run visible_in content source new status
   -- There was no memory for the run, and nothing was opened or read.
   no_room : (error : Slot)
-      → SaysAll run.told (tee_called run.calling) (message_of Memory [] ∷ []) standard_error error
-      → IsAsFound told_in content source → new ≡ streams_with error → status ≡ 1
-      → EndsAs run told_in content source new status
+      → SaysAll run.visible (tee_called run.calling) (message_of Memory [] ∷ []) standard_error error
+      → IsAsFound visible_in content source → new ≡ streams_with error → status ≡ 1
+      → EndsAs run visible_in content source new status
 
 -- A run ended over an input that had this source before it and has this source after it, as far as that is visible.
-abbrev pub EndsOver : TeeRun → (told_in : Bool) → (before after : Source) → List Slot → (status : ℕ) → Type 0
-EndsOver run told_in before after new status = OfContent told_in before.left
-    (λ content. EndsAs run told_in content after new status × CameFrom told_in content after)
+abbrev pub EndsOver : TeeRun → (visible_in : Bool) → (before after : Source) → List Slot → (status : ℕ) → Type 0
+EndsOver run visible_in before after new status = OfContent visible_in before.left
+    (λ content. EndsAs run visible_in content after new status × CameFrom visible_in content after)
 
 -- the outputs if nothing breaks: standard output and each file have these bytes, files are closed, nothing is reported
 abbrev pub all_copied : Bool → Mode → List (List ℕ) → List ℕ → List Slot
-all_copied told mode names bytes =
-    adds (told_of told bytes) standard_output ∷ standard_error ∷ map
-    (λ name. closes (adds (told_of told bytes) (opened name mode))) names
+all_copied visible mode names bytes =
+    adds (visible_of visible bytes) standard_output ∷ standard_error ∷ map
+    (λ name. closes (adds (visible_of visible bytes) (opened name mode))) names

@@ -64,15 +64,15 @@ pub fn run_tee<I: Inputs, O: Outs>(
     requires fresh { IsFresh (I.sources inputs.old) }
     requires outputs { O.slots outs.old ≡ streams }
     ensures ends { EndsOver (record {
-      told = O.told;
+      visible = O.visible;
       calling = calling;
       mode = mode;
       on_broken = on_broken;
       names = map (λ name. name.now) names.now;
-    }) I.told (source_at (I.sources inputs.old) 0) (source_at (I.sources inputs.new) 0) (O.slots outs.new) result }
-    ensures whole { I.told ≡ true → result ≡ 0 → (forgives on_broken ≡ true → AreSound (O.slots outs.new))
+    }) I.visible (source_at (I.sources inputs.old) 0) (source_at (I.sources inputs.new) 0) (O.slots outs.new) result }
+    ensures whole { I.visible ≡ true → result ≡ 0 → (forgives on_broken ≡ true → AreSound (O.slots outs.new))
         → O.slots outs.new
-        ≡ all_copied O.told mode (map (λ name. name.now) names.now) (source_at (I.sources inputs.old) 0).left.bytes }
+        ≡ all_copied O.visible mode (map (λ name. name.now) names.now) (source_at (I.sources inputs.old) 0).left.bytes }
     ensures others { KeepsOthers 0 (I.sources inputs.old) (I.sources inputs.new) }
     ensures asked { AsksAtMost largest_piece (I.sources inputs.new) }
 {
@@ -107,7 +107,7 @@ fn tee_called(calling: Calling) -> Speaker
 fn copy_input<I: Inputs, O: Outs>(job: &Job<'_>, inputs: &mut I, outs: &mut O) -> Result<u8, Fault>
     requires fresh { IsFresh (I.sources inputs.old) }
     requires outputs { O.slots outs.old ≡ streams }
-    ensures copied { IfOk result (EndsOver (run_for O.told job.now) I.told (source_at (I.sources inputs.old) 0)
+    ensures copied { IfOk result (EndsOver (run_for O.visible job.now) I.visible (source_at (I.sources inputs.old) 0)
         (source_at (I.sources inputs.new) 0) (O.slots outs.new)) }
     ensures err { IfErr result
         (λ fault. (fault ≡ Fault.Memory) × (O.slots outs.new ≡ O.slots outs.old)
@@ -138,7 +138,7 @@ fn copy_all<I: Inputs, O: Outs>(
     requires tee { IsTeeOf (map (λ name. name.now) job.now.names.now) tee }
     requires opened { Opens job.now.mode (map (λ name. name.now) job.now.names.now) streams (O.slots outs.old) }
     requires unknown { known.old ≡ replicate (length job.now.names.now + 1) Sound }
-    ensures copied { EndsOver (run_for O.told job.now) I.told (source_at (I.sources inputs.old) 0)
+    ensures copied { EndsOver (run_for O.visible job.now) I.visible (source_at (I.sources inputs.old) 0)
         (source_at (I.sources inputs.new) 0) (O.slots outs.new) result }
     ensures others { KeepsOthers 0 (I.sources inputs.old) (I.sources inputs.new) }
     ensures asked { AsksAtMost largest_piece (I.sources inputs.new) }
@@ -167,10 +167,10 @@ fn copy_pieces<I: Inputs, O: Outs>(
     requires input { IsTrue (is_readable (I.sources inputs.old) 0) }
     requires unread { (source_at (I.sources inputs.old) 0).reads ≡ 0 }
     requires tee { IsTeeOf (map (λ name. name.now) job.now.names.now) tee.old }
-    requires started { Copied (run_for O.told job.now) [] (O.slots outs.old) }
+    requires started { Copied (run_for O.visible job.now) [] (O.slots outs.old) }
     requires known { known.old ≡ standings_of (O.slots outs.old) }
     ensures same { tee.new ≡ tee.old }
-    ensures copies { CopiesOver (run_for O.told job.now) I.told (source_at (I.sources inputs.old) 0)
+    ensures copies { CopiesOver (run_for O.visible job.now) I.visible (source_at (I.sources inputs.old) 0)
         (source_at (I.sources inputs.new) 0) (O.slots outs.new) result }
     ensures known { known.new ≡ standings_of (O.slots outs.new) }
     ensures others { KeepsOthers 0 (I.sources inputs.old) (I.sources inputs.new) }
@@ -208,7 +208,7 @@ fn copy_piece<O: Outs>(
     requires streams { HasStreams (O.slots outs.old) (length (map (λ name. name.now) job.now.names.now)) }
     requires known { known.old ≡ standings_of (O.slots outs.old) }
     ensures same { tee.new ≡ tee.old }
-    ensures copies { CopiesPiece (run_for O.told job.now) piece.now (O.slots outs.old) (O.slots outs.new) }
+    ensures copies { CopiesPiece (run_for O.visible job.now) piece.now (O.slots outs.old) (O.slots outs.new) }
     ensures known { known.new ≡ standings_of (O.slots outs.new) }
 {
     tee.feed(piece, outs);
@@ -221,7 +221,7 @@ fn close_all<O: Outs>(job: &Job<'_>, tee: &mut Tee, known: &mut [Standing], outs
     requires ready { IsReady tee.old (O.slots outs.old) }
     requires streams { HasStreams (O.slots outs.old) (length (map (λ name. name.now) job.now.names.now)) }
     requires known { known.old ≡ standings_of (O.slots outs.old) }
-    ensures closes { ClosesAll (run_for O.told job.now) (O.slots outs.old) (O.slots outs.new) }
+    ensures closes { ClosesAll (run_for O.visible job.now) (O.slots outs.old) (O.slots outs.new) }
     ensures known { known.new ≡ standings_of (O.slots outs.new) }
 {
     tee.close(outs);
@@ -231,7 +231,7 @@ fn close_all<O: Outs>(job: &Job<'_>, tee: &mut Tee, known: &mut [Standing], outs
 /// Reports what ended the reading before the input's end, if anything did.
 fn tell_input<I: Inputs, O: Outs>(job: &Job<'_>, fault: &Option<Fault>, inputs: &I, outs: &mut O)
     requires { (count : ℕ) × HasStreams (O.slots outs.old) count }
-    ensures { SaysTo (run_for O.told job.now) (said_of_input (source_at (I.sources inputs.now) 0) fault.now)
+    ensures { SaysTo (run_for O.visible job.now) (said_of_input (source_at (I.sources inputs.now) 0) fault.now)
         (O.slots outs.old) (O.slots outs.new) }
 {
     if let Some(fault) = fault {
@@ -251,8 +251,8 @@ fn tell_input<I: Inputs, O: Outs>(job: &Job<'_>, fault: &Option<Fault>, inputs: 
 fn tell_broken<O: Outs>(job: &Job<'_>, fault: &Fault, known: &mut [Standing], outs: &mut O)
     requires streams { HasStreams (O.slots outs.old) (length job.now.names.now) }
     requires known { length known.old ≡ length job.now.names.now + 1 }
-    ensures said { SaysTo (run_for O.told job.now)
-        (said_since (run_for O.told job.now) fault.now known.old (O.slots outs.old) (length known.old))
+    ensures said { SaysTo (run_for O.visible job.now)
+        (said_since (run_for O.visible job.now) fault.now known.old (O.slots outs.old) (length known.old))
         (O.slots outs.old) (O.slots outs.new) }
     ensures seen { known.new ≡ standings_of (O.slots outs.old) }
 {
@@ -274,7 +274,7 @@ fn tell_one<O: Outs>(
     requires { is_open (slot_at (O.slots outs.old) 1).state ≡ true }
     ensures stands { result ≡ stands_as (slot_at (O.slots outs.old) slot) }
     ensures told { tells job.now.on_broken known result ≡ true
-        → SaysOn O.told (tee_called job.now.calling) (slot_at (O.slots outs.old) slot).reason
+        → SaysOn O.visible (tee_called job.now.calling) (slot_at (O.slots outs.old) slot).reason
         (message_of fault.now name.now) (O.slots outs.old) (O.slots outs.new) }
     ensures quiet { tells job.now.on_broken known result ≡ false → O.slots outs.new ≡ O.slots outs.old }
 {

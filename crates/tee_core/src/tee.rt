@@ -2,7 +2,7 @@
 ghost use Rattle.std.specs.{
   Prelude.{◌≡◌, ◌++◌, ◌+◌, ◌≤◌, ◌<◌, ◌^◌, ◌-◌, ℕ, List, true, false, length, map, IfOk, IfErr, OnOk},
 };
-ghost use Rattle.ports_core.specs.Slot.{Slot, adds, is_open, slot_at, told_of};
+ghost use Rattle.ports_core.specs.Slot.{Slot, adds, is_open, slot_at, visible_of};
 ghost use Rattle.tee_core.specs.{
   Opening.{Opens, OpensSome},
   inner.{Opening.OpensOne, ChangesSome.ChangesSome},
@@ -89,13 +89,14 @@ impl Tee {
         requires { self.old.is_over ≡ false → IsReady self.old (O.slots outs.old) }
         ensures same { self.new ≡ self.old }
         ensures gets { self.old.is_over ≡ false
-            → ChangesEach (Gets O.told piece.now) (IsOutput self.old) (O.slots outs.old) (O.slots outs.new) }
+            → ChangesEach (Gets O.visible piece.now) (IsOutput self.old) (O.slots outs.old) (O.slots outs.new) }
         ensures sound { self.old.is_over ≡ false → (place : ℕ) → IsOutput self.old place
             → (slot_at (O.slots outs.new) place).is_broken ≡ false
-            → slot_at (O.slots outs.new) place ≡ adds (told_of O.told piece.now) (slot_at (O.slots outs.old) place) }
+            → slot_at (O.slots outs.new) place
+            ≡ adds (visible_of O.visible piece.now) (slot_at (O.slots outs.old) place) }
         ensures so_far { self.old.is_over ≡ false → (start : List Slot) (x : List ℕ)
-            → ChangesEach (Gets O.told x) (IsOutput self.old) start (O.slots outs.old)
-            → ChangesEach (Gets O.told (x ++ piece.now)) (IsOutput self.old) start (O.slots outs.new) }
+            → ChangesEach (Gets O.visible x) (IsOutput self.old) start (O.slots outs.old)
+            → ChangesEach (Gets O.visible (x ++ piece.now)) (IsOutput self.old) start (O.slots outs.new) }
         ensures broke { result ≡ newly_broken (O.slots outs.old) (O.slots outs.new) }
         ensures ready { self.old.is_over ≡ false → IsReady self.old (O.slots outs.new) }
         ensures over { self.old.is_over ≡ true → (result ≡ 0) × (O.slots outs.new ≡ O.slots outs.old) }
@@ -126,7 +127,7 @@ impl Tee {
     /// Writes the piece to each file in order, and returns how many broke.
     fn write_files<O: Outs>(&self, piece: &[u8], outs: &mut O) -> u64
         requires { (place : ℕ) → IsFile self.now place → IsUsable (slot_at (O.slots outs.old) place) }
-        ensures turned { ChangesSome (Gets O.told piece.now) (IsFile self.now) (O.slots outs.old)
+        ensures turned { ChangesSome (Gets O.visible piece.now) (IsFile self.now) (O.slots outs.old)
             (O.slots outs.new) result }
         ensures few { result ≤ self.now.count }
     {
@@ -195,7 +196,7 @@ fn open_file<O: Outs>(name: &str, mode: Mode, outs: &mut O) -> Result<usize, Fau
 /// Writes the piece to an output, unless that is broken. Returns 1 if it broke, and else 0.
 fn write_piece<O: Outs>(slot: usize, piece: &[u8], outs: &mut O) -> u64
     requires { IsUsable (slot_at (O.slots outs.old) slot) }
-    ensures turned { ChangesSome (Gets O.told piece.now) (λ place. place ≡ slot) (O.slots outs.old)
+    ensures turned { ChangesSome (Gets O.visible piece.now) (λ place. place ≡ slot) (O.slots outs.old)
         (O.slots outs.new) result }
     ensures few { result ≤ 1 }
 {

@@ -10,22 +10,24 @@ use Rattle.ports_core.specs.{
     calling.Calling.TheVariants.Cutters,
     fault.Fault.{Fault, TheVariants.{Memory, Write, Open, Verdict}},
     verdict.Verdict.TheVariants.Suffixes,
-    file_writer.Tells.Tells,
   },
-  Part.{OutputsAt, StoppedBetween, nothing, only_out},
-  Work.{Work, Needs},
-  Guard.{GuardState, HoldsIn},
-  Engine.{Terms, is_verdict},
   Name.Naming,
   Source.{Source, count_shown, source_at},
+}
+use Rattle.engine_core.specs.{
+  declared.file_writer.Tells.Tells,
+  Written.{OutputsAt, StoppedBetween, nothing, only_out},
+  Work.{Work, Needs},
+  EngineState.{EngineState, HoldsIn},
+  Engine.{Terms, is_verdict},
   Swept.Swept,
   FileWriter.Breaks,
 }
-use Rattle.ports_core.proofs.{
-  PartLemmas.{nothing_out, nothing_begins_part, stopped_here},
+use Rattle.engine_core.proofs.{
+  WrittenLemmas.{nothing_out, nothing_begins_part, stopped_here},
   SlotSteps.{none_past, swept_none},
-  LoadLemmas.looked_none,
 }
+use Rattle.ports_core.proofs.InputsLemmas.{looked_none}
 use Rattle.csplit_core.specs.{Output.manner_of, Csplit.csplit_work}
 use Rattle.seg_core.specs.declared.{
   cut.{Way.Way, Chunks.Chunks},
@@ -38,13 +40,14 @@ use Rattle.ends_core.{
     Head.head_work,
     Tail.tail_work,
     Shown.{between_work, head_in, tail_in},
-    declared.ends.Ends.Ends,
+    declared.ends.Portion.Portion,
   },
   proofs.{EndsLemmas.none_before, KeptLemmas.first_of-nil},
 }
 use Rattle.run_core.specs.{Feeding.{Stops, call_of}, RunSteps.{IsShown, OnlyLooked, Opens, OpensShort}}
 use Rattle.words_core.specs.{EndsWords.EndsAsked, SplitWords.SplitAsked}
-use Rattle.tools_core.specs.Tasks.{is_minus, is_plus, head_task, naming_of, split_task, tail_task}
+use Rattle.words_core.specs.EndsWords.{is_minus, is_plus}
+use Rattle.tools_core.specs.Tasks.{head_task, naming_of, split_task, tail_task}
 use Rattle.operand_core.specs.{Style.Style, declared.operand.Operand.Operand}
 use Rattle.seg_core.specs.declared.cut.Way.TheVariants as way
 use Rattle.ends_core.specs.Stage as ends
@@ -68,27 +71,27 @@ tail_begins delim false unit n = refl
 pub some_there : (slots : List Slot) → 2 ≤ length slots → 0 < length slots
 some_there slots two = omega (arith, two)
 
-pub head_begins : (delim : ℕ) {told : Bool} (unit : Counted) (but_last : Bool) (n : ℕ) {slots : List Slot}
-    → 2 ≤ length slots → OutputsAt told slots ((head_work delim unit but_last n).settled []) slots
-head_begins delim {told} unit but_last n {slots} two = rw (head_of-nil delim unit but_last n) (nothing_out told slots (some_there slots two))
+pub head_begins : (delim : ℕ) {visible : Bool} (unit : Counted) (but_last : Bool) (n : ℕ) {slots : List Slot}
+    → 2 ≤ length slots → OutputsAt visible slots ((head_work delim unit but_last n).settled []) slots
+head_begins delim {visible} unit but_last n {slots} two = rw (head_of-nil delim unit but_last n) (nothing_out visible slots (some_there slots two))
 
-pub tail_starts : (delim : ℕ) {told : Bool} (unit : Counted) (from_nth : Bool) (n : ℕ) {slots : List Slot}
-    → 2 ≤ length slots → OutputsAt told slots ((tail_work delim unit from_nth n).settled []) slots
-tail_starts delim {told} unit from_nth n {slots} two = rw (tail_begins delim from_nth unit n) (nothing_out told slots (some_there slots two))
+pub tail_starts : (delim : ℕ) {visible : Bool} (unit : Counted) (from_nth : Bool) (n : ℕ) {slots : List Slot}
+    → 2 ≤ length slots → OutputsAt visible slots ((tail_work delim unit from_nth n).settled []) slots
+tail_starts delim {visible} unit from_nth n {slots} two = rw (tail_begins delim from_nth unit n) (nothing_out visible slots (some_there slots two))
 
-pub between_starts : (from end : ℕ) {told : Bool} {slots : List Slot} → 2 ≤ length slots
-    → OutputsAt told slots ((between_work from end).settled []) slots
-between_starts from end {told} {slots} two =
-    rw (none_before from end [] (omega arith)) (nothing_out told slots (some_there slots two))
+pub between_starts : (from end : ℕ) {visible : Bool} {slots : List Slot} → 2 ≤ length slots
+    → OutputsAt visible slots ((between_work from end).settled []) slots
+between_starts from end {visible} {slots} two =
+    rw (none_before from end [] (omega arith)) (nothing_out visible slots (some_there slots two))
 
 -- without memory for an engine its opening stops, and the outputs stay as they were
-pub no_memory : {told : Bool} {work : Work} {opening : Needs} {slots : List Slot} {fault : Fault}
-    → opening.memory ≡ true → 2 ≤ length slots → fault ≡ Memory → OpensShort work opening told slots slots fault
-no_memory {told} {work} {slots} may two is = rw is (record {
+pub no_memory : {visible : Bool} {work : Work} {opening : Needs} {slots : List Slot} {fault : Fault}
+    → opening.memory ≡ true → 2 ≤ length slots → fault ≡ Memory → OpensShort work opening visible slots slots fault
+no_memory {visible} {work} {slots} may two is = rw is (record {
   unjudged = refl;
   reached = slots;
   why = may;
-  stop = stopped_here _ told slots nothing _ Memory slots slots (nothing_out told slots (some_there slots two)) (nothing_begins_part _) refl tt tt;
+  stop = stopped_here _ visible slots nothing _ Memory slots slots (nothing_out visible slots (some_there slots two)) (nothing_begins_part _) refl tt tt;
   swept = swept_none work.clears (length slots) slots (none_past slots);
 })
 
@@ -99,26 +102,27 @@ verbose_is false = refl
 
 -- An engine that was opened left the outputs as its work says before the first byte.
 
-pub opened_of : {S : Type 0} (terms : Terms S) {begun asked : Work} (told : Bool) (old new : List Slot)
-    (result : Result (GuardState S) Fault) → begun ≡ asked → IfOk result (λ e. HoldsIn terms.Holds e [])
+pub opened_of : {S : Type 0} (terms : Terms S) {begun asked : Work} (visible : Bool) (old new : List Slot)
+    (result : Result (EngineState S) Fault) → begun ≡ asked → IfOk result (λ e. HoldsIn terms.Holds e [])
     → IfOk result (λ e. terms.work e.stage ≡ begun) → IfOk result (λ e. e.fed < 2 ^ 63)
     → IfOk result (λ e. terms.Ready e.stage new)
-    → IfOk result (λ e. terms.Owns e.stage (length old) new) → OnOk result (OutputsAt told old (begun.settled []) new)
-    → IfOk result (Opens terms asked told old new)
-opened_of terms told old new (Ok e) is fresh does bound ready owns at = grind (arith, common_steps)
-opened_of terms told old new (Err fault) is fresh does bound ready owns at = tt
+    → IfOk result (λ e. terms.Owns e.stage (length old) new)
+    → OnOk result (OutputsAt visible old (begun.settled []) new)
+    → IfOk result (Opens terms asked visible old new)
+opened_of terms visible old new (Ok e) is fresh does bound ready owns at = grind (arith, common_steps)
+opened_of terms visible old new (Err fault) is fresh does bound ready owns at = tt
 
 -- an engine that couldn't be opened
-pub opened_short : {E : Type 0} (told : Bool) {begun asked : Work} {opening : Needs} (old new : List Slot)
+pub opened_short : {E : Type 0} (visible : Bool) {begun asked : Work} {opening : Needs} (old new : List Slot)
     (result : Result E Fault) (Why Left : Fault → Type 0)
     → begun ≡ asked → 2 ≤ length old → ((fault : Fault) → Why fault → Left fault
     → (is_verdict fault ≡ false) × Stops (call_of begun opening [] nothing (begun.settled [])) new fault
     × Swept begun.clears (length old) new new)
-    → IfErr result (λ fault. (before : List Slot) → OutputsAt told before nothing old
-    → StoppedBetween begun.means.output told before nothing (begun.settled []) fault new)
-    → IfErr result Why → IfErr result Left → IfErr result (OpensShort asked opening told old new)
-opened_short told old new (Ok e) Why Left is two stops cut why left = tt
-opened_short told old new (Err fault) Why Left is two stops cut why left = grind (arith, common_steps, nothing_out, some_there)
+    → IfErr result (λ fault. (before : List Slot) → OutputsAt visible before nothing old
+    → StoppedBetween begun.means.output visible before nothing (begun.settled []) fault new)
+    → IfErr result Why → IfErr result Left → IfErr result (OpensShort asked opening visible old new)
+opened_short visible old new (Ok e) Why Left is two stops cut why left = tt
+opened_short visible old new (Err fault) Why Left is two stops cut why left = grind (arith, common_steps, nothing_out, some_there)
 
 pub csplit_halts : (style : Style) (operands : List Operand) (old new : List Slot) (fault : Fault)
     → Breaks (manner_of style) old new fault
@@ -139,7 +143,7 @@ pub split_asked : (those asked : SplitAsked) (shown : Option (List ℕ)) {naming
     → ((elide : Bool) (filing : Filing)
     → way_work those.way elide filing said ≡ way_work those.way elide filing (option_map length shown))
     → work_by those.way those.elide naming tells said ≡ (split_task Cutters asked).work shown
-split_asked those asked shown {naming} {tells} said is named told says = grind (arith, common_steps, verbose_is)
+split_asked those asked shown {naming} {tells} said is named visible says = grind (arith, common_steps, verbose_is)
 
 -- why the work of `split` can't be begun
 pub split_halts : (way : Way) (elide : Bool) (names : Naming) (tells : Tells) (said : Option ℕ) (old new : List Slot)
@@ -150,7 +154,7 @@ pub split_halts : (way : Way) (elide : Bool) (names : Naming) (tells : Tells) (s
     ((work_by way elide names tells said).settled [])) new fault
     × Swept (work_by way elide names tells said).clears (length old) new new
 split_halts (way.Cut cut) elide names tells said old new fault (inl is) = rw is (refl, refl, refl)
-split_halts (way.Cut cut) elide names tells said old new fault (inr (inl (told, is, rose))) =
+split_halts (way.Cut cut) elide names tells said old new fault (inr (inl (visible, is, rose))) =
     grind (arith, common_steps)
 split_halts (way.Cut cut) elide names tells said old new fault (inr (inr (slot, is, rose))) = rw is (refl, (refl, refl), refl)
 split_halts way elide names tells said old new fault is = rw is (refl, refl, refl)
@@ -164,19 +168,19 @@ pub whatever : {E : Type 0} (P : E → Type 0) (result : Result E Fault) → ((e
 whatever P (Ok e) all = all e
 whatever P (Err fault) all = tt
 
-pub no_memory_for : {E : Type 0} (told : Bool) (work : Work) (opening : Needs) (slots : List Slot)
+pub no_memory_for : {E : Type 0} (visible : Bool) (work : Work) (opening : Needs) (slots : List Slot)
     (result : Result E Fault) (P : Type 0) → (P → opening.memory ≡ true) → 2 ≤ length slots
-    → IfErr result (λ fault. (fault ≡ Memory) × P) → IfErr result (OpensShort work opening told slots slots)
-no_memory_for told work opening slots (Ok e) P may two err = tt
-no_memory_for told work opening slots (Err fault) P may two err = no_memory (may err.1) two err.0
+    → IfErr result (λ fault. (fault ≡ Memory) × P) → IfErr result (OpensShort work opening visible slots slots)
+no_memory_for visible work opening slots (Ok e) P may two err = tt
+no_memory_for visible work opening slots (Err fault) P may two err = no_memory (may err.1) two err.0
 
 -- an engine of `head` or `tail` that was opened left the outputs as they were, whatever the input shows
-pub opened_still : (told : Bool) {begun asked : Work} (old : List Slot) (result : Result (GuardState Ends) Fault)
+pub opened_still : (visible : Bool) {begun asked : Work} (old : List Slot) (result : Result (EngineState Portion) Fault)
     → begun ≡ asked → IfOk result (λ e. HoldsIn ends.Holds e [])
     → IfOk result (λ e. ends.work e.stage ≡ begun) → IfOk result (λ e. e.fed < 2 ^ 63) → IsTrue (is_writable old 0)
-    → OutputsAt told old (begun.settled []) old → IfOk result (Opens ends.terms asked told old old)
-opened_still told old (Ok e) is fresh does bound ready at = grind (arith, common_steps, opened_of)
-opened_still told old (Err fault) is fresh does bound ready at = tt
+    → OutputsAt visible old (begun.settled []) old → IfOk result (Opens ends.terms asked visible old old)
+opened_still visible old (Ok e) is fresh does bound ready at = grind (arith, common_steps, opened_of)
+opened_still visible old (Err fault) is fresh does bound ready at = tt
 
 -- The work that is asked for, by what an input shows.
 
@@ -201,9 +205,9 @@ length_matters (way.Chunk place chunks) to_files to_output one other elide filin
 length_matters asked to_files to_output one other elide filing = refl
 
 -- the length that an input showed is the length of some text; if bytes aren't visible, any text of this length will do
-pub said_shown : (told : Bool) (slot : ℕ) (sources : List Source) {size : Option ℕ}
-    → (told ≡ true → size ≡ count_shown (source_at sources slot).left)
-    → (shown : Option (List ℕ)) × IsShown told (Some slot) sources shown × (size ≡ option_map length shown)
+pub said_shown : (visible : Bool) (slot : ℕ) (sources : List Source) {size : Option ℕ}
+    → (visible ≡ true → size ≡ count_shown (source_at sources slot).left)
+    → (shown : Option (List ℕ)) × IsShown visible (Some slot) sources shown × (size ≡ option_map length shown)
 said_shown true slot sources counts = grind (arith, common_steps)
 said_shown false slot sources {size = None} counts = (None, λ t. absurd (cc), refl)
 said_shown false slot sources {size = Some n} counts =

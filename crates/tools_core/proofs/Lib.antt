@@ -1,12 +1,2 @@
 pub mod AdapterLemmas
 pub mod RunLemmas
-pub mod SameLemmas
-pub mod LeftLemmas
-pub mod BeginLemmas
-pub mod StoppedPromises
-pub mod PromiseLemmas
-pub mod TeePromises
-pub mod SplitPromises
-pub mod CsplitPromises
-pub mod FollowPromises
-pub mod BesidePromises

@@ -12,7 +12,7 @@ use Rattle.ports_core.specs.{
   Write.BrokeAfter,
   declared.tool.Tool.Tool,
   declared.calling.Calling.{Calling, TheVariants.{Cutters, OwnName}},
-  Slot.{Slot, adds, breaks, changed_at, slot_at, streams, told_of},
+  Slot.{Slot, adds, breaks, changed_at, slot_at, streams, visible_of},
   Source.{Content, Source, source_at, source_of},
   Text.{Message, message_of, refusal_of, status_after},
   Message.{Says, SaysAll, SaysFor, SaysOn, TellsOn, output_named, output_reason},
@@ -136,16 +136,16 @@ pub ends_names : {asked : EndsAsked} {unit : Counted} {count : Count} {headers :
 ends_names same is = cc (same, is)
 
 -- a run of this task over these inputs
-pub as_task : {told : Bool} {world : World} {names : List (List ℕ)} {IsAsked : Task → Type 0}
-    {Ends : Task → List Input → Type 0} (task : Task) → IsAsked task → RunsOver told world names (Ends task)
-    → RunsOver told world names (λ found. (task : Task) × IsAsked task × Ends task found)
+pub as_task : {visible : Bool} {world : World} {names : List (List ℕ)} {IsAsked : Task → Type 0}
+    {Ends : Task → List Input → Type 0} (task : Task) → IsAsked task → RunsOver visible world names (Ends task)
+    → RunsOver visible world names (λ found. (task : Task) × IsAsked task × Ends task found)
 as_task task is (found, finds, ends) = (found, finds, (task, is, ends))
 
 -- `tee` over standard input.
 
 -- the name that `tee` reads leads to standard input
-pub finds_standard : {told : Bool} {world : World} {content : Content} → (told ≡ true → content ≡ world.standard)
-    → Finds told world (codes "-" ∷ []) (standard_input content ∷ [])
+pub finds_standard : {visible : Bool} {world : World} {content : Content} → (visible ≡ true → content ≡ world.standard)
+    → Finds visible world (codes "-" ∷ []) (standard_input content ∷ [])
 finds_standard {world = world} {content} there = record {
   are = ((record { laid = world.laid; standard = content }, _, refl), refl);
   there = λ t. rw (there t);
@@ -154,9 +154,9 @@ finds_standard {world = world} {content} there = record {
 -- Words that weren't read, since there was no memory, by what they ask for.
 
 -- an input that wasn't read, whether its bytes are visible or not
-unread_source : (told : Bool) (world : World) {sources : List Source} → sources ≡ source_of world.standard ∷ []
-    → OfContent told world.standard (λ content. IsAsFound told content (source_at sources 0)
-    × CameFrom told content (source_at sources 0))
+unread_source : (visible : Bool) (world : World) {sources : List Source} → sources ≡ source_of world.standard ∷ []
+    → OfContent visible world.standard (λ content. IsAsFound visible content (source_at sources 0)
+    × CameFrom visible content (source_at sources 0))
 unread_source true world fresh = rw fresh (
   world.standard,
   λ t. refl,
@@ -174,9 +174,9 @@ lacks_memory asked = (record { kind = kind.Memory; index = 0 }, no_memory 0, ref
 
 -- Words that are refused, or weren't read since there was no memory.
 
-refused_memory : {calling : Calling} {told : Bool} (words : List (List ℕ)) (fault : Fault) {new : List Slot}
+refused_memory : {calling : Calling} {visible : Bool} (words : List (List ℕ)) (fault : Fault) {new : List Slot}
     {status : ℕ}
-    → RefusesFor calling told words Memory new status → RefusesFor calling told words fault new status
+    → RefusesFor calling visible words Memory new status → RefusesFor calling visible words fault new status
 refused_memory words fault refuses = record {
   error = refuses.error;
   says = let (why, says) = refuses.says in
@@ -186,18 +186,18 @@ refused_memory words fault refuses = record {
 }
 
 -- the message that refuses words was written, and nothing else was done
-pub refused_by_line : {calling : Calling} {told : Bool} {words : List (List ℕ)} (fault : Fault) {old new : List Slot}
-    → old ≡ streams → SaysOn told (refuser calling words) Other (refusal calling words fault) old new
-    → RefusesFor calling told words fault new 1
+pub refused_by_line : {calling : Calling} {visible : Bool} {words : List (List ℕ)} (fault : Fault) {old new : List Slot}
+    → old ≡ streams → SaysOn visible (refuser calling words) Other (refusal calling words fault) old new
+    → RefusesFor calling visible words fault new 1
 refused_by_line fault fresh says =
     let (after, said, are) = says standard_output standard_error [] fresh in
     record { error = after; says = (Other, said); slots = are; failed = refl }
 
-pub refused_usage : {calling : Calling} {told : Bool} {words : List (List ℕ)} (kind : UsageKind) (place : ℕ)
+pub refused_usage : {calling : Calling} {visible : Bool} {words : List (List ℕ)} (kind : UsageKind) (place : ℕ)
     {speaker : Speaker} {old new : List Slot} → speaker ≡ refuser calling words → old ≡ streams
-    → SaysOn told speaker Other
+    → SaysOn visible speaker Other
     (refusal_of speaker kind (word_at words place) (detail_of speaker.calling words kind place)) old new
-    → RefusesFor calling told words (Usage kind place) new 1
+    → RefusesFor calling visible words (Usage kind place) new 1
 refused_usage kind place is fresh says = refused_by_line (Usage kind place) fresh (rw is at says)
 
 -- a fault that isn't about words is refused with its own message
@@ -208,29 +208,30 @@ plain_refusal calling words (Usage kind place) none = absurd (none kind place re
 plain_refusal calling words fault none = refl
 
 -- the tool that writes a message is the tool that the words ask for
-pub worded_by : {told : Bool} {message : Message} (calling : Calling) {which tool : Tool} {old new : Slot}
-    → which ≡ tool → Says told (by calling which) message old new → Says told (by calling tool) message old new
+pub worded_by : {visible : Bool} {message : Message} (calling : Calling) {which tool : Tool} {old new : Slot}
+    → which ≡ tool → Says visible (by calling which) message old new → Says visible (by calling tool) message old new
 worded_by calling is says = rw is at says
 
-says_as : {told : Bool} (calling : Calling) (words : List (List ℕ)) {settings : Settings} {new : List Slot} {status : ℕ}
-    → settings_of calling words ≡ Ok settings → (refuses : RefusesFor calling told words Memory new status)
-    → SaysAll told (speaker_of calling settings) (message_of Memory [] ∷ []) standard_error refuses.error
+says_as : {visible : Bool} (calling : Calling) (words : List (List ℕ)) {settings : Settings} {new : List Slot}
+    {status : ℕ}
+    → settings_of calling words ≡ Ok settings → (refuses : RefusesFor calling visible words Memory new status)
+    → SaysAll visible (speaker_of calling settings) (message_of Memory [] ∷ []) standard_error refuses.error
 says_as calling words is refuses =
     (refuses.error, worded_by calling (by_words calling words is).0 refuses.says, refl)
 
-module _ (told : Visible) (run : Run) (fresh : IsUnread run) where
+module _ (visible : Visible) (run : Run) (fresh : IsUnread run) where
   -- the words ask for something whose operands can't be read
-  operands_refused : (settings : Settings) (fault : Fault) → HasBadOperands settings fault → Refuses told run fault
-      → RunEndsAt told run (Ok settings)
+  operands_refused : (settings : Settings) (fault : Fault) → HasBadOperands settings fault → Refuses visible run fault
+      → RunEndsAt visible run (Ok settings)
   operands_refused settings fault bad refuses = let (found, finds, untouched) = none_touched fresh in
       (found, finds, inr (fresh, (fault, bad, refuses)))
 
-  unread_for : (meant : Result Settings Fault) → settings_of run.calling run.words ≡ meant → Refuses told run Memory
-      → RunEndsAt told run meant
+  unread_for : (meant : Result Settings Fault) → settings_of run.calling run.words ≡ meant → Refuses visible run Memory
+      → RunEndsAt visible run meant
   unread_for (Err fault) is refuses = (fresh, refused_memory run.words fault refuses)
   unread_for (Ok (Csplit asked)) is refuses = operands_refused (Csplit asked) Memory (lacks_memory asked) refuses
   unread_for (Ok (Tee asked)) is refuses =
-      let (content, there, (unread, came)) = unread_source told.inputs run.world fresh in (
+      let (content, there, (unread, came)) = unread_source visible.inputs run.world fresh in (
         standard_input content ∷ [],
         finds_standard there,
         inl (record {
@@ -240,7 +241,7 @@ module _ (told : Visible) (run : Run) (fresh : IsUnread run) where
               (says_as run.calling run.words is refuses) unread refuses.slots refuses.failed;
           came = came;
           whole =
-              λ t well told_of. absurd (omega (arith, well, refuses.failed));
+              λ t well visible_of. absurd (omega (arith, well, refuses.failed));
         }),
       )
   unread_for (Ok (About which topic)) is refuses = (
@@ -262,15 +263,16 @@ module _ (told : Visible) (run : Run) (fresh : IsUnread run) where
       )
 
   pub refused_or_memory : {fault : Fault} → IsRefused HasBadOperands (settings_of run.calling run.words) fault
-      → Refuses told run fault → RunEnds told run
+      → Refuses visible run fault → RunEnds visible run
   refused_or_memory (inr (inl is)) refuses = rw is (fresh, refuses)
   refused_or_memory {fault} (inr (inr (settings, is, bad))) refuses = rw is (operands_refused settings fault bad refuses)
   refused_or_memory (inl is) refuses = unread_for (settings_of run.calling run.words) refl (rw is at refuses)
 
 -- a run did what its words ask for
-pub ends_as_asked : (told : Visible) (run : Run) (settings : Settings) → settings_of run.calling run.words ≡ Ok settings
-    → RunsAsked told run settings → RunEnds told run
-ends_as_asked told run settings read (found, finds, does) = rw read (found, finds, inl does)
+pub ends_as_asked : (visible : Visible) (run : Run) (settings : Settings)
+    → settings_of run.calling run.words ≡ Ok settings
+    → RunsAsked visible run settings → RunEnds visible run
+ends_as_asked visible run settings read (found, finds, does) = rw read (found, finds, inl does)
 
 -- How a run that follows ends, by its words.
 
@@ -287,14 +289,14 @@ shows_by-waiting Cutters Name milliseconds shows = refl
 shows_by-waiting Cutters PresentName milliseconds shows = refl
 shows_by-waiting Cutters FirstFile milliseconds shows = refl
 
-module _ (told : Visible) (run : Run) (looks : ℕ) (unseen : IsUnseen run) where
+module _ (visible : Visible) (run : Run) (looks : ℕ) (unseen : IsUnseen run) where
   -- Words that weren't read, since there was no memory.
 
   unread_tail : (asked : TailSettings) (followed : Option Followed) → speaker run.words ≡ tool.Tail
-      → Refuses told run Memory → FollowsTail told run looks asked followed
+      → Refuses visible run Memory → FollowsTail visible run looks asked followed
   unread_tail asked None speaks refuses = (unseen, refused_memory run.words (Usage BadFollow 0) refuses)
   unread_tail asked (Some followed) speaks refuses =
-      let (most, are, above) = most_made told.watch asked.process
+      let (most, are, above) = most_made visible.watch asked.process
       (λ n. waiting (max (pause_by run.calling asked.pause) 1) (shows_by run.calling (method_of followed) run.shows n)) looks 0 (omega arith) (λ t. omega arith) in
       let (why, says) = worded_by run.calling speaks refuses.says in (
         most,
@@ -302,26 +304,27 @@ module _ (told : Visible) (run : Run) (looks : ℕ) (unseen : IsUnseen run) wher
         no_room_yet why unseen.0 unseen.1
             (λ output error since are. let is_error : standard_error ≡ error = ap (λ (slots : List Slot). slot_at slots 1) are in (
               refuses.error,
-              subst (λ first. SaysFor told.outputs (by run.calling tool.Tail) why (message_of Memory []) first refuses.error) is_error says,
+              subst (λ first. SaysFor visible.outputs (by run.calling tool.Tail) why (message_of Memory []) first refuses.error) is_error says,
               refuses.slots ∙ ap (changed_at 1 (λ _. refuses.error)) are,
             )) refuses.failed,
       )
 
-  unread_files : (meant : Result Settings Fault) → settings_of run.calling run.words ≡ meant → Refuses told run Memory
-      → FollowingEndsAt told run looks meant
+  unread_files : (meant : Result Settings Fault) → settings_of run.calling run.words ≡ meant
+      → Refuses visible run Memory
+      → FollowingEndsAt visible run looks meant
   unread_files (Ok (Tail asked)) is refuses =
       unread_tail asked (followed_by run.calling run.fed asked) (by_words run.calling run.words is).0 refuses
   unread_files (Ok (Csplit asked)) is refuses = (unseen, inr (Memory, lacks_memory asked, refuses))
   unread_files (Ok asked) is refuses = (unseen, inl (tt, refused_memory run.words (Usage BadFollow 0) refuses))
   unread_files (Err fault) is refuses = (unseen, refused_memory run.words fault refuses)
 
-  operands_unread : (settings : Settings) (fault : Fault) → HasBadOperands settings fault → Refuses told run fault
-      → FollowingEndsAt told run looks (Ok settings)
+  operands_unread : (settings : Settings) (fault : Fault) → HasBadOperands settings fault → Refuses visible run fault
+      → FollowingEndsAt visible run looks (Ok settings)
   operands_unread (Csplit asked) fault bad refuses = (unseen, inr (fault, bad, refuses))
   operands_unread asked fault bad refuses = absurd bad
 
   pub refused_words : {fault : Fault} → IsRefused HasBadOperands (settings_of run.calling run.words) fault
-      → Refuses told run fault → FollowingEnds told run looks
+      → Refuses visible run fault → FollowingEnds visible run looks
   refused_words (inr (inl is)) refuses = rw is (unseen, refuses)
   refused_words {fault} (inr (inr (settings, is, bad))) refuses = rw is (operands_unread settings fault bad refuses)
   refused_words (inl is) refuses = unread_files (settings_of run.calling run.words) refl (rw is at refuses)
@@ -356,12 +359,13 @@ pub looks_as : (calling : Calling) (fed : Bool) {is_fed test : Bool} (words : Li
     → looks_at calling fed (settings_of calling words) ≡ (if test then Some (looks settings) else None)
 looks_as calling fed words settings read is so = rw (read, ← follows_alike calling fed settings, ← is, so) refl
 
-module _ (told : Visible) (run : Run) where
+module _ (visible : Visible) (run : Run) where
   abbrev pub FollowsSo : Bool → ℕ → Settings → Type 0
-  FollowsSo is_fed looks settings = FollowingEndsAt told (record run { fed = is_fed }) looks (Ok settings)
+  FollowsSo is_fed looks settings = FollowingEndsAt visible (record run { fed = is_fed }) looks (Ok settings)
 
   tail_alike : (is_fed : Bool) (looks : ℕ) (asked : TailSettings) (followed : Option Followed)
-      → FollowsTail told (record run { fed = is_fed }) looks asked followed → FollowsTail told run looks asked followed
+      → FollowsTail visible (record run { fed = is_fed }) looks asked followed
+      → FollowsTail visible run looks asked followed
   tail_alike is_fed looks asked None ends = ends
   tail_alike is_fed looks asked (Some how) ends = ends
 
@@ -375,7 +379,7 @@ module _ (told : Visible) (run : Run) where
   pub program_follows : {is_fed : Bool} {count : ℕ} (settings : Settings)
       → settings_of run.calling run.words ≡ Ok settings → is_fed ≡ (asks_input run.calling settings && run.fed)
       → follows run.calling is_fed settings ≡ true → count ≡ looks settings → IsUnread run
-      → FollowsSo is_fed count settings → ProgramEnds told run
+      → FollowsSo is_fed count settings → ProgramEnds visible run
   program_follows {count = count} settings read is can often fresh ends =
       let so = subst (λ those. FollowsSo those count settings) is ends in
       let as_often = subst (λ n. FollowsSo (asks_input run.calling settings && run.fed) n settings) often so in
@@ -385,30 +389,30 @@ module _ (told : Visible) (run : Run) where
   -- what a run leaves whose words ask to follow nothing
   pub program_runs : {is_fed : Bool} (settings : Settings) → settings_of run.calling run.words ≡ Ok settings
       → is_fed ≡ (asks_input run.calling settings && run.fed) → follows run.calling is_fed settings ≡ false
-      → IsUnseen run → RunsAsked told run settings → ProgramEnds told run
+      → IsUnseen run → RunsAsked visible run settings → ProgramEnds visible run
   program_runs settings read is cannot unseen ran =
       rw (looks_as run.calling run.fed run.words settings read is cannot)
-      (unseen.0, unseen.1, ends_as_asked told run settings read ran)
+      (unseen.0, unseen.1, ends_as_asked visible run settings read ran)
 
   -- how a run ends if its words are refused, whichever kind of run they ask for
   pub program_refuses : {fault : Fault} → IsUnread run → IsUnseen run
-      → IsRefused HasBadOperands (settings_of run.calling run.words) fault → Refuses told run fault
-      → ProgramEnds told run
+      → IsRefused HasBadOperands (settings_of run.calling run.words) fault → Refuses visible run fault
+      → ProgramEnds visible run
   program_refuses fresh unseen refused refuses = by (looks_at run.calling run.fed (settings_of run.calling run.words)) where
-    by : (asked : Option ℕ) → ProgramEndsAt told run asked
-    by (Some looks) = (fresh, refused_words told run looks unseen refused refuses)
-    by None = (unseen.0, unseen.1, refused_or_memory told run fresh refused refuses)
+    by : (asked : Option ℕ) → ProgramEndsAt visible run asked
+    by (Some looks) = (fresh, refused_words visible run looks unseen refused refuses)
+    by None = (unseen.0, unseen.1, refused_or_memory visible run fresh refused refuses)
 
 -- How a run ends that is asked for a text about a tool.
 
 -- standard output broke after a beginning of the text
-pub text_broke : {told : Bool} {speaker : Speaker} {status : ℕ} (text : List ℕ) (n : ℕ) {old mid new : List Slot}
-    {fault : Fault} → old ≡ streams → BrokeAfter told old mid 0 text n → fault ≡ Write 0
-    → TellsOn told speaker fault mid new → status ≡ status_after fault speaker.calling (output_reason mid fault)
-    → TellsText told speaker text new status
-text_broke {told} text n {mid = mid} fresh broke is tells ends =
+pub text_broke : {visible : Bool} {speaker : Speaker} {status : ℕ} (text : List ℕ) (n : ℕ) {old mid new : List Slot}
+    {fault : Fault} → old ≡ streams → BrokeAfter visible old mid 0 text n → fault ≡ Write 0
+    → TellsOn visible speaker fault mid new → status ≡ status_after fault speaker.calling (output_reason mid fault)
+    → TellsText visible speaker text new status
+text_broke {visible} text n {mid = mid} fresh broke is tells ends =
     let (why, slots) = broke.slots in
-    let output = breaks why (adds (told_of told (take n text)) standard_output) in
+    let output = breaks why (adds (visible_of visible (take n text)) standard_output) in
     let there : mid ≡ output ∷ standard_error ∷ [] = rw fresh at slots in
     let (after, says, are) = tells output standard_error [] there in
     let name : output_named mid (Write 0) ≡ codes "standard output" = rw there in

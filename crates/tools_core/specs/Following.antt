@@ -21,11 +21,8 @@ use Rattle.words_core.specs.{
   Words.{HasOperands, settings_of},
 }
 use Rattle.follow_core.specs.declared.run.Method.TheVariants as method
-use Rattle.tools_core.specs.{
-  Outcome.{Refuses, RefusesOperands},
-  Run.{Run, Visible},
-  Tasks.{has_headers, is_plus},
-}
+use Rattle.tools_core.specs.{Outcome.{Refuses, RefusesOperands}, Run.{Run, Visible}}
+use Rattle.words_core.specs.EndsWords.{has_headers, is_plus}
 
 -- the part of a file that the first look writes
 abbrev pub start_of : EndsAsked → Start
@@ -56,8 +53,8 @@ pause_by Cutters pause = pause
 -- gave exactly what these looks give. If no change is seen, a look begins at most the pause of `pause_by` after the look
 -- before it, or 1 ms if that is 0. Looks show names as `shows_by` says.
 abbrev pub FollowsAs : Visible → Run → (looks : ℕ) → TailSettings → Followed → Type 0
-FollowsAs told run looks asked followed = let ends = asked.ends in
-    FollowEndsBy (record { looks = looks; process = asked.process }) told.watch told.outputs
+FollowsAs visible run looks asked followed = let ends = asked.ends in
+    FollowEndsBy (record { looks = looks; process = asked.process }) visible.watch visible.outputs
     (asked_so run.calling (method_of followed) (start_of ends) (has_headers ends.headers ends.names) ends.names streams)
     (λ n. waiting (max (pause_by run.calling asked.pause) 1)
     (shows_by run.calling (method_of followed) run.shows n)) (remains run.seen run.watched run.outputs) run.status
@@ -68,17 +65,17 @@ IsUnseen run = (run.seen ≡ []) × (run.watched ≡ [])
 
 -- what these settings ask to follow was followed; words that follow nothing were refused, and no look was made
 abbrev pub FollowsTail : Visible → Run → (looks : ℕ) → TailSettings → Option Followed → Type 0
-FollowsTail told run looks asked (Some followed) = FollowsAs told run looks asked followed
-FollowsTail told run looks asked None = IsUnseen run × Refuses told run (Usage BadFollow 0)
+FollowsTail visible run looks asked (Some followed) = FollowsAs visible run looks asked followed
+FollowsTail visible run looks asked None = IsUnseen run × Refuses visible run (Usage BadFollow 0)
 
 -- what was asked for was followed; or the words were refused, since they follow nothing or operands can't be read
 abbrev pub FollowingEndsAt : Visible → Run → (looks : ℕ) → Result Settings Fault → Type 0
-FollowingEndsAt told run looks (Ok (Tail asked)) =
-    FollowsTail told run looks asked (followed_by run.calling run.fed asked)
-FollowingEndsAt told run looks (Ok settings) = IsUnseen run
-    × ((HasOperands settings × Refuses told run (Usage BadFollow 0)) ⊎ RefusesOperands told run settings)
-FollowingEndsAt told run looks (Err fault) = IsUnseen run × Refuses told run fault
+FollowingEndsAt visible run looks (Ok (Tail asked)) =
+    FollowsTail visible run looks asked (followed_by run.calling run.fed asked)
+FollowingEndsAt visible run looks (Ok settings) = IsUnseen run
+    × ((HasOperands settings × Refuses visible run (Usage BadFollow 0)) ⊎ RefusesOperands visible run settings)
+FollowingEndsAt visible run looks (Err fault) = IsUnseen run × Refuses visible run fault
 
 -- a run that would follow its files in as many looks ended so
 abbrev pub FollowingEnds : Visible → Run → (looks : ℕ) → Type 0
-FollowingEnds told run looks = FollowingEndsAt told run looks (settings_of run.calling run.words)
+FollowingEnds visible run looks = FollowingEndsAt visible run looks (settings_of run.calling run.words)

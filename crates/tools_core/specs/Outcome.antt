@@ -58,8 +58,8 @@ IsTask calling asked task = ⊥
 
 -- what is asked of a run of `tee`
 abbrev pub tee_run : Calling → Bool → TeeAsked → TeeRun
-tee_run calling told asked = record {
-  told = told;
+tee_run calling visible asked = record {
+  visible = visible;
   calling = calling;
   mode = asked.mode;
   on_broken = asked.on_broken;
@@ -67,50 +67,51 @@ tee_run calling told asked = record {
 }
 
 -- a run of `tee` over its only input, standard input
-pub record TeeEndsAs (told : Visible) (run : Run) (found : List Input) (asked : TeeAsked) : Type 0 where
+pub record TeeEndsAs (visible : Visible) (run : Run) (found : List Input) (asked : TeeAsked) : Type 0 where
   pub content : Content
   pub input : found ≡ standard_input content ∷ []
-  pub ends : TeeCopies (tee_run run.calling told.outputs asked) told.inputs content (source_at run.inputs 0) run.outputs
+  pub ends : TeeCopies (tee_run run.calling visible.outputs asked) visible.inputs content
+      (source_at run.inputs 0) run.outputs
       run.status
-  pub came : CameFrom told.inputs content (source_at run.inputs 0)
+  pub came : CameFrom visible.inputs content (source_at run.inputs 0)
   -- if nothing broke and bytes are visible, standard output and every file have the input's bytes
-  pub whole : told.inputs ≡ true → run.status ≡ 0 → (forgives asked.on_broken ≡ true → AreSound run.outputs)
-      → run.outputs ≡ all_copied told.outputs asked.mode asked.names content.bytes
+  pub whole : visible.inputs ≡ true → run.status ≡ 0 → (forgives asked.on_broken ≡ true → AreSound run.outputs)
+      → run.outputs ≡ all_copied visible.outputs asked.mode asked.names content.bytes
 
 -- a run over these inputs did what these settings ask for
 abbrev pub DoesAsked : Visible → Run → List Input → Settings → Type 0
-DoesAsked told run found (Tee asked) = TeeEndsAs told run found asked
-DoesAsked told run found (About tool topic) =
-    TellsText told.outputs (by run.calling tool) (text_about tool topic) run.outputs run.status
-DoesAsked told run found asked = (task : Task) × IsTask run.calling asked task
-    × EndsAs told.inputs told.outputs task found run.inputs run.outputs run.status
+DoesAsked visible run found (Tee asked) = TeeEndsAs visible run found asked
+DoesAsked visible run found (About tool topic) =
+    TellsText visible.outputs (by run.calling tool) (text_about tool topic) run.outputs run.status
+DoesAsked visible run found asked = (task : Task) × IsTask run.calling asked task
+    × EndsAs visible.inputs visible.outputs task found run.inputs run.outputs run.status
 
 -- the words are refused for this fault: there is a message, and the status is 1; nothing else happens
-pub record RefusesFor (calling : Calling) (told : Bool) (words : List (List ℕ)) (fault : Fault) (new : List Slot)
+pub record RefusesFor (calling : Calling) (visible : Bool) (words : List (List ℕ)) (fault : Fault) (new : List Slot)
     (status : ℕ) : Type 0 where
   pub error : Slot
-  pub says : Says told (refuser calling words) (refusal calling words fault) standard_error error
+  pub says : Says visible (refuser calling words) (refusal calling words fault) standard_error error
   pub slots : new ≡ streams_with error
   pub failed : status ≡ 1
 
 -- a run refused its words for this fault
 abbrev pub Refuses : Visible → Run → Fault → Type 0
-Refuses told run fault = RefusesFor run.calling told.outputs run.words fault run.outputs run.status
+Refuses visible run fault = RefusesFor run.calling visible.outputs run.words fault run.outputs run.status
 
 -- the settings have operands that can't be read, or there was no memory for them, and the words are refused for that
 abbrev pub RefusesOperands : Visible → Run → Settings → Type 0
-RefusesOperands told run settings = (fault : Fault) × HasBadOperands settings fault × Refuses told run fault
+RefusesOperands visible run settings = (fault : Fault) × HasBadOperands settings fault × Refuses visible run fault
 
 -- A run over the inputs that its words name did what was asked for. Or it refused operands or words; then all inputs
 -- are as they were.
 abbrev pub RunEndsAt : Visible → Run → Result Settings Fault → Type 0
-RunEndsAt told run (Ok settings) = RunsOver told.inputs run.world (names_of settings)
-    (λ found. DoesAsked told run found settings ⊎ (IsUnread run × RefusesOperands told run settings))
-RunEndsAt told run (Err fault) = IsUnread run × Refuses told run fault
+RunEndsAt visible run (Ok settings) = RunsOver visible.inputs run.world (names_of settings)
+    (λ found. DoesAsked visible run found settings ⊎ (IsUnread run × RefusesOperands visible run settings))
+RunEndsAt visible run (Err fault) = IsUnread run × Refuses visible run fault
 
 -- a run over inputs did what its words ask for, or refused them
 abbrev pub RunEnds : Visible → Run → Type 0
-RunEnds told run = RunEndsAt told run (settings_of run.calling run.words)
+RunEnds visible run = RunEndsAt visible run (settings_of run.calling run.words)
 
 -- the names of the inputs that these words ask for; words that are refused ask for none
 abbrev pub names_at : Result Settings Fault → List (List ℕ)

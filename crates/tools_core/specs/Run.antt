@@ -11,12 +11,12 @@ pub record Visible : Type 0 where
   pub watch : Bool
   pub outputs : Bool
 
-abbrev pub visible : (inputs watch outputs : Bool) → Visible
-visible inputs watch outputs = record { inputs = inputs; watch = watch; outputs = outputs }
+abbrev pub visible_by : (inputs watch outputs : Bool) → Visible
+visible_by inputs watch outputs = record { inputs = inputs; watch = watch; outputs = outputs }
 
 -- as in memory
 abbrev pub all_visible : Visible
-all_visible = visible true true true
+all_visible = visible_by true true true
 
 -- One run of the program: its words, what it found, and what it left.
 pub record Run : Type 0 where

@@ -3,7 +3,7 @@
 -- input breaks off.
 use Rattle.std.specs.{
   Option.unwrap_or,
-  Prelude.{ℕ, ◌&&◌, nat_lt, is_none, Bool, true, false, not, List, [], ◌∷◌, length, slice_index_or, codes, Option},
+  Prelude.{ℕ, ◌&&◌, is_none, Bool, true, false, not, List, [], ◌∷◌, length, slice_index_or, codes, Option},
   Prelude.option_map,
 }
 use Rattle.ports_core.specs.{
@@ -13,38 +13,20 @@ use Rattle.ports_core.specs.{
     calling.{Calling.Calling, Speaker.Speaker},
     tool.Tool.Tool,
   },
-  Work.Needs,
 }
-use Rattle.seg_core.specs.declared.count.Sign.{Sign, TheVariants.{Minus, Plus}}
+use Rattle.engine_core.specs.Work.{Needs}
 use Rattle.ends_core.specs.Shown.{head_in, tail_in}
 use Rattle.split_core.specs.{ChunkWork.way_work, Split.Filing}
 use Rattle.csplit_core.specs.Csplit.{csplit_work}
 use Rattle.operand_core.specs.declared.operand.Operand.{Operand}
 use Rattle.run_core.specs.Task.{Task}
 use Rattle.words_core.specs.{
-  declared.settings.{
-    Headers.{Headers, TheVariants.{ForSeveral, Never, Always}},
-    Settings.{Settings, TheVariants.{Head, Tail, Split, Csplit, Tee, About}},
-  },
+  declared.settings.Settings.{Settings, TheVariants.{Head, Tail, Split, Csplit, Tee, About}},
   CsplitWords.CsplitAsked,
-  EndsWords.EndsAsked,
+  EndsWords.{EndsAsked, is_minus, is_plus, has_headers},
   SplitWords.SplitAsked,
 }
 use Rattle.ports_core.specs.declared.tool.Tool.TheVariants as tool
-
-abbrev pub is_minus : Sign → Bool
-is_minus Minus = true
-is_minus sign = false
-
-abbrev pub is_plus : Sign → Bool
-is_plus Plus = true
-is_plus sign = false
-
--- whether a header goes before each input: as an option says, or without an option if there are several inputs
-abbrev pub has_headers : Headers → List (List ℕ) → Bool
-has_headers ForSeveral names = nat_lt 1 (length names)
-has_headers Never names = false
-has_headers Always names = true
 
 -- a tool, and how it was called
 abbrev pub by : Calling → Tool → Speaker

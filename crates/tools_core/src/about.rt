@@ -22,7 +22,7 @@ pub(crate) fn tell_about<O: Outs>(
     outs: &mut O,
 ) -> u8
     requires { O.slots outs.old ≡ streams }
-    ensures { TellsText O.told (by calling tool) (text_about tool topic) (O.slots outs.new) result }
+    ensures { TellsText O.visible (by calling tool) (text_about tool topic) (O.slots outs.new) result }
 {
     match text_about(alloc, tool, topic) {
         Ok(text) => tell_text(alloc, by(calling, tool), &text, outs),
@@ -32,7 +32,7 @@ pub(crate) fn tell_about<O: Outs>(
 
 fn tell_text<O: Outs>(alloc: Global, speaker: Speaker, text: &[u8], outs: &mut O) -> u8
     requires { O.slots outs.old ≡ streams }
-    ensures { TellsText O.told speaker text.now (O.slots outs.new) result }
+    ensures { TellsText O.visible speaker text.now (O.slots outs.new) result }
 {
     match write_whole(outs, STANDARD_OUTPUT, text) {
         Ok(()) => 0,

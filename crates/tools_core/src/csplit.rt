@@ -3,7 +3,8 @@ ghost use Rattle.tools_core.specs.Tasks.{csplit_task};
 
 use crate::run::by;
 use csplit_core::{Csplitter, Operands};
-use ports_core::{Calling, Fault, Guarded, Inputs, Outs, Speaker, Tool, Verdict};
+use engine_core::Engine;
+use ports_core::{Calling, Fault, Inputs, Outs, Speaker, Tool, Verdict};
 use run_core::Adapter;
 use std::alloc::Global;
 use words_core::CsplitSettings;
@@ -50,7 +51,7 @@ impl<'a, 'b> Adapter for CsplitAdapter<'a, 'b> {
         buffer: &mut [u8],
         inputs: &mut I,
         outs: &mut O,
-    ) -> Result<Guarded<Csplitter<'a>>, Fault> {
+    ) -> Result<Engine<Csplitter<'a>>, Fault> {
         let _ = source;
         let _ = buffer;
         let _ = inputs;

@@ -4,15 +4,17 @@ ghost use Rattle.std.specs.Prelude.{◌≡◌, ◌<◌, ℕ, Some, None, length,
 ghost use Rattle.ports_core.specs.Source.{is_readable, source_at};
 ghost use Rattle.ends_core.specs.Shown.{SeenLast};
 ghost use Rattle.run_core.specs.RunSteps.{IsShown, OnlyLooked};
-ghost use Rattle.tools_core.specs.Tasks.{changed_of, has_headers, head_task, is_minus, is_plus, tail_task};
+ghost use Rattle.tools_core.specs.Tasks.{changed_of, head_task, tail_task};
+ghost use Rattle.words_core.specs.EndsWords.{has_headers, is_minus, is_plus};
 
 use crate::run::by;
-use ends_core::{Ends, Found, Head, Tail, find_last};
-use ports_core::{Calling, Fault, Guarded, Inputs, Outs, Speaker, Tool, Verdict};
+use ends_core::{Found, Head, Portion, Tail, find_last};
+use engine_core::Engine;
+use ports_core::{Calling, Fault, Inputs, Outs, Speaker, Tool, Verdict};
 use run_core::Adapter;
-use seg_core::count::{Count, Sign};
+use seg_core::count::Count;
 use std::alloc::Global;
-use words_core::{EndsSettings, Headers};
+use words_core::{EndsSettings, has_headers, is_minus, is_plus};
 
 /// What a run knows of `head`.
 #[derive(Clone, Copy)]
@@ -33,7 +35,7 @@ pub struct TailAdapter<'a, 'b> {
 }
 
 impl<'a, 'b> Adapter for HeadAdapter<'a, 'b> {
-    type Driven = Ends;
+    type Driven = Portion;
 
     ghost task = { λ adapter. head_task adapter.calling adapter.settings.now };
 
@@ -56,7 +58,7 @@ impl<'a, 'b> Adapter for HeadAdapter<'a, 'b> {
         buffer: &mut [u8],
         inputs: &mut I,
         outs: &mut O,
-    ) -> Result<Guarded<Ends>, Fault> {
+    ) -> Result<Engine<Portion>, Fault> {
         let _ = outs;
         let settings = self.settings;
         let Count { sign, amount } = settings.count;
@@ -71,7 +73,7 @@ impl<'a, 'b> Adapter for HeadAdapter<'a, 'b> {
 }
 
 impl<'a, 'b> Adapter for TailAdapter<'a, 'b> {
-    type Driven = Ends;
+    type Driven = Portion;
 
     ghost task = { λ adapter. tail_task adapter.calling adapter.settings.now };
 
@@ -94,7 +96,7 @@ impl<'a, 'b> Adapter for TailAdapter<'a, 'b> {
         buffer: &mut [u8],
         inputs: &mut I,
         outs: &mut O,
-    ) -> Result<Guarded<Ends>, Fault> {
+    ) -> Result<Engine<Portion>, Fault> {
         let _ = outs;
         let settings = self.settings;
         let Count { sign, amount } = settings.count;
@@ -118,9 +120,9 @@ fn last_in<I: Inputs>(
     requires room { 0 < length buffer.old }
     requires input { IfSome source (λ slot. IsTrue (is_readable (I.sources inputs.old) slot)) }
     ensures found { IfSome result (λ found. (slot : ℕ) × (source ≡ Some slot)
-        × SeenLast I.told (source_at (I.sources inputs.old) slot).left settings.now.delim settings.now.unit
+        × SeenLast I.visible (source_at (I.sources inputs.old) slot).left settings.now.delim settings.now.unit
         settings.now.count.amount found) }
-    ensures none { IfNone result (IsShown I.told source (I.sources inputs.old) None) }
+    ensures none { IfNone result (IsShown I.visible source (I.sources inputs.old) None) }
     ensures looked { OnlyLooked (length buffer.old) source (I.sources inputs.old) (I.sources inputs.new) }
     ensures laid { I.laid inputs.new ≡ I.laid inputs.old }
 {
@@ -141,34 +143,5 @@ pub(crate) fn changed_of<'a>(verdict: &Verdict, name: &'a str) -> &'a str
     match verdict {
         Verdict::Changed => name,
         _ => "",
-    }
-}
-
-/// Whether a header goes before each input: as an option says, or without an option if there are several inputs.
-pub(crate) fn has_headers(settings: &EndsSettings<'_>) -> bool
-    ensures { result ≡ has_headers settings.now.headers settings.now.names }
-{
-    match settings.headers {
-        Headers::ForSeveral => settings.names.len() > 1,
-        Headers::Never => false,
-        Headers::Always => true,
-    }
-}
-
-fn is_minus(sign: Sign) -> bool
-    ensures { result ≡ is_minus sign }
-{
-    match sign {
-        Sign::Minus => true,
-        Sign::Plain | Sign::Plus => false,
-    }
-}
-
-pub(crate) fn is_plus(sign: Sign) -> bool
-    ensures { result ≡ is_plus sign }
-{
-    match sign {
-        Sign::Plus => true,
-        Sign::Plain | Sign::Minus => false,
     }
 }

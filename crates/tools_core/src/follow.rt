@@ -4,16 +4,17 @@ ghost use Rattle.ports_core.specs.Slot.{streams};
 ghost use Rattle.words_core.specs.Words.{HasOperands};
 ghost use Rattle.tools_core.specs.{
   Following.{FollowingEnds, FollowingEndsAt, FollowsAs, method_of, pause_by, start_of},
-  Run.{OfInputs, visible, whole_run},
+  Run.{OfInputs, visible_by, whole_run},
 };
 
-use crate::ends::{has_headers, is_plus};
 use crate::run::refuse_words;
 use follow_core::{Limits, Method, Start, follow_files};
 use ports_core::{Calling, Fault, Outs, UsageKind};
 use std::alloc::Global;
 use watch_core::Watch;
-use words_core::{EndsSettings, Followed, Settings, TailSettings, read_words};
+use words_core::{
+    EndsSettings, Followed, Settings, TailSettings, has_headers, is_plus, read_words,
+};
 
 /// What is wrong with words that follow nothing.
 const NOT_FOLLOWED: Fault = Fault::Usage(UsageKind::BadFollow, 0);
@@ -36,7 +37,7 @@ pub fn run_follow<W: Watch, O: Outs>(
     requires unseen { W.seen watch.old ≡ [] }
     requires unwatched { W.watched watch.old ≡ [] }
     requires outputs { O.slots outs.old ≡ streams }
-    ensures { (told_in : Bool) (inputs : OfInputs) → FollowingEnds (visible told_in W.told O.told)
+    ensures { (visible_in : Bool) (inputs : OfInputs) → FollowingEnds (visible_by visible_in W.visible O.visible)
         (whole_run Calling.Cutters words.now inputs (false, W.shows watch.old, W.seen watch.new, W.watched watch.new)
         (O.slots outs.new) result) looks }
 {
@@ -71,7 +72,7 @@ pub(crate) fn follow_asked<W: Watch, O: Outs>(
     requires unwatched { W.watched watch.old ≡ [] }
     requires outputs { O.slots outs.old ≡ streams }
     requires operands { HasOperands settings.now }
-    ensures { (told_in : Bool) (inputs : OfInputs) → FollowingEndsAt (visible told_in W.told O.told)
+    ensures { (visible_in : Bool) (inputs : OfInputs) → FollowingEndsAt (visible_by visible_in W.visible O.visible)
         (whole_run calling words.now inputs (fed, W.shows watch.old, W.seen watch.new, W.watched watch.new)
         (O.slots outs.new) result) looks (Ok settings.now) }
 {
@@ -97,7 +98,7 @@ fn follow_tail<W: Watch, O: Outs>(
     requires unseen { W.seen watch.old ≡ [] }
     requires unwatched { W.watched watch.old ≡ [] }
     requires outputs { O.slots outs.old ≡ streams }
-    ensures { (told_in : Bool) (inputs : OfInputs) → FollowsAs (visible told_in W.told O.told)
+    ensures { (visible_in : Bool) (inputs : OfInputs) → FollowsAs (visible_by visible_in W.visible O.visible)
         (whole_run calling [] inputs (false, W.shows watch.old, W.seen watch.new, W.watched watch.new)
         (O.slots outs.new) result) looks settings.now followed }
 {

@@ -2,7 +2,7 @@
 ghost use Rattle.std.specs.Prelude.{◌≡◌, ◌≤◌, ◌&&◌, [], false, length, map};
 ghost use Rattle.ports_core.specs.{Slot.streams, Source.{source_at, IsFresh}, Inputs.{AsksAtMost, largest_piece}};
 ghost use Rattle.run_core.specs.{Input.has_dash, Reading.count_after};
-ghost use Rattle.tools_core.specs.{Outcome.names_read, Program.ProgramEnds, Run.{visible, whole_run}};
+ghost use Rattle.tools_core.specs.{Outcome.names_read, Program.ProgramEnds, Run.{visible_by, whole_run}};
 ghost use Rattle.words_core.specs.Words.{asks_input};
 
 use crate::follow::follow_asked;
@@ -27,7 +27,7 @@ pub fn run_words<I: Inputs, W: Watch, O: Outs>(
     requires unseen { W.seen watch.old ≡ [] }
     requires unwatched { W.watched watch.old ≡ [] }
     requires outputs { O.slots outs.old ≡ streams }
-    ensures ends { ProgramEnds (visible I.told W.told O.told) (whole_run calling words.now
+    ensures ends { ProgramEnds (visible_by I.visible W.visible O.visible) (whole_run calling words.now
         (I.laid inputs.old, I.sources inputs.old, I.sources inputs.new)
         (W.fed watch.old, W.shows watch.old, W.seen watch.new, W.watched watch.new) (O.slots outs.new) result) }
     ensures opened { length (I.sources inputs.new) ≤ count_after 1

@@ -10,7 +10,7 @@ ghost use Rattle.ports_core.specs.{
 ghost use Rattle.run_core.specs.{Input.has_dash, Reading.count_after};
 ghost use Rattle.tools_core.specs.{
   Outcome.{RefusesFor, RunEnds, names_read, refuser, speaker},
-  Run.{OfWatch, visible, whole_run},
+  Run.{OfWatch, visible_by, whole_run},
   Tasks.{by, names_of},
   inner.Asked.RunsAsked,
 };
@@ -39,7 +39,7 @@ use words_core::{Settings, detail_of, find_tool, read_words};
 pub fn run<I: Inputs, O: Outs>(alloc: Global, words: &[&str], inputs: &mut I, outs: &mut O) -> u8
     requires inputs { IsFresh (I.sources inputs.old) }
     requires outputs { O.slots outs.old ≡ streams }
-    ensures ends { (told_watched : Bool) (watch : OfWatch) → RunEnds (visible I.told told_watched O.told)
+    ensures ends { (visible_watched : Bool) (watch : OfWatch) → RunEnds (visible_by I.visible visible_watched O.visible)
         (whole_run Calling.Cutters words.now (I.laid inputs.old, I.sources inputs.old, I.sources inputs.new) watch
         (O.slots outs.new) result) }
     ensures opened { length (I.sources inputs.new) ≤ count_after 1
@@ -65,7 +65,7 @@ pub(crate) fn refuse_words<O: Outs>(
     outs: &mut O,
 ) -> u8
     requires { O.slots outs.old ≡ streams }
-    ensures { RefusesFor calling O.told (map (λ word. word.now) words.now) fault.now (O.slots outs.new) result }
+    ensures { RefusesFor calling O.visible (map (λ word. word.now) words.now) fault.now (O.slots outs.new) result }
 {
     let speaker = refuser(calling, words);
     match fault {
@@ -110,8 +110,8 @@ pub(crate) fn run_tool<I: Inputs, O: Outs>(
     requires inputs { IsFresh (I.sources inputs.old) }
     requires outputs { O.slots outs.old ≡ streams }
     requires can { CanRun settings.now }
-    ensures ends { (told : Bool) (words : List (Bor (List ℕ))) (watch : OfWatch)
-        → RunsAsked (visible I.told told O.told) (whole_run calling words
+    ensures ends { (visible : Bool) (words : List (Bor (List ℕ))) (watch : OfWatch)
+        → RunsAsked (visible_by I.visible visible O.visible) (whole_run calling words
         (I.laid inputs.old, I.sources inputs.old, I.sources inputs.new) watch (O.slots outs.new) result) settings.now }
     ensures opened { length (I.sources inputs.new) ≤ count_after 1 (names_of settings.now) }
     ensures asked { AsksAtMost largest_piece (I.sources inputs.new) }

@@ -8,9 +8,8 @@ ghost use Rattle.words_core.specs.SplitWords.{CanSplit, IsWidth};
 
 use crate::ends::changed_of;
 use crate::run::by;
-use ports_core::{
-    Calling, Fault, Guarded, Inputs, Naming, Numbering, Outs, Speaker, Tells, Tool, Verdict,
-};
+use engine_core::{Engine, Tells};
+use ports_core::{Calling, Fault, Inputs, Naming, Numbering, Outs, Speaker, Tool, Verdict};
 use run_core::Adapter;
 use split_core::{Splitter, Way};
 use std::alloc::Global;
@@ -50,7 +49,7 @@ impl<'a, 'b> Adapter for SplitAdapter<'a, 'b> {
         buffer: &mut [u8],
         inputs: &mut I,
         outs: &mut O,
-    ) -> Result<Guarded<Splitter>, Fault> {
+    ) -> Result<Engine<Splitter>, Fault> {
         let _ = buffer;
         let settings = self.settings;
         let said = said_by(&settings.way, source, inputs);
@@ -71,7 +70,7 @@ impl<'a, 'b> Adapter for SplitAdapter<'a, 'b> {
 /// How many bytes a source shows, if that matters and it shows them.
 fn said_by<I: Inputs>(way: &Way, source: Option<usize>, inputs: &mut I) -> Option<u64>
     requires input { IfSome source (λ slot. IsTrue (is_readable (I.sources inputs.old) slot)) }
-    ensures said { (shown : Option (List ℕ)) × IsShown I.told source (I.sources inputs.old) shown
+    ensures said { (shown : Option (List ℕ)) × IsShown I.visible source (I.sources inputs.old) shown
         × ((elide : Bool) (filing : Filing)
         → way_work way.now elide filing result ≡ way_work way.now elide filing (option_map length shown)) }
     ensures some { IfSome result (λ size. 0 < size) }
@@ -91,7 +90,7 @@ fn said_by<I: Inputs>(way: &Way, source: Option<usize>, inputs: &mut I) -> Optio
 fn shown_or_limited<I: Inputs>(slot: usize, inputs: &mut I) -> Option<u64>
     requires { IsTrue (is_readable (I.sources inputs.old) slot) }
     ensures some { IfSome result (λ size. 0 < size) }
-    ensures counted { I.told ≡ true → result ≡ count_shown (source_at (I.sources inputs.old) slot).left }
+    ensures counted { I.visible ≡ true → result ≡ count_shown (source_at (I.sources inputs.old) slot).left }
     ensures same { I.sources inputs.new ≡ I.sources inputs.old }
     ensures laid { I.laid inputs.new ≡ I.laid inputs.old }
 {

@@ -148,6 +148,6 @@ opened_some {names} turns {place} {new} is can at changed found finding = record
   file = new.opened;
   found = found;
   names = one_changes turns place (opens new.opened) is can at changed;
-  leads = λ told. absurd (false≢true told);
+  leads = λ visible. absurd (false≢true visible);
   opens = finding;
 }

@@ -75,12 +75,12 @@ open_contents snapshot watched = elim watched.opened [
 ]
 
 -- the file to which the name leads was opened in place of the open file; if the name leads nowhere, no file is open
-pub record Reopens (told : Bool) (snapshot : Snapshot) (old new : List Watched) (place : ℕ)
+pub record Reopens (visible : Bool) (snapshot : Snapshot) (old new : List Watched) (place : ℕ)
     (is_there : Bool) : Type 0 where
   pub file : Option ℕ
   pub found : is_some file ≡ is_there
   pub names : new ≡ changed_at place (opens file) old
-  pub leads : told ≡ true → file ≡ snapshot.leads (watched_at old place).name
+  pub leads : visible ≡ true → file ≡ snapshot.leads (watched_at old place).name
   pub opens : Found snapshot (watched_at old place).name (opens_as file)
 
 -- a read of the file from a place on gave these bytes; it gave none only at the end or past it, or into no room

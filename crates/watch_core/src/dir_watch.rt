@@ -238,7 +238,7 @@ impl<R: Files<File = File> + Clock + Drop> Watch for DirWatch<R> {
 
     ghost rested = { λ watch. watch.rested };
 
-    ghost told = { false };
+    ghost visible = { false };
 
     ghost fed = { λ watch. watch.fed };
 

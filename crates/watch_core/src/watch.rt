@@ -54,7 +54,7 @@ pub trait Watch {
     ghost rested: { Self → ℕ };
 
     /// Whether the files tell their bytes. Where they don't, nothing is said of what is found and read but that it was found.
-    ghost told: { Bool };
+    ghost visible: { Bool };
 
     /// Whether standard input is a file that can be watched, under the name `-`.
     ghost fed: { Self → Bool };
@@ -78,7 +78,7 @@ pub trait Watch {
     /// Whether no process of this number runs, as is to be known before the next look. It is asked before that begins, so what
     /// the process wrote is there to be seen in the look.
     fn is_gone(&mut self, process: u32) -> bool
-        ensures told { told ≡ true → result ≡ (shows self.old (length (seen self.old))).lacks process }
+        ensures told { visible ≡ true → result ≡ (shows self.old (length (seen self.old))).lacks process }
         ensures found { IsTrue result → IsTrue ((shows self.old (length (seen self.old))).lacks process) }
         ensures watched { watched self.new ≡ watched self.old }
         ensures seen { seen self.new ≡ seen self.old }
@@ -137,7 +137,7 @@ pub trait Watch {
     /// a file can have the name; nor do the calls below fail there.
     fn look(&mut self, place: usize) -> Result<Option<Seen>, Fault>
         requires { IsTrue (is_watchable (watched self.old) place) }
-        ensures ok { IfOk result (λ found. told ≡ true
+        ensures ok { IfOk result (λ found. visible ≡ true
             → Finds (latest (seen self.old)) (watched_at (watched self.old) place).name found) }
         ensures found { IfOk result (λ found. Found (latest (seen self.old)) (watched_at (watched self.old) place).name
             (leads_to (option_map (λ file. file.id) found))) }
@@ -158,7 +158,8 @@ pub trait Watch {
     /// `Open` where there is a file that can't be opened, or none and the watch insists: the name is broken.
     fn reopen(&mut self, place: usize) -> Result<bool, Fault>
         requires { IsTrue (is_watchable (watched self.old) place) }
-        ensures ok { IfOk result (Reopens told (latest (seen self.old)) (watched self.old) (watched self.new) place) }
+        ensures ok { IfOk result
+            (Reopens visible (latest (seen self.old)) (watched self.old) (watched self.new) place) }
         ensures err { IfErr result
             (λ fault. (fault ≡ Fault.Open place)
             × NameBreaks (λ file. Broken.Open) place (watched self.old) (watched self.new)) }
@@ -171,7 +172,7 @@ pub trait Watch {
     fn reason(&self, place: usize) -> Reason
         ensures broke { is_some (watched_at (watched self.now) place).failed ≡ true
             → result ≡ (watched_at (watched self.now) place).reason }
-        ensures missing { told ≡ true → IsTrue (is_watchable (watched self.now) place)
+        ensures missing { visible ≡ true → IsTrue (is_watchable (watched self.now) place)
             → result ≡ (latest (seen self.now)).missing (watched_at (watched self.now) place).name };
 
     /// The identity of the open file; none where none is open.
@@ -185,7 +186,7 @@ pub trait Watch {
     /// `Read` where that can't be told: the name is broken.
     fn open_len(&mut self, place: usize) -> Result<u64, Fault>
         requires { IsTrue (is_readable (watched self.old) place) }
-        ensures ok { IfOk result (λ len. told ≡ true
+        ensures ok { IfOk result (λ len. visible ≡ true
             → len ≡ length (open_contents (latest (seen self.old)) (watched_at (watched self.old) place))) }
         ensures found { IfOk result (λ len. Found (latest (seen self.old)) (watched_at (watched self.old) place).name
             (holds_many (watched_at (watched self.old) place).opened len)) }
@@ -207,7 +208,7 @@ pub trait Watch {
     fn read_at(&mut self, place: usize, from: u64, buffer: &mut [u8]) -> Result<usize, Fault>
         requires { IsTrue (is_readable (watched self.old) place) }
         ensures bound { IfOk result (λ n. n ≤ length buffer.old) }
-        ensures bytes { IfOk result (λ n. told ≡ true
+        ensures bytes { IfOk result (λ n. visible ≡ true
             → GaveFrom (open_contents (latest (seen self.old))
             (watched_at (watched self.old) place)) from buffer.old buffer.new n) }
         ensures found { IfOk result (λ n. 0 < length buffer.old

@@ -1,12 +1,14 @@
 -- What options and operands ask of `head` or `tail`.
-use Rattle.std.specs.Prelude.{ℕ, List, [], ◌∷◌, codes}
-use Rattle.seg_core.specs.declared.{
-  count.{Sign.TheVariants.Plain, Count.Count},
-  unit.Unit.{Unit as Counted, TheVariants.Lines},
+use Rattle.std.specs.Prelude.{ℕ, List, [], ◌∷◌, codes, nat_lt, Bool, true, false, length}
+use Rattle.seg_core.specs.{
+  declared.{count.{Sign.TheVariants.Plain, Count.Count}, unit.Unit.{Unit as Counted, TheVariants.Lines}},
+  declared.count.Sign.Sign,
+  declared.count.Sign.TheVariants.{Minus, Plus},
 }
 use Rattle.words_core.specs.{
   declared.{choice.Choice.Choice, spelled.Chosen.Chosen, settings.Headers.{Headers, TheVariants.ForSeveral}},
   Given.{asked_by, Given, GivenOperand, texts_of},
+  declared.settings.Headers.TheVariants.{Never, Always},
 }
 use Rattle.words_core.specs.declared.choice.Choice.TheVariants as choice
 
@@ -53,3 +55,17 @@ ends_of names options = asked_by ends_by (ten_lines names) options
 
 abbrev pub ends_asked : Given → EndsAsked
 ends_asked given = ends_of (names_asked given.operands) given.options
+
+abbrev pub is_minus : Sign → Bool
+is_minus Minus = true
+is_minus sign = false
+
+abbrev pub is_plus : Sign → Bool
+is_plus Plus = true
+is_plus sign = false
+
+-- whether a header goes before each input: as an option says, or without an option if there are several inputs
+abbrev pub has_headers : Headers → List (List ℕ) → Bool
+has_headers ForSeveral names = nat_lt 1 (length names)
+has_headers Never names = false
+has_headers Always names = true

@@ -3,7 +3,7 @@
 ghost use Rattle.std.specs.Prelude.{◌≡◌, map, IfOk, IfErr};
 ghost use Rattle.words_core.specs.{
   Choice.seen,
-  EndsWords.{EndsAsked, ends_by, ends_asked, names_asked, ten_lines},
+  EndsWords.{is_minus, is_plus, has_headers, EndsAsked, ends_by, ends_asked, names_asked, ten_lines},
   Given.operand_seen,
 };
 
@@ -105,4 +105,35 @@ pub(crate) fn names_of<'a>(alloc: Global, operands: &[Operand<'a>]) -> Result<Ve
         names.push(STANDARD_INPUT)?;
     }
     Ok(names)
+}
+
+/// Whether a `-` stands before a count.
+pub fn is_minus(sign: Sign) -> bool
+    ensures { result ≡ is_minus sign }
+{
+    match sign {
+        Sign::Minus => true,
+        Sign::Plain | Sign::Plus => false,
+    }
+}
+
+/// Whether a `+` stands before a count.
+pub fn is_plus(sign: Sign) -> bool
+    ensures { result ≡ is_plus sign }
+{
+    match sign {
+        Sign::Plus => true,
+        Sign::Plain | Sign::Minus => false,
+    }
+}
+
+/// Whether a header goes before each input: as an option says, or without an option if there are several inputs.
+pub fn has_headers(settings: &EndsSettings<'_>) -> bool
+    ensures { result ≡ has_headers settings.now.headers settings.now.names }
+{
+    match settings.headers {
+        Headers::ForSeveral => settings.names.len() > 1,
+        Headers::Never => false,
+        Headers::Always => true,
+    }
 }

@@ -26,7 +26,7 @@ pub use args::{Args, ArgsFault, Arguments, read_args};
 pub use choice::{Choice, Kind};
 pub use csplit_settings::CsplitSettings;
 pub use division::{Dealing, Division};
-pub use ends_words::EndsSettings;
+pub use ends_words::{EndsSettings, has_headers, is_minus, is_plus};
 pub use format::{Format, read_format};
 pub use help::text_about;
 pub use laws::{

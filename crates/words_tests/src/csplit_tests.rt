@@ -91,9 +91,9 @@ fn decimal(digits: u8) -> Form {
 }
 
 /// A base, whether numbers are marked, a width, what fills it, and a precision.
-type Written = (Base, bool, u8, Filling, u8);
+type Described = (Base, bool, u8, Filling, u8);
 
-fn form(written: Written) -> Form {
+fn form(written: Described) -> Form {
     let (base, is_marked, width, filling, precision) = written;
     Form {
         base,
@@ -104,7 +104,7 @@ fn form(written: Written) -> Form {
     }
 }
 
-type FormatRow<'a> = (&'a str, &'a str, Written, &'a str);
+type FormatRow<'a> = (&'a str, &'a str, Described, &'a str);
 
 #[test]
 fn reads_formats(rt: HostRuntime) {

@@ -24,20 +24,19 @@ use Rattle.csplit_core.specs.{
 }
 use Rattle.bre_core.specs.{Pattern.Pattern, Search.contains}
 use Rattle.seg_core.specs.Line.{lines_of, line_count, ends_with, delimiters}
-use Rattle.ports_core.specs.{
-  Part.{Part, Begins, nothing},
-  Slot.{Effect, Slot, effect, is_writable},
+use Rattle.engine_core.specs.{
+  Written.{Written, Begins, nothing},
   Swept.{Removes, HasNoFiles},
-  declared.{
-    fault.Fault.{Fault, TheVariants.Memory},
-    verdict.Verdict.Verdict,
-    file_writer.{Keeps.TheVariants.All, Tells.{Tells, TheVariants.{Nothing, Sizes}}},
-  },
+  declared.file_writer.{Keeps.TheVariants.All, Tells.{Tells, TheVariants.{Nothing, Sizes}}},
   Draft.{Draft, draft_part},
   FileWriter.{WriterState, OwnsFiles, IsManner, IsReady, Breaks, manner_in, size_of, Leaves, Reaches, new_writer},
   FileWriter.paused,
   InTurn.fault_in,
   Engine.Sweeps,
+}
+use Rattle.ports_core.specs.{
+  Slot.{Effect, Slot, effect, is_writable},
+  declared.{fault.Fault.{Fault, TheVariants.Memory}, verdict.Verdict.Verdict},
 }
 use Rattle.ports_core.specs.declared.fault.Fault.TheVariants as fault_is
 
@@ -110,7 +109,7 @@ Joins x t = IsWhole x ⊎ (t ≡ [])
 abbrev pub IsLine : List ℕ → Type 0
 IsLine line = lines_of newline line ≡ line ∷ []
 
-abbrev pub settled_part : CutterState → List ℕ → Part
+abbrev pub settled_part : CutterState → List ℕ → Written
 settled_part cutter x = settled_of cutter.style cutter.operands (all_lines x)
 
 -- a cutter without its aim and the lines that wait: what sections depend on is left
@@ -121,7 +120,7 @@ bare cutter = record cutter { aim = UsedUp; window = record { most = 0; delim = 
 abbrev pub draft_at : {cutter : CutterState} {x left : List ℕ} → IsAt cutter x left → Draft
 draft_at {cutter} {x} at = draft_by cutter.style (all_lines x) at.steps (kept_by (state_in cutter).operands) at.written
 
-abbrev pub part_at : {cutter : CutterState} {x left : List ℕ} → IsAt cutter x left → Part
+abbrev pub part_at : {cutter : CutterState} {x left : List ℕ} → IsAt cutter x left → Written
 part_at {cutter} at = draft_part (manner_of cutter.style) (draft_at at)
 
 abbrev pub plan_in : CutterState → List ℕ → Plan
@@ -151,7 +150,7 @@ abbrev pub Keeps : CutterState → CutterState → List Slot → List Slot → O
 Keeps cutter = KeepsBy cutter.operands cutter.style cutter.writer
 
 -- outputs that had one part get another, or a fault stopped that
-abbrev pub Puts : (cutter next : CutterState) → (low high : Part) → Effect → Option Fault → Type 0
+abbrev pub Puts : (cutter next : CutterState) → (low high : Written) → Effect → Option Fault → Type 0
 Puts cutter next = Reaches (sizes_wanted cutter.style) cutter.writer next.writer
 
 -- these bytes came in
@@ -161,11 +160,11 @@ pub record Took (cutter : CutterState) (text : List ℕ) (next : CutterState) : 
   pub size : load next ≤ load cutter + length text
 
 -- These bytes came in, and what is settled with them is written; or a fault came among them.
-pub record Takes (told : Bool) (cutter : CutterState) (text : List ℕ) (old new : List Slot) (next : CutterState)
+pub record Takes (visible : Bool) (cutter : CutterState) (text : List ℕ) (old new : List Slot) (next : CutterState)
     (fault : Option Fault) : Type 0 where
   pub keeps : Keeps cutter next old new fault
   pub reaches : (x : List ℕ) → IsWhole x → Stands cutter x
-      → Puts cutter next (settled_part cutter x) (settled_part cutter (x ++ text)) (effect told old new) fault
+      → Puts cutter next (settled_part cutter x) (settled_part cutter (x ++ text)) (effect visible old new) fault
   pub went : IfNone fault (Took cutter text next)
 
 -- The plan over x ends at the cutter's state. What is written of the open section is settled.
@@ -182,11 +181,11 @@ pub record Held (cutter : CutterState) (left : List ℕ) (next : CutterState) : 
   pub size : size_of next.writer.current + length next.window.held ≤ size_of cutter.writer.current + length left
 
 -- What `hold` does. The lines up to x came in, and the lines `left` were left.
-pub record HoldsLines (told : Bool) (cutter : CutterState) (left : List ℕ) (old new : List Slot) (next : CutterState)
+pub record HoldsLines (visible : Bool) (cutter : CutterState) (left : List ℕ) (old new : List Slot) (next : CutterState)
     (fault : Option Fault) : Type 0 where
   pub keeps : Keeps cutter next old new fault
   pub reaches : (x : List ℕ) (at : IsAt (bare cutter) x left) → Arrives cutter at
-      → Puts cutter next (part_at at) (settled_part cutter x) (effect told old new) fault
+      → Puts cutter next (part_at at) (settled_part cutter x) (effect visible old new) fault
   pub went : IfNone fault (Held cutter left next)
 
 -- this line is the last in x; if the line ends with its newline, x is complete lines
@@ -300,35 +299,36 @@ abbrev pub IsEnd : List ℕ → List ℕ → Type 0
 IsEnd end text = (front : List ℕ) × (text ≡ front ++ end)
 
 -- What is true after a cut: the open section has no line yet, and no line before the last one is to be looked at again.
-pub record IsAfter (told : Bool) (due : Due) (x : List ℕ) (low : Part) (old new : List Slot) (next : CutterState)
+pub record IsAfter (visible : Bool) (due : Due) (x : List ℕ) (low : Written) (old new : List Slot) (next : CutterState)
     (rest : List ℕ) : Type 0 where
   pub now : IsAt (bare next) x rest
   pub looked : Looked next x due.line
   pub near : next.lines ≤ search_line (suppress_in next) (state_in next)
   pub none : now.taken ≡ 0
   pub grows : Begins low (part_at now)
-  pub reaches : Puts due.cutter next low (part_at now) (effect told old new) None
+  pub reaches : Puts due.cutter next low (part_at now) (effect visible old new) None
 
 -- Some cuts were made, and the lines `left` are left.
-pub record Spreading (told : Bool) (due : Due) (old new : List Slot) (now : CutterState) (left : List ℕ) : Type 0 where
+pub record Spreading (visible : Bool) (due : Due) (old new : List Slot) (now : CutterState) (left : List ℕ)
+    : Type 0 where
   pub keeps : Keeps due.cutter now old new None
   pub lines : now.lines ≡ due.cutter.lines
   pub fit : IsFit now
   pub held : now.window.held ≡ []
   pub after : (x : List ℕ) (at : IsAt (bare due.cutter) x due.left) → CutsNow due x at
-      → IsAfter told due x (part_at at) old new now left
+      → IsAfter visible due x (part_at at) old new now left
   pub size : size_of now.writer.current + length left ≤ size_of due.cutter.writer.current + length due.left
   pub end : IsEnd left due.left
 
 -- The open section ended at a cut, and the next one began.
-pub record CutAt (told : Bool) (due : Due) (old new : List Slot) (next : CutterState) (rest : List ℕ) : Type 0 where
+pub record CutAt (visible : Bool) (due : Due) (old new : List Slot) (next : CutterState) (rest : List ℕ) : Type 0 where
   pub fewer : needed next.lines (state_in next) < needed due.cutter.lines (state_in due.cutter)
-  pub spreading : Spreading told due old new next rest
+  pub spreading : Spreading visible due old new next rest
 
 -- No operand cuts what is left any more, and nothing of it is written or waits yet.
-pub record Spread (told : Bool) (due : Due) (old new : List Slot) (next : CutterState) (left : List ℕ) : Type 0 where
+pub record Spread (visible : Bool) (due : Due) (old new : List Slot) (next : CutterState) (left : List ℕ) : Type 0 where
   pub now : CutterState
-  pub so_far : Spreading told due old new now left
+  pub so_far : Spreading visible due old new now left
   pub is : next ≡ record now { aim = next.aim }
   pub tries : Tries now due.line next None
   pub aim : IsAimed next
@@ -343,11 +343,11 @@ pub record CutAll (due : Due) (more : List ℕ) (next : CutterState) : Type 0 wh
 
 -- What cutting does from the first cut on: it cuts as often as operands cut, and then takes in more lines that aren't
 -- cut.
-pub record CutsAll (told : Bool) (due : Due) (more : List ℕ) (old new : List Slot) (next : CutterState)
+pub record CutsAll (visible : Bool) (due : Due) (more : List ℕ) (old new : List Slot) (next : CutterState)
     (fault : Option Fault) : Type 0 where
   pub keeps : Keeps due.cutter next old new fault
   pub reaches : (x : List ℕ) (at : IsAt (bare due.cutter) x due.left) → CutsNow due x at
-      → Puts due.cutter next (part_at at) (settled_part due.cutter (x ++ more)) (effect told old new) fault
+      → Puts due.cutter next (part_at at) (settled_part due.cutter (x ++ more)) (effect visible old new) fault
   pub went : IfNone fault (CutAll due more next)
 
 -- how many lines past the last one the next cut may stand
@@ -428,29 +428,29 @@ pub record Extends (stretch : Stretch) (next : CutterState) (result : Result Pas
   pub found : IfOk result (λ passed. IfSome passed.found (IsNextFound next (drop n (others_in stretch))))
 
 -- A stretch of the text was taken in, with its first line at least; or a fault came among its bytes.
-pub record Stretches (told : Bool) (cutter : CutterState) (stretch : Stretch) (old new : List Slot)
+pub record Stretches (visible : Bool) (cutter : CutterState) (stretch : Stretch) (old new : List Slot)
     (next : CutterState) (result : Result Passed Fault) : Type 0 where
   pub on : Extends stretch next result
-  pub took : Takes told cutter (first_in stretch ++ take on.n (others_in stretch)) old new next (fault_in result)
+  pub took : Takes visible cutter (first_in stretch ++ take on.n (others_in stretch)) old new next (fault_in result)
 
 -- The lines after the first line were passed over, and then held with what is left of the first line.
-pub record PassesThenHolds (told : Bool) (cutter : CutterState) (left : List ℕ) (stretch : Stretch)
+pub record PassesThenHolds (visible : Bool) (cutter : CutterState) (left : List ℕ) (stretch : Stretch)
     (old new : List Slot) (next : CutterState) (result : Result Passed Fault) : Type 0 where
   pub on : Extends stretch next result
   pub mid : CutterState
   pub over : PassesOver cutter (others_in stretch) mid on.n
-  pub held : HoldsLines told mid (mid.window.held ++ (left ++ take on.n (others_in stretch))) old new next
+  pub held : HoldsLines visible mid (mid.window.held ++ (left ++ take on.n (others_in stretch))) old new next
       (fault_in result)
 
 -- The first line was cut, and the lines after it that aren't cut were taken in.
-pub record CutsOn (told : Bool) (cutter : CutterState) (cut : CutPoint) (stretch : Stretch) (old new : List Slot)
+pub record CutsOn (visible : Bool) (cutter : CutterState) (cut : CutPoint) (stretch : Stretch) (old new : List Slot)
     (next : CutterState) (result : Result Passed Fault) : Type 0 where
   pub on : Extends stretch next result
-  pub all : CutsAll told (due cutter cut cutter.lines (first_in stretch) (first_in stretch))
+  pub all : CutsAll visible (due cutter cut cutter.lines (first_in stretch) (first_in stretch))
       (take on.n (others_in stretch)) old new next (fault_in result)
 
 -- what is written if the input ends after these lines
-abbrev pub whole_part : CutterState → List ℕ → Part
+abbrev pub whole_part : CutterState → List ℕ → Written
 whole_part cutter x = whole_of cutter.style cutter.operands (all_lines x)
 
 -- what standard output gets about files
@@ -466,21 +466,22 @@ abbrev pub writer_for : Style → WriterState
 writer_for style = paused (new_for style)
 
 -- The first section could not begin, which would have made this part: a file could not be made, or memory was lacking.
-pub record BegunNot (told : Bool) (style : Style) (part : Part) (old new : List Slot) (fault : Fault) : Type 0 where
-  pub reaches : Reaches (sizes_wanted style) (writer_for style) (writer_for style) nothing part (effect told old new)
+pub record BegunNot (visible : Bool) (style : Style) (part : Written) (old new : List Slot) (fault : Fault)
+    : Type 0 where
+  pub reaches : Reaches (sizes_wanted style) (writer_for style) (writer_for style) nothing part (effect visible old new)
       (Some fault)
   pub breaks : Breaks (manner_of style) old new fault
   -- no file was made
   pub none : HasNoFiles (length old) new
 
 -- The first section began, and no line came in yet.
-pub record Opened (told : Bool) (style : Style) (operands : List Operand) (old new : List Slot)
+pub record Opened (visible : Bool) (style : Style) (operands : List Operand) (old new : List Slot)
     (cutter : CutterState) : Type 0 where
   pub asked : cutter.style ≡ style
   pub operands_are : cutter.operands ≡ operands
   pub stands : Stands cutter []
   pub reaches : Reaches (sizes_wanted style) (writer_for style) cutter.writer nothing (settled_of style operands [])
-      (effect told old new) None
+      (effect visible old new) None
   pub owns : OwnsFiles cutter.writer (length old) new
   pub ready : IsReady cutter.writer new
   pub output : IsTrue (is_writable old 0) → IsTrue (is_writable new 0)
@@ -490,15 +491,15 @@ pub record Opened (told : Bool) (style : Style) (operands : List Operand) (old n
   pub size : load cutter ≡ 0
 
 abbrev pub Opens : Bool → Style → List Operand → List Slot → List Slot → Result LineCutter Fault → Type 0
-Opens told style operands old new (Ok cutter) = Opened told style operands old new (seen cutter)
-Opens told style operands old new (Err fault) = BegunNot told style (settled_of style operands []) old new fault
+Opens visible style operands old new (Ok cutter) = Opened visible style operands old new (seen cutter)
+Opens visible style operands old new (Err fault) = BegunNot visible style (settled_of style operands []) old new fault
 
 -- The last section ended, or a fault came before that. Where the plan ends stays known.
-pub record EndsAll (told : Bool) (cutter : CutterState) (old new : List Slot) (next : CutterState)
+pub record EndsAll (visible : Bool) (cutter : CutterState) (old new : List Slot) (next : CutterState)
     (fault : Option Fault) : Type 0 where
   pub keeps : Keeps cutter next old new fault
   pub reaches : (x : List ℕ) → Stands cutter x
-      → Puts cutter next (settled_part cutter x) (whole_part cutter x) (effect told old new) fault
+      → Puts cutter next (settled_part cutter x) (whole_part cutter x) (effect visible old new) fault
   pub judged : IfNone fault ((x : List ℕ) → Stands cutter x → IsJudged next x)
 
 -- The files that were there are removed, and the files are left whose removal failed.
@@ -515,18 +516,18 @@ pub record Came (stage : CsplitState) (piece : List ℕ) (next : CsplitState) : 
   pub size : load next.cutter + length next.rest ≤ load stage.cutter + length stage.rest + length piece
 
 -- The complete lines of the open line and a piece went to the cutter, or a fault came among them.
-pub record Passes (told : Bool) (stage : CsplitState) (piece : List ℕ) (old new : List Slot) (next : CsplitState)
+pub record Passes (visible : Bool) (stage : CsplitState) (piece : List ℕ) (old new : List Slot) (next : CsplitState)
     (result : Result (Unit {0}) Fault) : Type 0 where
-  pub took : Takes told stage.cutter (whole_lines (stage.rest ++ piece)) old new next.cutter (fault_in result)
+  pub took : Takes visible stage.cutter (whole_lines (stage.rest ++ piece)) old new next.cutter (fault_in result)
   pub passed : OnOk result (Came stage piece next)
 
 -- The open line came in, if there was one, and the last section ended; or a fault came before that.
-pub record Closed (told : Bool) (stage : CsplitState) (old new : List Slot) (next : CsplitState)
+pub record Closed (visible : Bool) (stage : CsplitState) (old new : List Slot) (next : CsplitState)
     (fault : Option Fault) : Type 0 where
   pub keeps : Keeps stage.cutter next.cutter old new fault
   pub reaches : (x : List ℕ) → IsWhole x → Stands stage.cutter x
       → Puts stage.cutter next.cutter (settled_part stage.cutter x) (whole_part stage.cutter (x ++ stage.rest))
-      (effect told old new) fault
+      (effect visible old new) fault
   pub judged : IfNone fault ((x : List ℕ) → IsWhole x → Stands stage.cutter x → IsJudged next.cutter (x ++ stage.rest))
 
 -- the cutter's verdict after the last section is the verdict with which the plan over all lines ends
@@ -535,11 +536,13 @@ Judges cutter verdict = (x : List ℕ) → IsJudged cutter x
     → verdict ≡ verdict_of (plan_in cutter x).ending
 
 -- How the end went: well; or a fault came before the end; or the end came, and the work ends with a verdict.
-pub data Closes (told : Bool) (stage : CsplitState) (old new : List Slot) (next : CsplitState) : Result (Unit {0}) Fault
+pub data Closes (visible : Bool) (stage : CsplitState) (old new : List Slot) (next : CsplitState) : Result
+    (Unit {0}) Fault
     → Type 0 where
-  ended_well : Closed told stage old new next None → Judges next.cutter None → Closes told stage old new next (Ok tt)
-  ended_short : (fault : Fault) → Closed told stage old new next (Some fault)
-      → Closes told stage old new next (Err fault)
-  ended_so : (verdict : Verdict) (mid : CsplitState) (reached : List Slot) → Closed told stage old reached mid None
+  ended_well : Closed visible stage old new next None → Judges next.cutter None
+      → Closes visible stage old new next (Ok tt)
+  ended_short : (fault : Fault) → Closed visible stage old new next (Some fault)
+      → Closes visible stage old new next (Err fault)
+  ended_so : (verdict : Verdict) (mid : CsplitState) (reached : List Slot) → Closed visible stage old reached mid None
       → Judges mid.cutter (Some verdict) → Sweeps terms mid next reached new
-      → Closes told stage old new next (Err (fault_is.Verdict verdict))
+      → Closes visible stage old new next (Err (fault_is.Verdict verdict))

@@ -7,7 +7,7 @@ use Rattle.seg_core.{
   specs.Line.{lines_of, delimiters},
   proofs.{Delimiters.delimiters-append, FirstLines.{first_lines-full, lines_of-first_lines}},
 }
-use Rattle.ports_core.specs.{Part.Begins, Work.IsLawful}
+use Rattle.engine_core.specs.{Written.Begins, Work.IsLawful}
 use Rattle.csplit_core.specs.{
   Operand.{Operand, Line},
   Output.Style,

@@ -4,16 +4,11 @@ use Rattle.std.proofs.{
   Common.{rules, ◌≡◌, ◌⊎◌, inl, inr, ℕ, zero, suc, ◌+◌, ◌-◌, ◌≤◌, Bool, true, false, cond, List, [], ◌∷◌, ◌++◌},
   Common.{length, map, take, drop, refl, sym, subst, arith, append_assoc, length-append},
 }
-use Rattle.ports_core.{
-  specs.{
-    Draft.{share, made_of, part_of as part_by},
-    Part.Begins,
-    Slot.has_file,
-    inner.Shares.SharesBegin,
-    declared.slot.State.TheVariants.{Open, Closed},
-  },
+use Rattle.engine_core.{
+  specs.{Draft.{share, made_of, part_of as part_by}, Written.Begins, inner.Shares.SharesBegin},
   proofs.ShareLemmas.{made_begin, part_grows, shares_wider},
 }
+use Rattle.ports_core.specs.{Slot.has_file, declared.slot.State.TheVariants.{Open, Closed}}
 use Rattle.csplit_core.specs.{
   Operand.{Operand, Line},
   Plan.{State, Step, Ending, Plan, Runs, is_used_up, misses, is_above, is_below, cuts},

@@ -1,6 +1,6 @@
 use Rattle.std.proofs.Common.{◌∙◌, ℕ, List, None, ap, false, inl, map, string_bytes, subst}
 use Rattle.ports_core.specs.Source.{source_at}
-use Rattle.tools_core.specs.{Program.ProgramEnds, Run.{Run, visible}}
+use Rattle.tools_core.specs.{Program.ProgramEnds, Run.{Run, visible_by}}
 use Rattle.watch_core.specs.DirWatchState.{DirWatchState, files_by, seen}
 use Rattle.cutters.proofs.run_args.Goals as goal
 
@@ -24,6 +24,6 @@ returns-in-Ok c =
     let watch = c.watch_for-watch.result in
     inl (
       ran words watch,
-      subst (λ watch. ProgramEnds (visible false false false) (ran words watch)) c.watch_for-watch.ensures
-          (subst (λ words. ProgramEnds (visible false false false) (ran words watch)) same c.run_words.ensures.ends),
+      subst (λ watch. ProgramEnds (visible_by false false false) (ran words watch)) c.watch_for-watch.ensures
+          (subst (λ words. ProgramEnds (visible_by false false false) (ran words watch)) same c.run_words.ensures.ends),
     )

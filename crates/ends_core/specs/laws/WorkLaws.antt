@@ -4,17 +4,14 @@ use Rattle.std.proofs.{
   Common.{◌≡◌, ℕ, ◌-◌, ◌<◌, ◌≤◌, ◌&&◌, zero, suc, not, List, [], ◌++◌, length, Bool, true, false, Some, None},
   Common.{cond, nat_le, refl, sym, ◌∙◌, ap, arith, rules, drop, take, inl, inr, length-append},
 }
-use Rattle.ports_core.{
-  specs.{
-    Part.{nothing, only_out, Begins},
-    Work.{IsComplete, IsLawful},
-    declared.verdict.Verdict.TheVariants.Changed,
-  },
-  proofs.PartLemmas.{out_begins, part_begins_itself},
+use Rattle.engine_core.{
+  specs.{Written.{nothing, only_out, Begins}, Work.{IsComplete, IsLawful}},
+  proofs.WrittenLemmas.{out_begins, part_begins_itself},
 }
+use Rattle.ports_core.specs.declared.verdict.Verdict.TheVariants.{Changed}
 use Rattle.seg_core.specs.declared.unit.Unit.{Unit as Counted, TheVariants.Bytes}
 use Rattle.ends_core.specs.{
-  declared.ends.Ends.{Ends, TheVariants.{First, ButLast, FromNth, Last, Between}},
+  declared.ends.Portion.{Portion, TheVariants.{First, ButLast, FromNth, Last, Between}},
   Ends.{measure, first_of, after_of, last_of, but_last_of, head_of, tail_of},
   Head.head_work,
   Tail.tail_work,
@@ -119,7 +116,7 @@ between_lawful from end = record {
   });
 }
 
-pub lawful : (ends : Ends) → IsLawful (work ends)
+pub lawful : (ends : Portion) → IsLawful (work ends)
 lawful (First count front) = head_lawful front.delim front.unit false count
 lawful (ButLast kept) = head_lawful (delim_of (ButLast kept)) (unit_of (ButLast kept)) true (count_of (ButLast kept))
 lawful (FromNth count front) = tail_lawful front.delim front.unit true count

@@ -1,6 +1,7 @@
 ghost use Rattle.std.specs.Prelude.{◌<◌, ◌≤◌, length};
 
-use ports_core::{Alphabet, Fault, Naming, Numbering, Outs, Tells};
+use engine_core::Tells;
+use ports_core::{Alphabet, Fault, Naming, Numbering, Outs};
 use split_core::{Cut, Limit, Splitter, Way};
 use std::alloc::Global;
 

@@ -41,15 +41,17 @@ abbrev pub pen : PrinterState → List Slot → Pen
 pen printer slots = record { printer = printer; slots = slots }
 
 -- the outputs got bytes and remarks of a name, or the remarks and a beginning of the bytes before this fault
-pub record Came (told is_opened : Bool) (name bytes : List ℕ) (remarks : List Remark) (old new : Pen)
+pub record Came (visible is_opened : Bool) (name bytes : List ℕ) (remarks : List Remark) (old new : Pen)
     (over : Option Fault) : Type 0 where
   pub printer_is : over ≡ None → new.printer ≡ printer_under old.printer is_opened name bytes
-  pub slots : WroteBy told old.printer.calling (text_under old.printer is_opened name bytes) remarks old.slots new.slots
+  pub slots : WroteBy visible old.printer.calling
+      (text_under old.printer is_opened name bytes) remarks old.slots new.slots
       over
 
 -- the outputs got a share, or its lines and a beginning of its bytes before this fault
 abbrev pub Shared : Bool → Share → (old new : Pen) → Option Fault → Type 0
-Shared told share old new over = Came told share.is_opened share.name (bytes_of share) (remarks_of share) old new over
+Shared visible share old new over =
+    Came visible share.is_opened share.name (bytes_of share) (remarks_of share) old new over
 
 -- what stopped a call on a name, if anything did
 abbrev pub stop_in : {T : Type 0} → Result T Stop → Option Stop
@@ -72,14 +74,14 @@ ArePut None bytes due = bytes ≡ due
 ArePut (Some why) bytes due = IsFront bytes due
 
 -- standard output got the bytes that are due of a name, or a beginning of them if following ended
-pub record Puts (told is_opened : Bool) (name due : List ℕ) (old new : Pen) (over : Option Fault) : Type 0 where
+pub record Puts (visible is_opened : Bool) (name due : List ℕ) (old new : Pen) (over : Option Fault) : Type 0 where
   pub bytes : List ℕ
   pub are : ArePut over bytes due
-  pub came : Came told is_opened name bytes [] old new over
+  pub came : Came visible is_opened name bytes [] old new over
 
 -- if a file is open, it was found to hold this many bytes
-abbrev pub HoldsMany : (told : Bool) → Snapshot → Watched → ℕ → Type 0
-HoldsMany told snapshot watched len = IsLong told false snapshot watched.name watched.opened len
+abbrev pub HoldsMany : (visible : Bool) → Snapshot → Watched → ℕ → Type 0
+HoldsMany visible snapshot watched len = IsLong visible false snapshot watched.name watched.opened len
 
 -- following is over: there was no memory, or standard output is broken; standard error can still get a message
 abbrev pub HasStopped : Fault → List Slot → Type 0
@@ -123,21 +125,21 @@ Keeps place old new fate (Some (Broke why)) = BrokeAt place old new fate why × 
 Keeps place old new fate (Some (Over why)) = new ≡ old
 
 -- the call opened the file to which the name leads; if it failed, the name broke; no other name changed
-abbrev pub Follows : (told : Bool) → Option ℕ → ℕ → List Watched → List Watched → Fate → Option Stop → Type 0
-Follows told led place old new fate None = (file : Option ℕ) × (new ≡ changed_at place (opens file) old)
-    × (told ≡ true → file ≡ led)
-Follows told led place old new fate (Some (Broke why)) = BrokeAt place old new fate why
-Follows told led place old new fate (Some (Over why)) = (file : Option ℕ) × (new ≡ changed_at place (opens file) old)
+abbrev pub Follows : (visible : Bool) → Option ℕ → ℕ → List Watched → List Watched → Fate → Option Stop → Type 0
+Follows visible led place old new fate None = (file : Option ℕ) × (new ≡ changed_at place (opens file) old)
+    × (visible ≡ true → file ≡ led)
+Follows visible led place old new fate (Some (Broke why)) = BrokeAt place old new fate why
+Follows visible led place old new fate (Some (Over why)) = (file : Option ℕ) × (new ≡ changed_at place (opens file) old)
 
 -- what a look sees, and whether that and the outputs are visible
 pub record Sight : Type 0 where
-  pub told_in : Bool
-  pub told : Bool
+  pub visible_in : Bool
+  pub visible : Bool
   pub snapshot : Snapshot
 
 -- what the last of these looks sees
-abbrev pub sight : (told_in told : Bool) → List Snapshot → Sight
-sight told_in told seen = record { told_in = told_in; told = told; snapshot = latest seen }
+abbrev pub sight : (visible_in visible : Bool) → List Snapshot → Sight
+sight visible_in visible seen = record { visible_in = visible_in; visible = visible; snapshot = latest seen }
 
 -- the watched names, the printer and the outputs between two calls
 pub record Moment : Type 0 where
@@ -155,11 +157,11 @@ ByStop Is fate (Some (Broke why)) events = Is (Some fate) events
 ByStop Is fate (Some (Over why)) events = (all : List Event) × Is None all × Begins events all
 
 -- the outputs got events of a name
-pub record Yields (told : Bool) (Is : Option Fate → List Event → Type 0) (fate : Fate) (is_opened : Bool)
+pub record Yields (visible : Bool) (Is : Option Fate → List Event → Type 0) (fate : Fate) (is_opened : Bool)
     (name : List ℕ) (old new : Moment) (stop : Option Stop) : Type 0 where
   pub events : List Event
   pub given : ByStop Is fate stop events
-  pub came : Came told is_opened name (bytes_in events) (remarks_in name events) old.pen new.pen (over_by stop)
+  pub came : Came visible is_opened name (bytes_in events) (remarks_in name events) old.pen new.pen (over_by stop)
 
 -- these are the events, however far calls came
 abbrev pub Are : List Event → Option Fate → List Event → Type 0
@@ -170,7 +172,8 @@ pub record Copies (see : Sight) (from place : ℕ) (name : List ℕ) (len : ℕ)
     : Type 0 where
   pub fate : Fate
   pub ends : let known = watched_at old.watched place in
-      Yields see.told (ReadOn see.told_in see.snapshot known.name known.opened from len) fate false name old new stop
+      Yields see.visible
+      (ReadOn see.visible_in see.snapshot known.name known.opened from len) fate false name old new stop
   pub keeps : Keeps place old.watched new.watched fate stop
 
 -- The first look wrote its part of the open file. Before that it sought where this part begins, if `seeks` says so.
@@ -178,7 +181,8 @@ pub record Starts (see : Sight) (seeks : Bool) (start : List ℕ → List ℕ) (
     (old new : Moment) (stop : Option Stop) : Type 0 where
   pub fate : Fate
   pub ends : let known = watched_at old.watched place in
-      Yields see.told (First see.told_in see.snapshot known.name known.opened seeks start) fate false name old new stop
+      Yields see.visible
+      (First see.visible_in see.snapshot known.name known.opened seeks start) fate false name old new stop
   pub keeps : Keeps place old.watched new.watched fate stop
 
 -- A call gave what the open file adds to a name. Before the call `position` bytes of it were seen, and after it all.
@@ -186,9 +190,9 @@ pub record Adds (see : Sight) (place : ℕ) (name : List ℕ) (position : ℕ) (
     (result : Result ℕ Stop) : Type 0 where
   pub fate : Fate
   pub ends : let known = watched_at old.watched place in
-      Yields see.told (Caught see.told_in see.snapshot known.name known.opened position) fate false name old new
+      Yields see.visible (Caught see.visible_in see.snapshot known.name known.opened position) fate false name old new
       (stop_in result)
-  pub long : IfOk result (HoldsMany see.told_in see.snapshot (watched_at old.watched place))
+  pub long : IfOk result (HoldsMany see.visible_in see.snapshot (watched_at old.watched place))
   pub keeps : Keeps place old.watched new.watched fate (stop_in result)
 
 -- a call gave what came of where the name leads, and followed the name there, if names are followed
@@ -196,12 +200,12 @@ pub record Leads (see : Sight) (by_name : Bool) (place : ℕ) (name : List ℕ) 
     (result : Result ℕ Stop) : Type 0 where
   pub fate : Fate
   pub ends : let known = watched_at old.watched place in
-      Yields see.told (LedTo see.told_in by_name see.snapshot known.name known.opened) fate false name old new
+      Yields see.visible (LedTo see.visible_in by_name see.snapshot known.name known.opened) fate false name old new
       (stop_in result)
-  pub long : HoldsMany see.told_in see.snapshot (watched_at old.watched place) position
+  pub long : HoldsMany see.visible_in see.snapshot (watched_at old.watched place) position
       → let now = watched_at new.watched place in IfOk result
-      (IsLong see.told_in by_name see.snapshot now.name now.opened)
-  pub follows : Follows see.told_in (open_after_look by_name name (watched_at old.watched place).opened see.snapshot)
+      (IsLong see.visible_in by_name see.snapshot now.name now.opened)
+  pub follows : Follows see.visible_in (open_after_look by_name name (watched_at old.watched place).opened see.snapshot)
       place old.watched new.watched fate (stop_in result)
 
 -- What a later look at a name gives, without the message about a call that failed. Before the look `position` bytes of
@@ -210,9 +214,10 @@ pub record LooksAgain (see : Sight) (by_name : Bool) (place : ℕ) (name : List 
     (result : Result ℕ Stop) : Type 0 where
   pub fate : Fate
   pub ends : let known = watched_at old.watched place in
-      Yields see.told (Later see.told_in by_name see.snapshot known.name known.opened position) fate false name old new
+      Yields see.visible
+      (Later see.visible_in by_name see.snapshot known.name known.opened position) fate false name old new
       (stop_in result)
   pub long : let now = watched_at new.watched place in
-      IfOk result (IsLong see.told_in by_name see.snapshot now.name now.opened)
-  pub follows : Follows see.told_in (open_after_look by_name name (watched_at old.watched place).opened see.snapshot)
+      IfOk result (IsLong see.visible_in by_name see.snapshot now.name now.opened)
+  pub follows : Follows see.visible_in (open_after_look by_name name (watched_at old.watched place).opened see.snapshot)
       place old.watched new.watched fate (stop_in result)

@@ -45,14 +45,14 @@ any_goes_on by_name (name ∷ names) = goes_on_as by_name name.standing || any_g
 pub record Stopped (see : Sight) (ways : Ways) (before : List Look) (name : List ℕ) (old new : Moment) (why : Fault)
     : Type 0 where
   pub share : Share
-  pub begins : see.told_in ≡ true → (visits : List Visit)
+  pub begins : see.visible_in ≡ true → (visits : List Visit)
       → BeginsShare share (share_by ways name before (record { snapshot = see.snapshot; visits = visits }) sound_visit)
-  pub found : IsBegun see.told_in ways before see.snapshot name share
-  pub short : Shared see.told share old.pen new.pen (Some why)
+  pub found : IsBegun see.visible_in ways before see.snapshot name share
+  pub short : Shared see.visible share old.pen new.pen (Some why)
 
 -- standard error got the message that a call on the name failed with this fault, and for this reason
 abbrev pub SaysFailed : Bool → Calling → List ℕ → Reason → Fault → List Slot → List Slot → Type 0
-SaysFailed told calling name why fault = SaysOn told (tail_by calling) why (failure_message fault name)
+SaysFailed visible calling name why fault = SaysOn visible (tail_by calling) why (failure_message fault name)
 
 -- A call on the name failed: that is reported, as `Says` says, and the name is dropped. Or following ends: nothing more
 -- is reported.
@@ -76,17 +76,17 @@ pub record Visited (see : Sight) (ways : Ways) (looks : List Look) (place : ℕ)
   pub visit : Visit
   pub share : Share
   pub found : (visits : List Visit) → visit_at place (record { snapshot = see.snapshot; visits = visits }) ≡ visit
-      → IsGiven see.told_in ways looks (record { snapshot = see.snapshot; visits = visits }) place now.text share
+      → IsGiven see.visible_in ways looks (record { snapshot = see.snapshot; visits = visits }) place now.text share
   pub is_failed : is_some share.failure ≡ failed
-  pub shared : Shared see.told share old.pen new.pen None
+  pub shared : Shared see.visible share old.pen new.pen None
   pub stands : (visits : List Visit) → visit_at place (record { snapshot = see.snapshot; visits = visits }) ≡ visit
-      → Stands see.told_in ways (looks ++ record { snapshot = see.snapshot; visits = visits } ∷ []) place now.text
+      → Stands see.visible_in ways (looks ++ record { snapshot = see.snapshot; visits = visits } ∷ []) place now.text
       (watched_at new.watched place) now.standing
 
 -- the name stands so before a look, after these looks
 abbrev pub StandsBefore : Sight → Ways → List Look → ℕ → NameState → Moment → Type 0
 StandsBefore see ways looks place one old =
-    Stands see.told_in ways looks place one.text (watched_at old.watched place) one.standing
+    Stands see.visible_in ways looks place one.text (watched_at old.watched place) one.standing
 
 -- What a look leaves at one name, by how the name stood, whatever looks were made before. The outputs have what the
 -- look gives for the name; or the look was stopped. If it wasn't, the name can be looked at again, or is looked at no
@@ -115,21 +115,22 @@ pub record VisitedTo (see : Sight) (ways : Ways) (looks : List Look) (place : �
   pub shares : List Share
   pub count : length visits ≡ ways.first + place
   pub found : (all : List Visit) → IsFront visits all
-      → AreAtLook see.told_in ways looks (record { snapshot = see.snapshot; visits = all }) ways.first
+      → AreAtLook see.visible_in ways looks (record { snapshot = see.snapshot; visits = all }) ways.first
       (take place (texts names)) shares
   pub is_failed : any_failed shares ≡ failed
-  pub shared : AllShared see.told old.pen.printer shares old.pen.slots new.pen.printer new.pen.slots
+  pub shared : AllShared see.visible old.pen.printer shares old.pen.slots new.pen.printer new.pen.slots
   pub done : (all : List Visit) → IsFront visits all → (other : ℕ) → other < place
-      → StandsAmong see.told_in ways (looks ++ record { snapshot = see.snapshot; visits = all } ∷ []) names new.watched
+      → StandsAmong see.visible_in ways
+      (looks ++ record { snapshot = see.snapshot; visits = all } ∷ []) names new.watched
       other
   pub rest : (other : ℕ) → place ≤ other → other < length names
-      → StandsAmong see.told_in ways looks names new.watched other
+      → StandsAmong see.visible_in ways looks names new.watched other
 
 -- the names stand as after these looks, and the first of them has this number
-pub record StandFrom (told_in : Bool) (ways : Ways) (looks : List Look) (first : ℕ) (names : List NameState)
+pub record StandFrom (visible_in : Bool) (ways : Ways) (looks : List Look) (first : ℕ) (names : List NameState)
     (watched : List Watched) : Type 0 where
   pub numbered : 0 < length names → first ≡ ways.first
-  pub stand : AllStand told_in ways looks names watched
+  pub stand : AllStand visible_in ways looks names watched
   pub many : length watched ≡ ways.first + length names
 
 -- What a look at all these names leaves, whatever looks were made before. The first name has this number.
@@ -137,14 +138,14 @@ pub record VisitsAll (see : Sight) (ways : ℕ → Ways) (first : ℕ) (names : 
     (names_new : List NameState) (new : Moment) (result : Result Bool Fault) : Type 0 where
   pub same : OnOk result (texts names_new ≡ texts names)
   pub visited : IfOk result (λ failed. (from : ℕ) (looks : List Look)
-      → StandFrom see.told_in (ways from) looks first names old.watched
+      → StandFrom see.visible_in (ways from) looks first names old.watched
       → VisitedTo see (ways from) looks (length names) names_new old new failed)
   pub stopped : IfErr result (λ why. (from : ℕ) (looks : List Look)
-      → StandFrom see.told_in (ways from) looks first names old.watched → (whole part : List Share)
-      × Begun see.told_in (ways from) (texts names) looks see.snapshot new.watched whole part
+      → StandFrom see.visible_in (ways from) looks first names old.watched → (whole part : List Share)
+      × Begun see.visible_in (ways from) (texts names) looks see.snapshot new.watched whole part
       × (mid : PrinterState) × (reached : List Slot)
-      × AllShared see.told old.pen.printer whole old.pen.slots mid reached
-      × AllShort see.told mid part reached new.pen.slots why)
+      × AllShared see.visible old.pen.printer whole old.pen.slots mid reached
+      × AllShort see.visible mid part reached new.pen.slots why)
   pub ready : OnOk result (AllReady names_new first new.watched)
   pub count : length new.watched ≡ length old.watched
   pub others : (number : ℕ) → ((place : ℕ) → place < length names → number ≡ first + place → ⊥)
@@ -166,22 +167,22 @@ CanBegin follow watched = elim follow.phase [
 ]
 
 -- all names are watched, what was true after the looks before is still true, and the names of others are as they were
-pub record BeginsLook (told_in : Bool) (old : FollowState) (watched : List Watched) (new : FollowState)
+pub record BeginsLook (visible_in : Bool) (old : FollowState) (watched : List Watched) (new : FollowState)
     (watched_new : List Watched) : Type 0 where
   pub phase : new.phase ≡ Looking
   pub ready : AllReady new.names new.first watched_new
   pub others : (number : ℕ) → IsOther old watched number
       → IsOther new watched_new number × (watched_at watched_new number ≡ watched_at watched number)
-  pub holds : (told : Bool) (asked : Asked) (looks : List Look) (slots : List Slot)
-      → Holds told_in told asked looks (point old watched slots)
-      → Holds told_in told asked looks (point new watched_new slots)
+  pub holds : (visible : Bool) (asked : Asked) (looks : List Look) (slots : List Slot)
+      → Holds visible_in visible asked looks (point old watched slots)
+      → Holds visible_in visible asked looks (point new watched_new slots)
 
 -- one more look was made, which saw this, and `result` says whether it failed; or the look was stopped
-pub record MakesLook (told_in told : Bool) (snapshot : Snapshot) (seen : List Snapshot) (old : Point)
+pub record MakesLook (visible_in visible : Bool) (snapshot : Snapshot) (seen : List Snapshot) (old : Point)
     (seen_new : List Snapshot) (new : Point) (result : Result Bool Fault) : Type 0 where
-  pub looked : IfOk result (λ failed. LooksOn told_in told snapshot old
+  pub looked : IfOk result (λ failed. LooksOn visible_in visible snapshot old
       (record new { follow = record new.follow { has_failed = new.follow.has_failed || failed } }))
-  pub stopped : IfErr result (StopsOn told_in told snapshot old new.watched new.slots)
+  pub stopped : IfErr result (StopsOn visible_in visible snapshot old new.watched new.slots)
   pub seen_is : OnOk result (seen_new ≡ seen ++ snapshot ∷ [])
   pub saw : IfErr result (λ why. SawOrNot seen snapshot seen_new)
   pub phase : OnOk result (new.follow.phase ≡ Looking)
@@ -194,40 +195,43 @@ pub record MakesLook (told_in told : Bool) (snapshot : Snapshot) (seen : List Sn
 
 -- As many looks were made as were asked for, or fewer, after which nothing more can come. The outputs have what these
 -- looks give.
-pub record LookedAll (told_in told : Bool) (asked : Asked) (count : ℕ) (shows : ℕ → Snapshot) (now : Point)
+pub record LookedAll (visible_in visible : Bool) (asked : Asked) (count : ℕ) (shows : ℕ → Snapshot) (now : Point)
     (seen : List Snapshot) : Type 0 where
   pub looks : List Look
   pub observed : seen ≡ snapshots looks
-  pub made : Made told_in asked.ways asked.names shows looks
+  pub made : Made visible_in asked.ways asked.names shows looks
   pub within : length looks ≤ count
   pub over : length looks < count → (0 < length looks)
-      × (told_in ≡ true → is_alive asked.ways asked.names looks ≡ false) × NoneGoesOn asked.ways now.watched
-  pub holds : Holds told_in told asked looks now
+      × (visible_in ≡ true → is_alive asked.ways asked.names looks ≡ false) × NoneGoesOn asked.ways now.watched
+  pub holds : Holds visible_in visible asked looks now
 
 -- Fewer looks were made than were asked for, and a further look could give something. Then it was found that nobody
 -- reads standard output any more, and nothing was written but what these looks give.
-pub record FoundUnread (told_in told : Bool) (asked : Asked) (count : ℕ) (shows : ℕ → Snapshot) (now : Point)
+pub record FoundUnread (visible_in visible : Bool) (asked : Asked) (count : ℕ) (shows : ℕ → Snapshot) (now : Point)
     (seen : List Snapshot) : Type 0 where
   pub looks : List Look
   pub observed : seen ≡ snapshots looks
-  pub made : Made told_in asked.ways asked.names shows looks
+  pub made : Made visible_in asked.ways asked.names shows looks
   pub fewer : length looks < count
-  pub alive : told_in ≡ true → 0 < length looks → is_alive asked.ways asked.names looks ≡ true
+  pub alive : visible_in ≡ true → 0 < length looks → is_alive asked.ways asked.names looks ≡ true
   pub before : List Slot
   pub broke : now.slots ≡ with_broken Gone 0 before
-  pub holds : Holds told_in told asked looks (record now { slots = before })
+  pub holds : Holds visible_in visible asked looks (record now { slots = before })
 
 -- how looks in turn came to their end, by what they return
-abbrev pub MadeLooks : (told_in told : Bool) → Asked → (count : ℕ) → (ℕ → Snapshot) → Point → List Snapshot
+abbrev pub MadeLooks : (visible_in visible : Bool) → Asked → (count : ℕ) → (ℕ → Snapshot) → Point → List Snapshot
     → Result End Fault → Type 0
-MadeLooks told_in told asked count shows now seen (Ok Looked) = LookedAll told_in told asked count shows now seen
-MadeLooks told_in told asked count shows now seen (Ok Unread) = FoundUnread told_in told asked count shows now seen
-MadeLooks told_in told asked count shows now seen (Err why) =
-    StoppedIn told_in told asked count shows (remains seen now.watched now.slots) why
+MadeLooks visible_in visible asked count shows now seen (Ok Looked) =
+    LookedAll visible_in visible asked count shows now seen
+MadeLooks visible_in visible asked count shows now seen (Ok Unread) =
+    FoundUnread visible_in visible asked count shows now seen
+MadeLooks visible_in visible asked count shows now seen (Err why) =
+    StoppedIn visible_in visible asked count shows (remains seen now.watched now.slots) why
 
 -- looks in turn were made up to these limits, and came to their end
-abbrev pub LooksInTurn : (told_in told : Bool) → Limits → (ℕ → Snapshot) → (old new : Point) → List Snapshot
+abbrev pub LooksInTurn : (visible_in visible : Bool) → Limits → (ℕ → Snapshot) → (old new : Point) → List Snapshot
     → Result End Fault → Type 0
-LooksInTurn told_in told limits shows old new seen result = (most : ℕ)
-    × AreMost told_in limits.process shows limits.looks most
-    × ((asked : Asked) → Holds told_in told asked [] old → MadeLooks told_in told asked most shows new seen result)
+LooksInTurn visible_in visible limits shows old new seen result = (most : ℕ)
+    × AreMost visible_in limits.process shows limits.looks most
+    × ((asked : Asked) → Holds visible_in visible asked [] old
+    → MadeLooks visible_in visible asked most shows new seen result)

@@ -4,7 +4,7 @@ use Rattle.ports_core.specs.{Slot.Slot, Source.{source_of, unshown}, declared.ca
 use Rattle.mem_core.specs.MemInState.{MemInState, file_of, laid_in}
 use Rattle.run_core.specs.RunSteps.{world_of}
 use Rattle.words_core.specs.declared.settings.Settings.{Settings}
-use Rattle.tools_core.specs.Promises.{IsSilent, IsStopped}
+use Rattle.promises_core.specs.Promises.{IsSilent, IsStopped}
 use Rattle.tools_core.specs.Run.{Run}
 
 -- a run of these words, over what is found there, that left these outputs and this status; the rest is that of any run

@@ -2,18 +2,17 @@
 use Rattle.std.specs.{
   Prelude.{◌≡◌, ℕ, Bool, true, false, List, [], ◌∷◌, ◌++◌, length, Option, IfNone, IfSome, IsTrue},
 }
-use Rattle.ports_core.specs.{
+use Rattle.engine_core.specs.{
   Draft.{Draft, Manner, draft_part, made_of, with_next},
   FileWriter.{KeepsOrBreaks, Leaves, Reaches, Writes, WriterState},
-  Part.{Output, Part, OutputsAt, Begins, gets_bytes},
-  Slot.{Effect, Slot, is_writable},
+  Written.{Output, Written, OutputsAt, Begins, gets_bytes},
   InTurn.IsThere,
+  declared.file_writer.Opening.TheVariants.{Late, AtOnce},
+}
+use Rattle.ports_core.specs.{
+  Slot.{Effect, Slot, is_writable},
   Name.has_name,
-  declared.{
-    fault.Fault.{Fault, TheVariants.{Verdict, Write}},
-    verdict.Verdict.TheVariants.Suffixes,
-    file_writer.Opening.TheVariants.{Late, AtOnce},
-  },
+  declared.{fault.Fault.{Fault, TheVariants.{Verdict, Write}}, verdict.Verdict.TheVariants.Suffixes},
 }
 use Rattle.split_core.specs.{
   Parts.CutUp,
@@ -49,9 +48,10 @@ IsOf (in_files filing elide) fault = Unit {0}
 IsOf (in_output chunk) fault = fault ≡ Write 0
 
 -- the outputs have this part, and the slots that were opened are its own
-pub record AtAim (told : Bool) (aim : AimState) (before : List Slot) (part : Part) (now : List Slot) : Type 0 where
+pub record AtAim (visible : Bool) (aim : AimState) (before : List Slot) (part : Written) (now : List Slot)
+    : Type 0 where
   pub owns : OwnsAim aim (length before) now
-  pub outputs : OutputsAt told before part now
+  pub outputs : OutputsAt visible before part now
 
 -- What a call leaves, whatever was cut: its course is the same and its slots are its own; and without a fault it can go
 -- on.
@@ -64,12 +64,13 @@ pub record Stays (on : Course) (aim next : AimState) (old new : List Slot) (faul
   pub ready : IfNone fault (IsAimed next new)
 
 -- Outputs that had the part `low` have the part `high`, or a fault stopped them between the two.
-pub record Brings (on : Course) (aim next : AimState) (low high : Part) (outs : Effect) (fault : Option Fault)
+pub record Brings (on : Course) (aim next : AimState) (low high : Written) (outs : Effect) (fault : Option Fault)
     : Type 0 where
   pub named : IfSome fault (λ why. why ≡ Verdict Suffixes → ⊥)
   pub begins : Begins low high
-  pub reaches : (before : List Slot) → AtAim outs.told aim before low outs.old
-      → IsThere (output_on on) outs.told (AtAim outs.told next before high outs.new) before low high outs.new fault
+  pub reaches : (before : List Slot) → AtAim outs.visible aim before low outs.old
+      → IsThere (output_on on) outs.visible
+      (AtAim outs.visible next before high outs.new) before low high outs.new fault
 
 -- The same of what is written of two texts that are cut up; without a fault the sink may have been given the second.
 pub record Gives (on : Course) (sink next : SinkState) (from to : CutUp) (outs : Effect) (fault : Option Fault)

@@ -1,7 +1,8 @@
 -- What private calls say: chunks of an input, as a stage.
 use Rattle.std.specs.Prelude.{◌≡◌, ℕ, max, Bool, List, length, Option, Result}
 use Rattle.seg_core.specs.declared.unit.Unit.{Unit as Counted}
-use Rattle.ports_core.specs.{Engine.TookIn, Part.Part, Slot.Effect, declared.fault.Fault.Fault}
+use Rattle.engine_core.specs.{Engine.TookIn, Written.Written}
+use Rattle.ports_core.specs.{Slot.Effect, declared.fault.Fault.Fault}
 use Rattle.split_core.specs.{
   Alike.as_if,
   ChunkerState.{ChunkerState, Holds, course, work},
@@ -37,7 +38,7 @@ pub record IsLike (chunker next : ChunkerState) : Type 0 where
   pub chunks : next.cutter.chunks ≡ chunker.cutter.chunks
 
 -- the outputs went from what is settled to this part, or a fault stopped them between the two
-pub record Comes (chunker next : ChunkerState) (high : List ℕ → Part) (outs : Effect) (fault : Option Fault)
+pub record Comes (chunker next : ChunkerState) (high : List ℕ → Written) (outs : Effect) (fault : Option Fault)
     : Type 0 where
   pub stays : Stays (course chunker.cutter) chunker.cutter.sink.aim next.cutter.sink.aim outs.old outs.new fault
   pub brings : (x : List ℕ) → Holds chunker x

@@ -1,6 +1,6 @@
 -- What private calls say of chunks.
 use Rattle.std.specs.{Prelude.{ℕ, ◌≡◌, ◌+◌, ◌<◌, ◌≤◌, List, [], ◌∷◌, ◌++◌, drop, length, map}, List.range_with_len}
-use Rattle.ports_core.specs.Part.{IsBeginning}
+use Rattle.engine_core.specs.Written.{IsBeginning}
 use Rattle.seg_core.specs.declared.cut.Chunks.{Chunks}
 use Rattle.split_core.specs.{Chunks.{before_chunk, chunk_at, chunk_start, passed}, Parts.CutUp}
 

@@ -5,7 +5,8 @@ use Rattle.split_core.specs.{
   Parts.{is_full, first_part, after_first, CutUp, parts},
   Split.{Filing, Share, manner_of, share},
 }
-use Rattle.ports_core.specs.{declared.slot.State.TheVariants.Closed, Draft.files_from, Slot.Slot}
+use Rattle.ports_core.specs.{declared.slot.State.TheVariants.Closed, Slot.Slot}
+use Rattle.engine_core.specs.Draft.{files_from}
 
 -- the parts of a text, one after another
 

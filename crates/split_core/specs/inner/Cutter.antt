@@ -3,7 +3,8 @@ use Rattle.std.specs.{
   Prelude.{◌≡◌, ℕ, ◌+◌, ◌-◌, ◌<◌, ◌≤◌, ◌⊎◌, max, min, true, false, List, ◌++◌, length, take, drop, Option},
   Prelude.{Some, None, IfNone, Result, Ok, Err, IfErr, IfOk, OnOk},
 }
-use Rattle.ports_core.specs.{Part.Part, Slot.Effect, InTurn.fault_in, Work.{IsNeeded, Work}, declared.fault.Fault.Fault}
+use Rattle.engine_core.specs.{Written.Written, InTurn.fault_in, Work.{IsNeeded, Work}}
+use Rattle.ports_core.specs.{Slot.Effect, declared.fault.Fault.Fault}
 use Rattle.split_core.specs.{
   Chunks.{before_chunk, begun_before, chunk_start, chunks_within, is_within, passed},
   ChunkerState.{CutterState, HasCut, course, first_on, part_on, whole_on, work_on},
@@ -46,7 +47,7 @@ pub record IsCut (cutter : CutterState) (size : ℕ) (x : List ℕ) : Type 0 whe
   pub cut : HasCut cutter x (chunks_within cutter.chunks size x)
   pub fits : length x ≤ size
 
-abbrev pub part_so : CutterState → ℕ → List ℕ → Part
+abbrev pub part_so : CutterState → ℕ → List ℕ → Written
 part_so cutter size x = part_on (course cutter) (chunks_within cutter.chunks size x)
 
 -- x was cut off, all of it before the end of the chunk that was begun, and the chunks before that have ended
@@ -57,7 +58,7 @@ pub record IsCutOff (cutter : CutterState) (size : ℕ) (x : List ℕ) : Type 0 
   pub before : chunk_start cutter.chunks.count size cutter.sink.place ≤ passed cutter.chunks size x
   pub begun : before_chunk cutter.chunks size (cutter.sink.place + 1) x ≡ x
 
-abbrev pub part_at : CutterState → ℕ → List ℕ → ℕ → Part
+abbrev pub part_at : CutterState → ℕ → List ℕ → ℕ → Written
 part_at cutter size x place = part_on (course cutter) (cut_before cutter.chunks size x place)
 
 -- all chunks that had all that goes with them ended

@@ -1,10 +1,10 @@
 -- What private calls say: where chunks go.
 use Rattle.std.specs.Prelude.{ℕ, Bool, true, false, nat_lt}
-use Rattle.ports_core.specs.{
+use Rattle.engine_core.specs.{
   FileWriter.{new_writer, seen_writer},
-  Name.Naming,
   declared.file_writer.{Keeps.TheVariants.Open, Tells.Tells},
 }
+use Rattle.ports_core.specs.Name.{Naming}
 use Rattle.split_core.specs.{
   ChunkerState.{AimState, Course, SinkState, course_of, in_files, in_output, to_files, to_output},
   declared.chunk_sink.{Aim.{Aim, TheVariants.{Files, Output}}, ChunkSink.ChunkSink},

@@ -4,13 +4,15 @@ use Rattle.std.specs.{
   Prelude.{Err, OnOk, IfErr, nat_lt, ◌==◌, if◌then◌else◌},
   List.range_with_len,
 }
-use Rattle.ports_core.specs.{
+use Rattle.engine_core.specs.{
   Names.with_one_drawn,
-  Slot.{Effect, Slot, KeepsBroken, MayBecome, Rose, effect},
-  Part.{Part, OutputsAt, IsBeginning, StoppedBetween},
-  declared.fault.Fault.{Fault, TheVariants.Write},
+  Written.{Written, OutputsAt, IsBeginning, StoppedBetween},
   Draft.Manner,
   FileWriter.{Breaks, CanTell},
+}
+use Rattle.ports_core.specs.{
+  Slot.{Effect, Slot, KeepsBroken, MayBecome, Rose, effect},
+  declared.fault.Fault.{Fault, TheVariants.Write},
 }
 use Rattle.split_core.specs.{
   Split.{Filing, Share, is_verbose, manner_of, output_by, share},
@@ -19,7 +21,7 @@ use Rattle.split_core.specs.{
   Round.{AreReady, OwnsFiles},
 }
 use Rattle.ports_core.specs.declared.slot.State.TheVariants as state
-use Rattle.ports_core.specs.Draft as draft
+use Rattle.engine_core.specs.Draft as draft
 
 -- the file of the share at a place
 abbrev pub file_at : Filing → ℕ → Share → Slot
@@ -33,7 +35,7 @@ pub record Shares : Type 0 where
 abbrev pub files_by : Filing → Shares → List Slot
 files_by filing shares = map (λ place. file_at filing place (shares.at place)) (range_with_len 0 shares.count)
 
-abbrev pub part_by : Filing → Shares → Part
+abbrev pub part_by : Filing → Shares → Written
 part_by filing shares = draft.part_with (output_by filing.verbose) (files_by filing shares)
 
 -- files that are open and have these bytes
@@ -52,10 +54,10 @@ abbrev pub only_at : ℕ → List ℕ → ℕ → List ℕ
 only_at place bytes other = if other == place then bytes else []
 
 -- the files were opened since the state `before` and have these bytes; files to come have none
-pub record StandAt (told : Bool) (files : FilesState) (before : List Slot) (had : ℕ → List ℕ) (now : List Slot)
+pub record StandAt (visible : Bool) (files : FilesState) (before : List Slot) (had : ℕ → List ℕ) (now : List Slot)
     : Type 0 where
   pub owns : OwnsFiles files (length before) now
-  pub outputs : OutputsAt told before (part_by (filing_in files) (all_open had (length files.outputs))) now
+  pub outputs : OutputsAt visible before (part_by (filing_in files) (all_open had (length files.outputs))) now
   pub none : (place : ℕ) → length files.outputs ≤ place → had place ≡ []
 
 -- the files have the same slots
@@ -74,14 +76,15 @@ pub record Grow (from to : ℕ) (low high : Shares) : Type 0 where
 -- true if files up to `from` had got less before, and if files from the one before `to` on were to get more.
 pub record Halts (filing : Filing) (low high : Shares) (from to : ℕ) (outs : Effect) (fault : Fault) : Type 0 where
   pub stops : (first last : Shares) (end : ℕ) → Grow 0 (from + 1) first low → Grow (to - 1) end high last
-      → StoppedBetween (output_by filing.verbose) outs.told outs.old (part_by filing first) (part_by filing last) fault
+      → StoppedBetween (output_by filing.verbose) outs.visible outs.old (part_by filing first)
+      (part_by filing last) fault
       outs.new
   -- the fault isn't a write to a file before `from`
   pub own : (place : ℕ) → fault ≡ Write (length outs.old + place) → from ≤ place
 
 -- all was written, or a fault stopped it
 abbrev pub Leaves : Filing → (low high : Shares) → (from to : ℕ) → Effect → Result (Unit {0}) Fault → Type 0
-Leaves filing low high from to outs (Ok done) = OutputsAt outs.told outs.old (part_by filing high) outs.new
+Leaves filing low high from to outs (Ok done) = OutputsAt outs.visible outs.old (part_by filing high) outs.new
 Leaves filing low high from to outs (Err fault) = Halts filing low high from to outs fault
 
 -- the faults of files that have names
@@ -106,10 +109,10 @@ pub record Adds (files next : FilesState) (more : ℕ → List ℕ) (from to : �
   pub sound : OnOk result (KeepsBroken outs.old outs.new)
   pub caused : IfErr result (IsOfFiles (is_verbose files.tells) outs.old outs.new)
   pub outside : (place : ℕ) → (place < from) ⊎ (to ≤ place) → more place ≡ []
-  pub leaves : (before : List Slot) (had has : ℕ → List ℕ) → StandAt outs.told files before had outs.old
+  pub leaves : (before : List Slot) (had has : ℕ → List ℕ) → StandAt outs.visible files before had outs.old
       → ((place : ℕ) → has place ≡ had place ++ more place)
       → Leaves (filing_in files) (all_open had (length files.outputs))
-      (all_open has (max (length files.outputs) to)) from to (effect outs.told before outs.new) result
+      (all_open has (max (length files.outputs) to)) from to (effect outs.visible before outs.new) result
 
 -- all files before a place are open now, or one couldn't be opened
 pub record Opens (files next : FilesState) (from to : ℕ) (outs : Effect) (result : Result (Unit {0}) Fault)
@@ -119,10 +122,10 @@ pub record Opens (files next : FilesState) (from to : ℕ) (outs : Effect) (resu
 
 -- all files were closed, or a fault came before that
 pub record ClosesAll (files : FilesState) (outs : Effect) (result : Result (Unit {0}) Fault) : Type 0 where
-  pub leaves : (before : List Slot) (had : ℕ → List ℕ) → StandAt outs.told files before had outs.old
+  pub leaves : (before : List Slot) (had : ℕ → List ℕ) → StandAt outs.visible files before had outs.old
       → Leaves (filing_in files) (all_open had (length files.outputs))
       (closed_first (length files.outputs) had (length files.outputs)) 0 (length files.outputs)
-      (effect outs.told before outs.new) result
+      (effect outs.visible before outs.new) result
   pub output : OnOk result (CanTell files.tells outs.new)
   pub caused : IfErr result (CannotClose outs.old outs.new)
   pub owned : KeepsFiles files outs.old files outs.new

@@ -3,16 +3,15 @@ use Rattle.std.specs.{
   Prelude.{◌≡◌, ℕ, ◌-◌, ◌≤◌, ◌<◌, Bool, false, List, [], ◌++◌, length, take, Option, Some, None, IfNone, IfSome},
   Prelude.{Result, Ok, Err},
 }
-use Rattle.ports_core.specs.{
+use Rattle.engine_core.specs.{
   Draft.{Draft, draft_part, part_of, with_bytes, with_next},
   FileWriter.{Goes, Leaves, Reaches, At, IsWrite},
-  Part.{Part, OutputsAt},
+  Written.{Written, OutputsAt},
+  declared.file_writer.Opening.TheVariants.Late,
+}
+use Rattle.ports_core.specs.{
   Slot.{Effect, Slot},
-  declared.{
-    fault.Fault.{Fault, TheVariants.Verdict},
-    verdict.Verdict.TheVariants.Suffixes,
-    file_writer.Opening.TheVariants.Late,
-  },
+  declared.{fault.Fault.{Fault, TheVariants.Verdict}, verdict.Verdict.TheVariants.Suffixes},
 }
 use Rattle.seg_core.specs.Cut.{most}
 use Rattle.split_core.specs.{
@@ -22,11 +21,11 @@ use Rattle.split_core.specs.{
 }
 
 -- what is written once x came in
-abbrev pub settled_part : PartsState → List ℕ → Part
+abbrev pub settled_part : PartsState → List ℕ → Written
 settled_part parts x = draft_part (manner_of (filing_of parts)) (draft_of parts.limit x)
 
 -- what is written at the end
-abbrev pub whole_part : PartsState → List ℕ → Part
+abbrev pub whole_part : PartsState → List ℕ → Written
 whole_part parts x = part_of (manner_of (filing_of parts)) (whole_parts parts.limit x)
 
 -- what a part still takes, whether it has a complete line, and what waits
@@ -57,8 +56,8 @@ BeginsNext parts next bytes = Moves parts next (most parts.limit - length (parts
 -- names ran out before these bytes of the input were written: all files that have a name are written
 pub record LacksNames (parts : PartsState) (x bytes : List ℕ) (outs : Effect) : Type 0 where
   pub none : are_named (filing_of parts).names (length (settled_parts parts.limit (x ++ bytes))) ≡ false
-  pub all : (before : List Slot) → At outs.told parts.writer before (settled_part parts x) outs.old
-      → OutputsAt outs.told before (settled_part parts (x ++ bytes)) outs.new
+  pub all : (before : List Slot) → At outs.visible parts.writer before (settled_part parts x) outs.old
+      → OutputsAt outs.visible before (settled_part parts (x ++ bytes)) outs.new
 
 -- These bytes were taken in, and what is settled with them is written; or a fault came meanwhile.
 pub record Takes (parts next : PartsState) (bytes : List ℕ) (outs : Effect) (fault : Option Fault) : Type 0 where

@@ -5,7 +5,7 @@ use Rattle.split_core.specs.{
   Ways.terms,
   declared.splitter.Splitter.{Splitter, TheVariants.{Parts, Round, Chunks, Turn}},
 }
-use Rattle.ports_core.specs.Engine as engine
+use Rattle.engine_core.specs.Engine as engine
 
 -- what a call leaves that takes in a piece
 abbrev pub PassesAs : (old new : Splitter) → List ℕ → Effect → Result (Unit {0}) Fault → Type 0

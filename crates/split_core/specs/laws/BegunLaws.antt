@@ -16,9 +16,9 @@ use Rattle.seg_core.{
   proofs.FirstLines.{delimiters-first_lines, length-first_lines-le},
   proofs.LineCounts.line_count-le-length,
 }
-use Rattle.ports_core.{
-  specs.Part.IsBeginning,
-  proofs.{PartLemmas.{begins_itself, begins_more}, AgreedLemmas.beginning_short},
+use Rattle.engine_core.{
+  specs.Written.IsBeginning,
+  proofs.{WrittenLemmas.{begins_itself, begins_more}, AgreedLemmas.beginning_short},
 }
 use Rattle.split_core.specs.{Chunks.{begun_before, open_from}}
 use Rattle.split_core.specs.laws.LimitLaws.{first_lines_begin}

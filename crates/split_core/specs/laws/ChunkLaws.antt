@@ -15,7 +15,7 @@ use Rattle.std.{
   specs.List.{filter, flat_map, range_with_len},
 }
 use Rattle.seg_core.specs.{Line.joined, declared.cut.Chunks.Chunks}
-use Rattle.ports_core.{specs.Part.IsBeginning, proofs.PartLemmas.begins_trans}
+use Rattle.engine_core.{specs.Written.IsBeginning, proofs.WrittenLemmas.begins_trans}
 use Rattle.split_core.specs.{
   Chunks.{chunks_within, chunk_start, begun_before, before_chunk, chunk_at, open_from, passed, has_ended, ended},
   Chunks.{chunks_of, pieces_in},

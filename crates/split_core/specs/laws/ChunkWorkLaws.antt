@@ -9,11 +9,11 @@ use Rattle.std.{
   specs.List.range_with_len,
 }
 use Rattle.seg_core.specs.declared.{cut.Chunks.Chunks, unit.Unit.TheVariants.Bytes}
-use Rattle.ports_core.{
-  specs.{Draft.shares_of, Part.IsBeginning, Slot.MayBecome, Work.{IsComplete, IsLawful}, inner.Shares.SharesBegin},
-  specs.declared.slot.State.{State, TheVariants.{Open, Closed}},
-  proofs.{PartLemmas.{begins_itself, nothing_begins, out_begins}, ShareLemmas.shares_after},
+use Rattle.engine_core.{
+  specs.{Draft.shares_of, Written.IsBeginning, Work.{IsComplete, IsLawful}, inner.Shares.SharesBegin},
+  proofs.{WrittenLemmas.{begins_itself, nothing_begins, out_begins}, ShareLemmas.shares_after},
 }
+use Rattle.ports_core.{specs.Slot.MayBecome, specs.declared.slot.State.{State, TheVariants.{Open, Closed}}}
 use Rattle.split_core.specs.{
   Chunks.{chunk_at, chunk_start, chunks_of, chunks_within, decided, ended, has_ended, in_the_end, pieces_in},
   ChunkWork.{ChunksPlan, chunk_work, chunks_work, draft_by, is_written, kept, piece_at, turn_work},

@@ -26,9 +26,9 @@ use Rattle.seg_core.{
     declared.cut.{Limit.{Limit, TheVariants.{Bytes, LineBytes, Lines}}},
   },
 }
-use Rattle.ports_core.{
-  proofs.{AgreedLemmas.{copies_come, other, other_comes, other_differs}, PartLemmas.{begins_more, begins_trans}},
-  specs.{Agreed.{CanCome}, Part.{IsBeginning}},
+use Rattle.engine_core.{
+  proofs.{AgreedLemmas.{copies_come, other, other_comes, other_differs}, WrittenLemmas.{begins_more, begins_trans}},
+  specs.{Agreed.{CanCome}, Written.{IsBeginning}},
 }
 use Rattle.split_core.specs.{
   Parts.{first_part, is_full, measure, open_line, settled_rest, waiting_rest, whole_lines},

@@ -5,17 +5,15 @@ use Rattle.std.proofs.{
   Common.{inl, refl, sym, arith, append_assoc, rules},
 }
 use Rattle.seg_core.{specs.declared.cut.Limit.{Limit}}
-use Rattle.ports_core.specs.{
-  Name.{Naming, has_name},
+use Rattle.ports_core.specs.{Name.{Naming, has_name}, Slot.Slot, declared.slot.State.TheVariants.{Open, Closed}}
+use Rattle.engine_core.specs.{
   Draft.{opening_line, part_of, told_of_files},
-  Slot.Slot,
-  Part.{FilesBegin, IsBeginning, Begins},
+  Written.{FilesBegin, IsBeginning, Begins},
   inner.Shares.SharesBegin,
-  declared.{slot.State.TheVariants.{Open, Closed}},
 }
-use Rattle.ports_core.proofs.{
+use Rattle.engine_core.proofs.{
   ShareLemmas.{files_begin, files_stop, made_begin, openings_begin, shares_after},
-  PartLemmas.{begins_itself},
+  WrittenLemmas.{begins_itself},
 }
 use Rattle.split_core.specs.{
   Parts.{is_full, first_part, after_first, cut_up, unless_empty, parts, settled_rest},

@@ -5,16 +5,11 @@ use Rattle.std.{
   proofs.Common.{Some, None, inl, refl, rules},
   specs.List.range_with_len,
 }
-use Rattle.ports_core.{
-  specs.{
-    Part.IsBeginning,
-    Slot.MayBecome,
-    Work.{IsLawful, IsComplete},
-    declared.slot.State.{State, TheVariants.Open},
-    inner.Shares.SharesBegin,
-  },
-  proofs.PartLemmas.{begins_itself},
+use Rattle.engine_core.{
+  specs.{Written.IsBeginning, Work.{IsLawful, IsComplete}, inner.Shares.SharesBegin},
+  proofs.WrittenLemmas.begins_itself,
 }
+use Rattle.ports_core.specs.{Slot.MayBecome, declared.slot.State.{State, TheVariants.Open}}
 use Rattle.split_core.specs.{
   Split.{Filing, share, are_named},
   Round.{round_plan, round_work},

@@ -14,8 +14,8 @@ use Rattle.tee_core.specs.{
 
 -- the run that a job asks for
 abbrev pub run_for : Bool → Job → TeeRun
-run_for told job = record {
-  told = told;
+run_for visible job = record {
+  visible = visible;
   calling = job.calling;
   mode = job.mode;
   on_broken = job.on_broken;
@@ -38,13 +38,13 @@ pub record IsTeeOf (names : List (List ℕ)) (tee : TeeState) : Type 0 where
   pub first : 0 < tee.count → tee.first ≡ 2
 
 -- an input was read, and all that came was copied
-pub record CopiesRead (run : TeeRun) (told_in : Bool) (content : Content) (source : Source) (slots : List Slot)
+pub record CopiesRead (run : TeeRun) (visible_in : Bool) (content : Content) (source : Source) (slots : List Slot)
     (fault : Option Fault) : Type 0 where
   pub pieces : List (List ℕ)
-  pub read : ComesIn told_in content source (is_done run.on_broken (standings_of slots)) pieces fault
+  pub read : ComesIn visible_in content source (is_done run.on_broken (standings_of slots)) pieces fault
   pub copied : Copied run pieces slots
 
 -- the same of an input that had this source before and has this source after, as far as that is visible
-abbrev pub CopiesOver : TeeRun → (told_in : Bool) → (before after : Source) → List Slot → Option Fault → Type 0
-CopiesOver run told_in before after slots fault = OfContent told_in before.left
-    (λ content. CopiesRead run told_in content after slots fault × CameFrom told_in content after)
+abbrev pub CopiesOver : TeeRun → (visible_in : Bool) → (before after : Source) → List Slot → Option Fault → Type 0
+CopiesOver run visible_in before after slots fault = OfContent visible_in before.left
+    (λ content. CopiesRead run visible_in content after slots fault × CameFrom visible_in content after)

@@ -5,5 +5,5 @@ use Rattle.tools_core.specs.{Outcome.DoesAsked, Run.{Run, Visible}, Tasks.names_
 
 -- a run over the inputs that these settings name did what they ask for
 abbrev pub RunsAsked : Visible → Run → Settings → Type 0
-RunsAsked told run settings =
-    RunsOver told.inputs run.world (names_of settings) (λ found. DoesAsked told run found settings)
+RunsAsked visible run settings =
+    RunsOver visible.inputs run.world (names_of settings) (λ found. DoesAsked visible run found settings)

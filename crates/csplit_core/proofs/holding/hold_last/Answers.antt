@@ -1,4 +1,5 @@
-use Rattle.ports_core.proofs.{HandedOn.handed_on, WriterSteps.{goes_as, goes_or_lacks, stops_among}}
+use Rattle.ports_core.proofs.HandedOn.{handed_on}
+use Rattle.engine_core.proofs.WriterSteps.{goes_as, goes_or_lacks, stops_among}
 use Rattle.std.proofs.{Common.{arith}, lemmas.Grind.common_steps}
 use Rattle.csplit_core.proofs.CutterLemmas.{hold_on, kept_window, parted, rest_fits}
 use Rattle.csplit_core.proofs.holding.hold_last.Goals as goal

@@ -1,4 +1,5 @@
-use Rattle.ports_core.proofs.{HandedOn.handed_on, FileWriterLemmas.can_count, WriterSteps.goes_as}
+use Rattle.ports_core.proofs.HandedOn.{handed_on}
+use Rattle.engine_core.proofs.{FileWriterLemmas.can_count, WriterSteps.goes_as}
 use Rattle.std.proofs.{Common.{arith}, lemmas.Grind.common_steps}
 use Rattle.csplit_core.proofs.{CutterLemmas.{all_held, empties, empties_short}}
 use Rattle.csplit_core.proofs.holding.write_front.Goals as goal

@@ -5,4 +5,4 @@ use Rattle.ends_core.proofs.find.find_last.Goals as goal
 pub returns-in-Bytes-clause-found : goal.returns-in-Bytes-clause-found
 returns-in-Bytes-clause-found g c =
     rw (c.in-Bytes.is, c.saturating_sub.ensures)
-    (found_bytes g.I.Inputs.told c.args.delim c.args.count (λ told. sym c.in-Some.is ∙ c.shown.ensures.counted told))
+    (found_bytes g.I.Inputs.visible c.args.delim c.args.count (λ visible. sym c.in-Some.is ∙ c.shown.ensures.counted visible))

@@ -1,14 +1,15 @@
 use Rattle.std.proofs.Common.{◌≡◌, ◌-◌, ◌∙◌, ap, arith, refl, length, drop, length-append, length-drop, length-take}
-use Rattle.ports_core.{specs.Source.Source, proofs.LoadLemmas.looked_none}
+use Rattle.ports_core.specs.Source.{Source}
+use Rattle.ports_core.proofs.InputsLemmas.{looked_none}
 use Rattle.ends_core.proofs.FindLemmas.{found_all, found_in, found_none, looked_block, seen_more, seen_none}
 use Rattle.ends_core.proofs.find.find_lines.Goals as goal
 
 pub returns-then-count-eq0-clause-found : goal.returns-then-count-eq0-clause-found
-returns-then-count-eq0-clause-found g c = found_none g.I.Inputs.told c.args.delim c.if-count-eq0.true c.requires.shown
+returns-then-count-eq0-clause-found g c = found_none g.I.Inputs.visible c.args.delim c.if-count-eq0.true c.requires.shown
 
 pub loop-end-init : goal.loop-end-init
 loop-end-init g c = record {
-  seen = rw c.saturating_sub-end.ensures (seen_none g.I.Inputs.told c.args.delim c.args.count c.requires.shown);
+  seen = rw c.saturating_sub-end.ensures (seen_none g.I.Inputs.visible c.args.delim c.args.count c.requires.shown);
   some = omega arith;
   within = omega arith;
   looked = looked_none _ _ _;
@@ -27,7 +28,7 @@ returns-in-Begins-clause-found g c =
     let few = c.min-size.ensures in
     found_in (c.loop-end.end - c.min-size.result) c.min-size.result so_far.seen (omega arith) c.loop-end-test.true so_far.within
     (omega (arith, length-take c.min-size.result c.loop-end.buffer))
-    (λ told. rw (← (ap (λ (source : Source). source.left) so_far.looked.looked)) (c.read_at.ensures.shows c.if-not-read_at.false told)) c.in-Begins.ensures
+    (λ visible. rw (← (ap (λ (source : Source). source.left) so_far.looked.looked)) (c.read_at.ensures.shows c.if-not-read_at.false visible)) c.in-Begins.ensures
 
 pub returns-in-Begins-clause-looked : goal.returns-in-Begins-clause-looked
 returns-in-Begins-clause-looked g c =
@@ -42,7 +43,7 @@ loop-end-preserved g c =
     let long : length c.read_at.new.buffer ≡ c.min-size.result = omega (arith, length-take c.min-size.result c.loop-end.buffer) in
     let all = length-append c.read_at.new.buffer (drop c.min-size.result c.loop-end.buffer) in record {
       seen = seen_more (c.loop-end.end - c.min-size.result) c.min-size.result so_far.seen (omega arith) so_far.within long
-          (λ told. rw (← (ap (λ (source : Source). source.left) so_far.looked.looked)) (c.read_at.ensures.shows c.if-not-read_at.false told)) c.in-Short.ensures;
+          (λ visible. rw (← (ap (λ (source : Source). source.left) so_far.looked.looked)) (c.read_at.ensures.shows c.if-not-read_at.false visible)) c.in-Short.ensures;
       some = let fewer = c.in-Short.ensures.fewer in omega arith;
       within = omega arith;
       looked = looked_block c.min-size.result c.loop-end.buffer so_far.looked c.requires.input so_far.size c.read_at.ensures.rest;

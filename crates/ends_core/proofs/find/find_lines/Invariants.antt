@@ -5,7 +5,7 @@ use Rattle.ends_core.proofs.find.find_lines.Given as goal
 
 abbrev pub invariant-loop-end : goal.invariant-loop-end
 invariant-loop-end g l = record {
-  seen : SeenFrom g.I.Inputs.told
+  seen : SeenFrom g.I.Inputs.visible
       (source_at (g.I.Inputs.sources l.fn.inputs) l.slot).left l.delim l.fn.count l.wanted l.end l.len;
   some : 0 < l.wanted;
   within : l.end ≤ l.len - 1;

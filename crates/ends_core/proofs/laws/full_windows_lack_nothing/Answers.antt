@@ -1,13 +1,15 @@
 use Rattle.std.proofs.{Common.{◌≡◌, ℕ, List, ◌++◌, length, Bool, true, false, ◌⊎◌, inl, inr, refl, ap, subst}}
 use Rattle.ports_core.specs.{
   Slot.Slot,
-  Work.{Means, on_output},
-  Engine.{EndsWith, IsCaused, IsMet, over, long, met},
-  Guard.{GuardState, HoldsIn, IsRefusedWith},
   declared.{fault.Fault.{Fault, TheVariants.{Memory, Write, Open, TooLong}}, verdict.Verdict.Verdict},
 }
+use Rattle.engine_core.specs.{
+  Work.{Means, on_output},
+  Engine.{EndsWith, IsCaused, IsMet, over, long, met},
+  EngineState.{EngineState, HoldsIn, IsRefusedWith},
+}
 use Rattle.ends_core.{
-  specs.{declared.ends.Ends.Ends, Stage.{Holds, count_of, delim_of, terms, keeps, may_lack, stretch_of, unit_of}},
+  specs.{declared.ends.Portion.Portion, Stage.{Holds, count_of, delim_of, terms, keeps, may_lack, stretch_of, unit_of}},
   proofs.EndsLemmas.{none_settled, on_means},
 }
 use Rattle.ports_core.specs.declared.fault.Fault.TheVariants as fault_is
@@ -34,7 +36,7 @@ only_these memory Ends live enough well (long _ _ _) = inr refl
 only_these memory Ends {old} {new} live enough well (met fault _ cause) =
     only_writes memory Ends old new fault enough well cause
 
-fails : (engine : GuardState Ends) (x piece : List ℕ) (old new : List Slot) (fault : Fault) → HoldsIn Holds engine x
+fails : (engine : EngineState Portion) (x piece : List ℕ) (old new : List Slot) (fault : Fault) → HoldsIn Holds engine x
     → may_lack engine.stage ≡ false
     → IsRefusedWith terms piece engine old new fault → (fault ≡ Write 0) ⊎ (fault ≡ TooLong)
 fails engine x piece old new fault holds enough refused =

@@ -15,9 +15,9 @@ invariant-loop-place g l = record {
   same : texts l.names ≡ texts l.fn.names;
   ready : AllReady l.names l.fn.first (g.W.Watch.watched l.watch);
   visited : (from : ℕ) (looks : List Look)
-      → StandFrom g.W.Watch.told (ways_of l.fn.by_name l.fn.start from) looks l.fn.first l.fn.names
+      → StandFrom g.W.Watch.visible (ways_of l.fn.by_name l.fn.start from) looks l.fn.first l.fn.names
       (g.W.Watch.watched l.fn.watch)
-      → VisitedTo (sight g.W.Watch.told g.O.Outs.told (g.W.Watch.seen l.fn.watch))
+      → VisitedTo (sight g.W.Watch.visible g.O.Outs.visible (g.W.Watch.seen l.fn.watch))
       (ways_of l.fn.by_name l.fn.start from) looks l.place l.names
       (moment (g.W.Watch.watched l.fn.watch) l.fn.visitor (g.O.Outs.slots l.fn.outs))
       (moment (g.W.Watch.watched l.watch) l.visitor (g.O.Outs.slots l.outs)) l.has_failed;

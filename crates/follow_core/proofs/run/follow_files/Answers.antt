@@ -42,7 +42,7 @@ returns g c =
 
 pub returns-in-Err : goal.returns-in-Err
 returns-in-Err g c =
-    let (most, are, above) = most_made g.W.Watch.told c.args.limits.process
+    let (most, are, above) = most_made g.W.Watch.visible c.args.limits.process
     (shows_by c.args.calling c.args.method (g.W.Watch.shows c.args.watch.now)) c.args.limits.looks 0 (omega arith)
     (λ t. omega arith) in
     let tells = rw (c.in-Err.ensures.err, c.requires.outputs) at c.tell.ensures in

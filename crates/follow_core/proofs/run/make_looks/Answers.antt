@@ -98,7 +98,7 @@ returns-clause-ends g c =
     let l = c.loop-made in
     let past = c.loop-made-test.false in
     let within = l.invariant.within in
-    let (most, are, above) = most_made g.W.Watch.told c.args.limits.process (g.W.Watch.shows c.args.watch.now) c.args.limits.looks l.made within
+    let (most, are, above) = most_made g.W.Watch.visible c.args.limits.process (g.W.Watch.shows c.args.watch.now) c.args.limits.looks l.made within
     (λ t. let is = l.invariant.left t in omega arith) in
     let most_within = are.within in (
       most,

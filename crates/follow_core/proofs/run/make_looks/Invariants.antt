@@ -9,15 +9,15 @@ abbrev pub invariant-loop-made : goal.invariant-loop-made
 invariant-loop-made g l = record {
   within : l.made ≤ l.limits.looks;
   count : length (g.W.Watch.seen l.watch) ≡ l.made;
-  left : g.W.Watch.told ≡ true → until_over l.limits.process (g.W.Watch.shows l.fn.watch) 0 l.limits.looks
+  left : g.W.Watch.visible ≡ true → until_over l.limits.process (g.W.Watch.shows l.fn.watch) 0 l.limits.looks
       ≡ l.made + until_over l.limits.process (g.W.Watch.shows l.fn.watch) l.made (l.limits.looks - l.made);
   can : CanLook l.follow (g.W.Watch.watched l.watch) (g.O.Outs.slots l.outs);
   print : CanPrint (g.O.Outs.slots l.outs);
   shows : g.W.Watch.shows l.watch ≡ g.W.Watch.shows l.fn.watch;
   progress : (asked : Asked)
-      → Holds g.W.Watch.told g.O.Outs.told asked []
+      → Holds g.W.Watch.visible g.O.Outs.visible asked []
       (point l.fn.follow (g.W.Watch.watched l.fn.watch) (g.O.Outs.slots l.fn.outs))
-      → Progress g.W.Watch.told g.O.Outs.told asked (g.W.Watch.shows l.fn.watch) l.made true
+      → Progress g.W.Watch.visible g.O.Outs.visible asked (g.W.Watch.shows l.fn.watch) l.made true
       (point l.follow (g.W.Watch.watched l.watch) (g.O.Outs.slots l.outs)) (g.W.Watch.seen l.watch);
 }
 

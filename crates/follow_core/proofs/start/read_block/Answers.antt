@@ -17,8 +17,8 @@ returns-in-Ok-eq0-clause-bytes g c =
     fill_ends f
     (contents_same c.args.place f.seen_same f.watched_same)
     c.loop-filled-test.true
-    (λ told. subst (λ n. GaveFrom now_contents (c.args.from + c.loop-filled.filled) part c.read_at.new.buffer n) c.in-Ok-eq0.field-0-test
-    (c.in-Ok-eq0.ensures.bytes told))
+    (λ visible. subst (λ n. GaveFrom now_contents (c.args.from + c.loop-filled.filled) part c.read_at.new.buffer n) c.in-Ok-eq0.field-0-test
+    (c.in-Ok-eq0.ensures.bytes visible))
 
 pub loop-filled-preserved : goal.loop-filled-preserved
 loop-filled-preserved g c =

@@ -5,7 +5,7 @@ use Rattle.follow_core.proofs.start.read_block.Given as goal
 
 abbrev pub invariant-loop-filled : goal.invariant-loop-filled
 invariant-loop-filled g l = record {
-  filling : Filling g.W.Watch.told
+  filling : Filling g.W.Watch.visible
       (open_contents (latest (g.W.Watch.seen l.fn.watch))
       (watched_at (g.W.Watch.watched l.fn.watch) l.fn.place)) l.fn.from l.filled
       l.fn.block l.block (g.W.Watch.seen l.fn.watch) (g.W.Watch.seen l.watch)

@@ -6,7 +6,7 @@ use Rattle.follow_core.proofs.visitor.copy.Given as goal
 
 abbrev pub invariant-loop-at : goal.invariant-loop-at
 invariant-loop-at g l = record {
-  copied : Copied (sight g.W.Watch.told g.O.Outs.told (g.W.Watch.seen l.fn.watch))
+  copied : Copied (sight g.W.Watch.visible g.O.Outs.visible (g.W.Watch.seen l.fn.watch))
       (watched_at (g.W.Watch.watched l.fn.watch) l.fn.place) l.fn.from l.fn.name
       (moment (g.W.Watch.watched l.fn.watch) l.fn.printer (g.O.Outs.slots l.fn.outs))
       (moment (g.W.Watch.watched l.watch) l.printer (g.O.Outs.slots l.outs)) l.at None;

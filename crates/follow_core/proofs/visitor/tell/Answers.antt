@@ -12,7 +12,7 @@ returns-in-Ok-clause-ends g c watched printer = record {
   given = refl;
   came = record {
     printer_is = λ none. rw (and-false printer.headers) refl;
-    slots = rw (and-false printer.headers) (wrote_line g.O.Outs.told printer.calling (found c.args.found c.args.name.now) (λ output error others are.
+    slots = rw (and-false printer.headers) (wrote_line g.O.Outs.visible printer.calling (found c.args.found c.args.name.now) (λ output error others are.
         let said = c.print.ensures output error others are in
         (said.0, rw (c.deref.ensures.value ∙ c.in-Ok.ensures.ok) at said.1, said.2)));
   };
@@ -25,6 +25,6 @@ returns-in-Err-clause-ends g c watched printer = rw c.in-Err.ensures.err (record
   given = (notes c.args.found ∷ [], refl, begins_none);
   came = record {
     printer_is = λ none. absurd (none-some _ (sym none));
-    slots = wrote_text g.O.Outs.told printer.calling _ _ (Some fault.Memory) no_memory;
+    slots = wrote_text g.O.Outs.visible printer.calling _ _ (Some fault.Memory) no_memory;
   };
 })

@@ -1,5 +1,5 @@
 use Rattle.std.proofs.Common.{arith, ◌<◌, ◌^◌}
-use Rattle.ports_core.proofs.LoadLemmas.{passes_if, passes_none}
+use Rattle.ports_core.proofs.InputsLemmas.{passes_if, passes_none}
 use Rattle.ports_core.proofs.inputs.pass_over.Goals as goal
 
 pub returns-then-count-most-clause-passes : goal.returns-then-count-most-clause-passes

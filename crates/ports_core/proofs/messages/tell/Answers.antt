@@ -8,5 +8,5 @@ returns g c =
     let why = c.output_reason-why.ensures in
     let loud = rw why at (sym c.is_quiet.ensures ∙ c.if-is_quiet.false) in
     let says = rw (c.output_name.ensures, why) at (c.say_line.ensures _ (message_of c.args.fault.now _) c.message_for-line.ensures.ok) in
-    let (told, status) = told_aloud g.O.Outs.told c.args.fault.now loud says in
+    let (told, status) = told_aloud g.O.Outs.visible c.args.fault.now loud says in
     record { told = told; status = status }

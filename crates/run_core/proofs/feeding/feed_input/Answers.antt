@@ -3,13 +3,16 @@ use Rattle.std.proofs.{
   Common.{◌&&◌, not, Err, inl, inr, ◌≡◌, ◌≤◌, drop, length, ◌++◌, ◌∙◌, [], true, false, sym, ap, refl, take, arith},
   Common.{append_assoc, append-nil, length-append},
 }
-use Rattle.ports_core.{
-  proofs.LoadLemmas.passed_at,
+use Rattle.ports_core.proofs.InputsLemmas.{passed_at}
+use Rattle.engine_core.{
   proofs.SpareLemmas.{complete_used, spare_within, none_spare},
+  specs.{Work.{Work, IsSettled}, Engine.{EndsWith, is_verdict}},
+}
+use Rattle.ports_core.{
   proofs.InputsLemmas.{came_broken, came_sound, changed_source, ended_now, sound_at, read_none_more, keeps_again},
   proofs.InputsLemmas.{keeps_others, read_broken, still_readable, read_more, read_failed, read_to_end, asked_again},
   proofs.InputsLemmas.{asked_at_end, broken_now},
-  specs.{Source.{gets_back, Source, source_at}, Work.{Work, IsSettled}, Engine.{EndsWith, is_verdict}},
+  specs.Source.{gets_back, Source, source_at},
 }
 use Rattle.run_core.{
   specs.Feeding.{IsUntaken, broke_off, closes, enough, feeds, is_stop, to_end},
@@ -36,12 +39,12 @@ pieces-init g c =
       };
       readable = rw (passed, c.requires.input);
       others = keeps_others _ _ _ _ loads.passed;
-      read = λ told. record { bytes = loads.there told; breaks_off = rw passed };
-      took = λ told. record {
-        taken = rw (passed, loads.there told, loads.long, take_at loads.front _ (length loads.front) refl);
+      read = λ visible. record { bytes = loads.there visible; breaks_off = rw passed };
+      took = λ visible. record {
+        taken = rw (passed, loads.there visible, loads.long, take_at loads.front _ (length loads.front) refl);
         far = λ unread. omega (arith, ap (λ (source : Source). source.reached) passed);
       };
-      last = λ told. needed_front took.going;
+      last = λ visible. needed_front took.going;
       -- all that is taken in without a read is used
       few = λ standard n spare. elim took.going [
         | inl none ↦ omega (arith, ap length none, ap length spare.joined ∙ length-append spare.used spare.rest)
@@ -62,8 +65,8 @@ returns-in-Err g c =
     let work = g.S.Stage.terms.work c.pieces.engine.stage in
     let going = sym (c.done.ensures.complete so_far.fed so_far.feeds.holds) ∙ c.pieces-test.true in record {
       ends = λ before opening begun.
-          of_read g.I.Inputs.told _ so_far.fed true _ _ (λ told. read_broken _ _ _ _ (so_far.read told) (c.in-Err.ensures.break_off told))
-          (λ content. came_broken g.I.Inputs.told _ _ _ _ so_far.readable c.in-Err.ensures.err)
+          of_read g.I.Inputs.visible _ so_far.fed true _ _ (λ visible. read_broken _ _ _ _ (so_far.read visible) (c.in-Err.ensures.break_off visible))
+          (λ content. came_broken g.I.Inputs.visible _ _ _ _ so_far.readable c.in-Err.ensures.err)
           (λ content is bytes breaks came. (
             rw (← so_far.feeds.same)
                 (broke_off breaks (ap work.is_complete bytes ∙ going)
@@ -72,13 +75,13 @@ returns-in-Err g c =
             λ ends sound going. absurd (false≢true (sym sound ∙ breaks)),
           ));
       others = keeps_again _ _ _ _ so_far.others (keeps_others _ _ _ _ c.in-Err.ensures.err.1);
-      reads = λ told. (so_far.fed, so_far.needed, read_failed _ _ _ _ _ _ (so_far.read told) so_far.readable c.in-Err.ensures.err);
-      used = λ told ends unread.
+      reads = λ visible. (so_far.fed, so_far.needed, read_failed _ _ _ _ _ _ (so_far.read visible) so_far.readable c.in-Err.ensures.err);
+      used = λ visible ends unread.
           let failed = c.in-Err.ensures.err in
-          uses_all (read_failed _ _ _ _ _ _ (so_far.read told) so_far.readable failed)
-          (ap (λ (source : Source). source.left.bytes) (changed_source _ _ _ _ so_far.readable failed.1) ∙ (c.in-Err.ensures.break_off told).no_more)
+          uses_all (read_failed _ _ _ _ _ _ (so_far.read visible) so_far.readable failed)
+          (ap (λ (source : Source). source.left.bytes) (changed_source _ _ _ _ so_far.readable failed.1) ∙ (c.in-Err.ensures.break_off visible).no_more)
           so_far.needed (ap (λ (those : Work). those.is_complete so_far.fed) (sym so_far.feeds.same) ∙ going)
-          (rw (ap (λ (source : Source). source.reached) (changed_source _ _ _ _ so_far.readable failed.1)) ((so_far.took told).far unread));
+          (rw (ap (λ (source : Source). source.reached) (changed_source _ _ _ _ so_far.readable failed.1)) ((so_far.took visible).far unread));
       asked = λ within. asked_at_end _ _ _ _ _ so_far.readable c.in-Err.ensures.err (omega arith) (so_far.asked within);
       broke = λ is. broken_now _ _ _ _ so_far.readable c.in-Err.ensures.err;
       laid = c.read_part.ensures.kept ∙ so_far.laid;
@@ -92,19 +95,19 @@ returns-then-n-eq0 g c =
     let now = g.I.Inputs.sources c.read_part.new.inputs in
     let going = sym (c.done.ensures.complete so_far.fed so_far.feeds.holds) ∙ c.pieces-test.true in
     let can = still_readable _ _ _ _ c.in-Ok.n c.in-Ok.ensures.rest so_far.readable in
-    let left = λ (told : g.I.Inputs.told ≡ true).
-    read_none_more _ _ _ _ _ _ c.in-Ok.n (so_far.read told) so_far.readable c.if-n-eq0.true c.in-Ok.ensures.rest in
+    let left = λ (visible : g.I.Inputs.visible ≡ true).
+    read_none_more _ _ _ _ _ _ c.in-Ok.n (so_far.read visible) so_far.readable c.if-n-eq0.true c.in-Ok.ensures.rest in
     let nothing = ap (λ k. take k c.read_part.new.buffer) c.if-n-eq0.true in
     let at_end = ended_now _ _ c.in-Ok.n _ _ so_far.readable c.in-Ok.ensures.rest c.if-n-eq0.true c.piece_size-size.ensures.some in
-    let far : g.I.Inputs.told ≡ true → IsUntaken (source_at (g.I.Inputs.sources c.args.inputs.now) c.args.slot) →
+    let far : g.I.Inputs.visible ≡ true → IsUntaken (source_at (g.I.Inputs.sources c.args.inputs.now) c.args.slot) →
     (source_at now c.args.slot).reached ≤ length so_far.fed
-    = λ told unread. rw (ap (λ more. so_far.fed ++ more) nothing ∙ append-nil so_far.fed) at
-    ((takes_more _ (so_far.took told) so_far.readable (c.in-Ok.ensures.bytes told) c.in-Ok.ensures.rest).far unread) in record {
+    = λ visible unread. rw (ap (λ more. so_far.fed ++ more) nothing ∙ append-nil so_far.fed) at
+    ((takes_more _ (so_far.took visible) so_far.readable (c.in-Ok.ensures.bytes visible) c.in-Ok.ensures.rest).far unread) in record {
       ends = λ before opening begun.
-          of_read g.I.Inputs.told _ so_far.fed false _ _
-          (λ told. let at_end = (c.in-Ok.ensures.bytes told).ended c.if-n-eq0.true (omega arith) in let all =
-          read_to_end _ _ _ _ (so_far.read told) at_end.0 at_end.1 in (all.1, all.0))
-          (λ content. came_sound g.I.Inputs.told _ c.args.slot can)
+          of_read g.I.Inputs.visible _ so_far.fed false _ _
+          (λ visible. let at_end = (c.in-Ok.ensures.bytes visible).ended c.if-n-eq0.true (omega arith) in let all =
+          read_to_end _ _ _ _ (so_far.read visible) at_end.0 at_end.1 in (all.1, all.0))
+          (λ content. came_sound g.I.Inputs.visible _ c.args.slot can)
           (λ content is bytes sound came. (
             ended so_far.feeds g.met.S.Stage.lawful _ begun (sound, going, bytes) alike_itself (
               rw (← so_far.feeds.same) (closes so_far.fed (to_end sound bytes) (rw so_far.feeds.same so_far.needed)),
@@ -112,22 +115,22 @@ returns-then-n-eq0 g c =
                 came = came;
                 sound = sound_at now c.args.slot can;
                 ended = λ _. at_end;
-                joined = λ told. is told ∙ left told;
+                joined = λ visible. is visible ∙ left visible;
               },
-              λ told unread standard. rw going (omega (arith, far told unread)),
+              λ visible unread standard. rw going (omega (arith, far visible unread)),
             ) c.end.ensures,
             λ ends sound going. at_end,
           ));
       others = keeps_again _ _ _ _ so_far.others (keeps_others _ _ _ _ c.in-Ok.ensures.rest);
-      reads = λ told. (so_far.fed, so_far.needed, left told);
-      used = λ told ends unread.
-          let gave = c.in-Ok.ensures.bytes told in
+      reads = λ visible. (so_far.fed, so_far.needed, left visible);
+      used = λ visible ends unread.
+          let gave = c.in-Ok.ensures.bytes visible in
           let none = (gave.ended c.if-n-eq0.true (omega arith)).0 in
           let after = changed_source _ _ _ _ so_far.readable c.in-Ok.ensures.rest in
-          uses_all (left told)
+          uses_all (left visible)
           (ap (λ (source : Source). source.left.bytes) after ∙ ap (drop c.in-Ok.n) none ∙ ap (λ k. drop k []) c.if-n-eq0.true)
           so_far.needed (ap (λ (work : Work). work.is_complete so_far.fed) (sym so_far.feeds.same) ∙ going)
-          (far told unread);
+          (far visible unread);
       asked = λ within. asked_again _ _ _ _ _ _ so_far.readable c.in-Ok.ensures.rest (omega arith) (so_far.asked within);
       broke = ends_sound _ _ _ (inl refl) c.end.ensures;
       laid = c.read_part.ensures.kept ∙ so_far.laid;
@@ -145,14 +148,14 @@ pieces-preserved g c =
       feeds = goes_on so_far.feeds piece c.in-Ok-feed.ensures.passes c.in-Ok-feed.ensures.holds c.in-Ok-feed.ensures.bound;
       readable = still_readable _ _ _ _ c.in-Ok.n c.in-Ok.ensures.rest so_far.readable;
       others = keeps_again _ _ _ _ so_far.others (keeps_others _ _ _ _ c.in-Ok.ensures.rest);
-      read = λ told. read_more _ _ _ _ _ _ _ _ _ (so_far.read told) so_far.readable (c.in-Ok.ensures.bytes told) c.in-Ok.ensures.rest;
-      took = λ told. takes_more _ (so_far.took told) so_far.readable (c.in-Ok.ensures.bytes told) c.in-Ok.ensures.rest;
-      last = λ told. needed_more so_far.fed c.read_part.new.buffer from_start (omega (
+      read = λ visible. read_more _ _ _ _ _ _ _ _ _ (so_far.read visible) so_far.readable (c.in-Ok.ensures.bytes visible) c.in-Ok.ensures.rest;
+      took = λ visible. takes_more _ (so_far.took visible) so_far.readable (c.in-Ok.ensures.bytes visible) c.in-Ok.ensures.rest;
+      last = λ visible. needed_more so_far.fed c.read_part.new.buffer from_start (omega (
         arith,
         ap (λ (source : Source). source.last)
             (changed_source _ _ _ _ so_far.readable c.in-Ok.ensures.rest),
         length-take-le c.in-Ok.n _
-            (c.in-Ok.ensures.bytes told).within,
+            (c.in-Ok.ensures.bytes visible).within,
       ));
       few = λ standard n spare. rw (← so_far.feeds.same)
           (c.wanted.ensures.few so_far.fed piece c.feed.new.self.stage n so_far.feeds.holds.within
@@ -179,10 +182,10 @@ returns-in-Err-feed g c =
     let needed = needed_more so_far.fed c.read_part.new.buffer going
     (omega (arith, c.in-Ok.ensures.bound, c.piece_size-size.ensures.within, so_far.room)) in
     let can = still_readable _ _ _ _ c.in-Ok.n c.in-Ok.ensures.rest so_far.readable in
-    let more = λ (told : g.I.Inputs.told ≡ true).
-    (read_more _ _ _ _ _ _ _ _ _ (so_far.read told) so_far.readable (c.in-Ok.ensures.bytes told) c.in-Ok.ensures.rest).bytes in
-    let far = λ (told : g.I.Inputs.told ≡ true).
-    (takes_more _ (so_far.took told) so_far.readable (c.in-Ok.ensures.bytes told) c.in-Ok.ensures.rest).far in
+    let more = λ (visible : g.I.Inputs.visible ≡ true).
+    (read_more _ _ _ _ _ _ _ _ _ (so_far.read visible) so_far.readable (c.in-Ok.ensures.bytes visible) c.in-Ok.ensures.rest).bytes in
+    let far = λ (visible : g.I.Inputs.visible ≡ true).
+    (takes_more _ (so_far.took visible) so_far.readable (c.in-Ok.ensures.bytes visible) c.in-Ok.ensures.rest).far in
     let settles : is_stop (Err c.given_up.result) ≡ false → OfVerdict c.in-Err-feed.fault
     (IsSettled work (so_far.fed ++ piece))
     = λ ends. let (verdict, is, settled) = judges work.means _
@@ -192,8 +195,8 @@ returns-in-Err-feed g c =
       ends = λ before opening begun.
           let within : length piece ≤ length c.args.buffer.now = piece_within c.read_part.new.buffer
           (omega (arith, c.in-Ok.ensures.bound, c.piece_size-size.ensures.within, so_far.room)) in
-          of_more g.I.Inputs.told _ (so_far.fed ++ piece) _ _ _ more
-          (λ content. came_sound g.I.Inputs.told _ c.args.slot can)
+          of_more g.I.Inputs.visible _ (so_far.fed ++ piece) _ _ _ more
+          (λ content. came_sound g.I.Inputs.visible _ c.args.slot can)
           (λ content is rest bytes came. (
             rw c.given_up.ensures.same (stopped_feeding so_far.feeds g.met.S.Stage.lawful c.feed.new.self _
                 piece rest begun bytes (
@@ -202,23 +205,23 @@ returns-in-Err-feed g c =
                     came = came;
                     sound = sound_at now c.args.slot can;
                     ended = λ ends. absurd (cc);
-                    joined = λ told. is told ∙ more told;
+                    joined = λ visible. is visible ∙ more visible;
                   },
-                  λ told unread standard. omega (arith, far told unread),
+                  λ visible unread standard. omega (arith, far visible unread),
                 )
                 c.in-Err-feed.ensures.passes c.given_up.ensures.judged c.given_up.ensures.swept),
             λ ends. rw (← so_far.feeds.same) (told_by_complete content (source_at now c.args.slot) rest
                 (g.met.S.Stage.lawful _ _ so_far.feeds.holds.within) (settles ends).2.0 bytes),
           ));
       others = keeps_again _ _ _ _ so_far.others (keeps_others _ _ _ _ c.in-Ok.ensures.rest);
-      reads = λ told. (
+      reads = λ visible. (
         so_far.fed ++ piece,
         rw (← so_far.feeds.same) needed,
-        more told,
+        more visible,
       );
-      used = λ told ends unread.
+      used = λ visible ends unread.
           rw (← so_far.feeds.same)
-          (uses_judged (more told) needed (settles ends).2 (far told unread));
+          (uses_judged (more visible) needed (settles ends).2 (far visible unread));
       asked = λ within. asked_again _ _ _ _ _ _ so_far.readable c.in-Ok.ensures.rest (omega arith) (so_far.asked within);
       broke = tt;
       laid = c.read_part.ensures.kept ∙ so_far.laid;
@@ -227,9 +230,9 @@ returns-in-Err-feed g c =
 -- nothing more can follow
 
 pub give_back-requires-clause-within : goal.give_back-requires-clause-within
-give_back-requires-clause-within g c told =
+give_back-requires-clause-within g c visible =
     let so_far = c.pieces.invariant in
-    spare_within _ _ _ so_far.fed (g.met.S.Stage.lawful _ _ so_far.feeds.holds.within) (rw so_far.feeds.same (so_far.last told))
+    spare_within _ _ _ so_far.fed (g.met.S.Stage.lawful _ _ so_far.feeds.holds.within) (rw so_far.feeds.same (so_far.last visible))
     (c.unused-unused.ensures so_far.fed so_far.feeds.holds)
 
 pub returns : goal.returns
@@ -247,8 +250,8 @@ returns g c =
           let used = complete_used _ so_far.fed _ spare done in
           let readable = ap (λ (source : Source). source.is_open && not source.is_broken) (changed_source _ (gets_back _) _ _ so_far.readable back)
           ∙ so_far.readable in
-          of_more g.I.Inputs.told _ so_far.fed _ _ _ (λ told. (so_far.read told).bytes)
-          (λ content. came_sound g.I.Inputs.told now c.args.slot readable)
+          of_more g.I.Inputs.visible _ so_far.fed _ _ _ (λ visible. (so_far.read visible).bytes)
+          (λ content. came_sound g.I.Inputs.visible now c.args.slot readable)
           (λ content is rest bytes came. (
             ended so_far.feeds g.met.S.Stage.lawful _ begun (done, (rest, bytes))
                 (alike_after spare.rest (g.met.S.Stage.lawful _ _ so_far.feeds.holds.within) used spare.joined) (
@@ -258,24 +261,24 @@ returns g c =
                     came = came;
                     sound = sound_at now c.args.slot readable;
                     ended = λ ends. absurd (false≢true (sym (ap not used) ∙ ends));
-                    joined = λ told. is told ∙ read_used spare (so_far.read told) (so_far.took told) so_far.readable back;
+                    joined = λ visible. is visible ∙ read_used spare (so_far.read visible) (so_far.took visible) so_far.readable back;
                   },
-                  λ told unread. rw used (read_to_used spare few (so_far.took told) unread so_far.readable back),
+                  λ visible unread. rw used (read_to_used spare few (so_far.took visible) unread so_far.readable back),
                 ) c.end-2.ensures,
             λ ends. rw (← so_far.feeds.same) (told_by_complete content (source_at now c.args.slot) rest
                 (g.met.S.Stage.lawful _ _ so_far.feeds.holds.within) done bytes),
           ));
-      reads = λ told. (
+      reads = λ visible. (
         spare.used,
         rw (← so_far.feeds.same) (needed_within c.requires.room spare.needed),
-        read_used spare (so_far.read told) (so_far.took told) so_far.readable back,
+        read_used spare (so_far.read visible) (so_far.took visible) so_far.readable back,
       );
-      used = λ told ends unread.
+      used = λ visible ends unread.
           rw (← so_far.feeds.same)
-          (uses_part spare (read_used spare (so_far.read told) (so_far.took told) so_far.readable back) c.requires.room
+          (uses_part spare (read_used spare (so_far.read visible) (so_far.took visible) so_far.readable back) c.requires.room
           (complete_used _ so_far.fed _ spare done)
           few
-          (so_far.took told) unread so_far.readable back);
+          (so_far.took visible) unread so_far.readable back);
       others = keeps_again _ _ _ _ so_far.others (keeps_others _ _ _ _ back);
       asked = λ within. rw (ap (λ (source : Source). source.asked) (changed_source _ _ _ _ so_far.readable back)) (so_far.asked within);
       laid = c.give_back.ensures.kept ∙ so_far.laid;

@@ -40,8 +40,8 @@ returns-in-Some-clause-fed g c =
       says,
       of_looked _ _ _ _ _ _ looked
           (rw (c.in-Some.is, ← c.open.auto.buffer, ← had.does) (left_of _ _ _ (still_within c.in-Some.is can c.feed_input.ensures.others)
-          (λ content. fed_so (λ call is. (is.0, (is.1, λ told. is.2 told (rw c.in-Some.is at unread)))))
-          (λ told ends. c.feed_input.ensures.used told ends (rw c.in-Some.is at unread))
+          (λ content. fed_so (λ call is. (is.0, (is.1, λ visible. is.2 visible (rw c.in-Some.is at unread)))))
+          (λ visible ends. c.feed_input.ensures.used visible ends (rw c.in-Some.is at unread))
           (c.feed_input.ensures.ends _ _ (had.owns, rw (← had.does) at had.outputs)))),
     )
 

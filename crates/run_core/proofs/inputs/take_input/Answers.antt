@@ -9,7 +9,7 @@ use Rattle.run_core.proofs.inputs.take_input.Goals as goal
 
 pub returns-in_err-put_header-clause-took : goal.returns-in_err-put_header-clause-took
 returns-in_err-put_header-clause-took g c had =
-    let (shown, says) = shows_something g.I.Inputs.told c.args.source (g.I.Inputs.sources c.args.inputs.now) in
+    let (shown, says) = shows_something g.I.Inputs.visible c.args.source (g.I.Inputs.sources c.args.inputs.now) in
     (shown, says, search (rules, handed_on, unread_source, stopped_in_header))
 
 pub say_why-requires : goal.say_why-requires

@@ -5,7 +5,7 @@ use Rattle.run_core.proofs.inputs.take_names.Given as goal
 
 abbrev pub invariant-loop-left : goal.invariant-loop-left
 invariant-loop-left g l = record {
-  walked : Walked g.I.Inputs.told g.O.Outs.told (g.A.Adapter.task l.job.adapter.now)
+  walked : Walked g.I.Inputs.visible g.O.Outs.visible (g.A.Adapter.task l.job.adapter.now)
       (world_of (g.I.Inputs.laid l.fn.inputs) (g.I.Inputs.sources l.fn.inputs)) (map (λ name. name.now) l.names)
       (map (λ name. name.now) l.left)
       l.progress (g.I.Inputs.laid l.inputs) (g.I.Inputs.sources l.inputs) (g.O.Outs.slots l.outs);

@@ -5,7 +5,8 @@ use Rattle.std.proofs.{
 use Rattle.ports_core.specs.Source.{Content}
 use Rattle.run_core.specs.Input.{Input, inputs_at, standard_input}
 use Rattle.words_core.specs.declared.settings.Settings.{Settings}
-use Rattle.tools_core.specs.{Promises.{HasLong}, Tasks.names_of}
+use Rattle.promises_core.specs.Promises.{HasLong}
+use Rattle.tools_core.specs.Tasks.{names_of}
 use Rattle.run_tests.{specs.inner.Calls.{in_pipe, run_of}}
 use Rattle.run_tests.proofs.law_calls.begun.Goals as goal
 use Rattle.tools_core.specs.Run.{Run}

@@ -4,7 +4,7 @@ use Rattle.words_core.specs.{
   SplitWords.SplitAsked,
   declared.settings.Settings.TheVariants.{Split},
 }
-use Rattle.tools_core.specs.Promises.{ShowAlike, at_first}
+use Rattle.promises_core.specs.Promises.{ShowAlike, at_first}
 use Rattle.run_tests.{
   specs.inner.Calls.{in_file, run_of},
   proofs.{CallLemmas.{file_given, showing, shown_some, weaker}},

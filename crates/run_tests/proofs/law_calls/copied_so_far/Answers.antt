@@ -1,5 +1,6 @@
 use Rattle.std.proofs.{Common.{◌≡◌, ◌++◌, List, ℕ, refl, ◌∙◌, ap, append_assoc}, lemmas.Result.IfOk-weaker}
-use Rattle.ports_core.specs.{Part.IsBeginning, Slot.slot_at}
+use Rattle.engine_core.specs.Written.{IsBeginning}
+use Rattle.ports_core.specs.Slot.{slot_at}
 use Rattle.words_core.specs.declared.settings.Settings.TheVariants.{Tee}
 use Rattle.run_tests.{
   specs.inner.Calls.{in_pipe, run_of},

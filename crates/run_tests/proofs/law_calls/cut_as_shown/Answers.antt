@@ -3,10 +3,8 @@ use Rattle.mem_core.specs.MemInState.{shown_by}
 use Rattle.seg_core.specs.declared.cut.Way.{Way}
 use Rattle.run_core.specs.Input.{Input, file_input, inputs_at}
 use Rattle.words_core.specs.{SplitWords.SplitAsked, Words.settings_of, declared.settings.Settings.{Settings, TheVariants.Split}}
-use Rattle.tools_core.specs.{
-  Outcome.{names_at, names_read},
-  Promises.{Completes, SplitsOther},
-}
+use Rattle.tools_core.specs.Outcome.{names_at, names_read}
+use Rattle.promises_core.specs.Promises.{Completes, SplitsOther}
 use Rattle.run_tests.{specs.inner.Calls.{IsCutShort, in_file, run_of}, proofs.CallLemmas.shown_some}
 use Rattle.run_tests.proofs.law_calls.cut_as_shown.Goals as goal
 use Rattle.tools_core.specs.Run.{Run}

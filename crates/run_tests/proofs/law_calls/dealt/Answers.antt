@@ -2,7 +2,7 @@ use Rattle.std.proofs.Common.{ℕ, ◌<◌, [], ◌∷◌, List, false, map, ref
 use Rattle.std.specs.List.{range_with_len}
 use Rattle.seg_core.specs.declared.cut.Way.TheVariants.{Turn}
 use Rattle.words_core.specs.{SplitWords.SplitAsked, declared.settings.Settings.TheVariants.Split}
-use Rattle.tools_core.specs.Promises.{AreDealt, Splits, output_of}
+use Rattle.promises_core.specs.Promises.{AreDealt, Splits, output_of}
 use Rattle.run_tests.{
   specs.inner.Calls.{in_pipe, run_of},
   proofs.{CallLemmas.{below_two, one_or, pipe_given}},

@@ -5,7 +5,7 @@ use Rattle.std.proofs.{
 use Rattle.std.specs.List.{flat_map, range_with_len}
 use Rattle.seg_core.specs.declared.cut.{Chunks.Chunks, Way.TheVariants.Chunk}
 use Rattle.words_core.specs.SplitWords.{SplitAsked}
-use Rattle.tools_core.specs.Promises.{Splits, output_of}
+use Rattle.promises_core.specs.Promises.{Splits, output_of}
 use Rattle.run_tests.{
   specs.inner.Calls.{in_file, run_of},
   proofs.{CallLemmas.{below_two, one_or}},

@@ -4,11 +4,8 @@ use Rattle.mem_core.specs.MemInState.{shown_by, with_break}
 use Rattle.ports_core.specs.Source.{Content, source_of}
 use Rattle.run_core.specs.Input.{inputs_at}
 use Rattle.words_core.specs.declared.settings.Settings.{Settings}
-use Rattle.tools_core.specs.{
-  Outcome.{names_at, names_read},
-  Promises.{AllAlike, FindAlike, ShowAlike, hold_same},
-  Run.Run,
-}
+use Rattle.tools_core.specs.{Outcome.{names_at, names_read}, Run.Run}
+use Rattle.promises_core.specs.Promises.{AllAlike, FindAlike, ShowAlike, hold_same}
 use Rattle.run_tests.{specs.inner.Calls.{in_file, run_of}, proofs.CallLemmas.alike_ends}
 use Rattle.run_tests.proofs.law_calls.left_broken.Goals as goal
 

@@ -1,6 +1,7 @@
 use Rattle.std.proofs.Common.{refl}
 use Rattle.run_core.specs.Input.{inputs_at}
-use Rattle.tools_core.{proofs.SameLemmas.all_alike, specs.Outcome.names_read}
+use Rattle.promises_core.proofs.SameLemmas.{all_alike}
+use Rattle.tools_core.specs.Outcome.{names_read}
 use Rattle.run_tests.{specs.inner.Calls.{in_pipe, run_of}, proofs.CallLemmas.alike_ends}
 use Rattle.run_tests.proofs.law_calls.left_twice.Goals as goal
 

@@ -4,7 +4,9 @@ use Rattle.words_core.specs.{
   EndsWords.EndsAsked,
   declared.{settings.Settings.TheVariants.{Head, Tail}, tail_words.TailSettings.TailSettings},
 }
-use Rattle.tools_core.specs.{Promises.{Does, at_first, counted, output_of}, Run.Run, Tasks.is_plus}
+use Rattle.promises_core.specs.Promises.{Does, at_first, counted, output_of}
+use Rattle.tools_core.specs.Run.{Run}
+use Rattle.words_core.specs.EndsWords.{is_plus}
 use Rattle.run_tests.{
   specs.inner.Calls.{in_file, run_of},
   proofs.{CallLemmas.{file_given, showing, shown_some}},

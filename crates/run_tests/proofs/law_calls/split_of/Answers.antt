@@ -1,6 +1,6 @@
 use Rattle.std.proofs.Common.{[], ◌∷◌, refl, ap}
 use Rattle.words_core.specs.declared.settings.Settings.TheVariants.{Split}
-use Rattle.tools_core.specs.Promises.{in_full}
+use Rattle.promises_core.specs.Promises.{in_full}
 use Rattle.run_tests.{
   specs.inner.Calls.{in_file, run_of},
   proofs.{CallLemmas.{file_given, showing, shown_as, weaker}},

@@ -1,5 +1,6 @@
 use Rattle.run_core.specs.Input.{inputs_at}
-use Rattle.tools_core.{proofs.SameLemmas.all_alike, specs.Outcome.names_read}
+use Rattle.promises_core.proofs.SameLemmas.{all_alike}
+use Rattle.tools_core.specs.Outcome.{names_read}
 use Rattle.run_tests.{specs.inner.Calls.{in_pipe, run_of}}
 use Rattle.run_tests.proofs.law_tests.both.Goals as goal
 

@@ -1,7 +1,7 @@
 use Rattle.std.proofs.Common.{◌≡◌, drop, refl}
 use Rattle.ports_core.specs.Slot.{slot_at}
 use Rattle.words_core.specs.declared.settings.Settings.TheVariants.{Tee}
-use Rattle.tools_core.specs.Promises.{AreCopies}
+use Rattle.promises_core.specs.Promises.{AreCopies}
 use Rattle.run_tests.{
   specs.inner.Calls.{in_pipe, run_of},
   proofs.{CallLemmas.{pipe_given, weaker}},

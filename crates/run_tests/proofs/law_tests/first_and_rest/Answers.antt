@@ -11,7 +11,7 @@ use Rattle.words_core.specs.{
   Words.settings_of,
   declared.settings.{Headers.TheVariants.ForSeveral, Settings.TheVariants.{Head, Tail}},
 }
-use Rattle.tools_core.specs.Promises.{counted}
+use Rattle.promises_core.specs.Promises.{counted}
 use Rattle.ports_core.specs.declared.calling.Calling.TheVariants.{Cutters}
 use Rattle.run_tests.proofs.law_tests.first_and_rest.Goals as goal
 

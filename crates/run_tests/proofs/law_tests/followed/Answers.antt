@@ -3,7 +3,7 @@ use Rattle.ports_core.specs.{Slot.slot_at, declared.calling.Calling.TheVariants.
 use Rattle.mem_core.specs.{MemInState.laid_in, MemWatchState.{is_fed, seen, shows}}
 use Rattle.watch_core.specs.Snapshot.{Snapshot}
 use Rattle.words_core.specs.EndsWords.{EndsAsked}
-use Rattle.tools_core.specs.Promises.{OnlyGrows, tail_part, to_follow}
+use Rattle.promises_core.specs.Promises.{OnlyGrows, tail_part, to_follow}
 use Rattle.run_tests.proofs.FollowedLemmas.{showing-plain}
 use Rattle.run_core.specs.RunSteps.{world_of}
 use Rattle.run_tests.proofs.law_tests.followed.Goals as goal

@@ -6,7 +6,7 @@ use Rattle.words_core.specs.{
   Words.follows,
   declared.{settings.Settings.TheVariants.{Head, Tail}, value.Followed.Followed},
 }
-use Rattle.tools_core.specs.Promises.{counted, output_of}
+use Rattle.promises_core.specs.Promises.{counted, output_of}
 use Rattle.run_tests.{
   specs.inner.Calls.{in_pipe, run_of},
   proofs.{CallLemmas.pipe_given},

@@ -1,5 +1,5 @@
 use Rattle.std.proofs.Common.{refl}
-use Rattle.ports_core.proofs.AgreedLemmas.{agreed_now, common}
+use Rattle.engine_core.proofs.AgreedLemmas.{agreed_now, common}
 use Rattle.split_core.{
   specs.{ChunkWork.turn_work, laws.ChunkWorkLaws.turn_lawful},
   proofs.{

@@ -1,5 +1,5 @@
 use Rattle.std.proofs.Common.{◌++◌, ap}
-use Rattle.ports_core.specs.Draft.{told_of_files}
+use Rattle.engine_core.specs.Draft.{told_of_files}
 use Rattle.split_core.specs.Split.{output_by, settled_by, whole_by}
 use Rattle.split_core.proofs.laws.lines_are_of_opened_files.Goals as goal
 

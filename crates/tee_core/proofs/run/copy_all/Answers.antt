@@ -17,7 +17,7 @@ tell_broken-requires-clause-known g c = grind (arith, common_steps)
 
 pub copy_pieces-fault-requires-clause-started : goal.copy_pieces-fault-requires-clause-started
 copy_pieces-fault-requires-clause-started g c =
-    starts (run_for g.O.Outs.told c.args.job.now) c.requires.opened (length-names _ c.requires.unknown)
+    starts (run_for g.O.Outs.visible c.args.job.now) c.requires.opened (length-names _ c.requires.unknown)
     c.tell_broken.ensures.said
 
 pub copy_pieces-fault-requires-clause-known : goal.copy_pieces-fault-requires-clause-known

@@ -29,7 +29,7 @@ pieces-init g c = record {
   small = omega arith;
   readable = c.requires.input;
   others = keeps_itself _ _;
-  read = λ told. nothing_read _ _;
+  read = λ visible. nothing_read _ _;
   last = grind (arith, common_steps, gave_none);
   reads = c.requires.unread;
   asked = λ within. within;
@@ -61,9 +61,9 @@ pieces-preserved g c =
       small = omega arith;
       readable = still_readable _ _ _ _ c.in-Ok.n c.in-Ok.ensures.rest so_far.readable;
       others = keeps_again _ _ _ _ so_far.others (keeps_others _ _ _ _ c.in-Ok.ensures.rest);
-      read = λ told. rw (joined_more so_far.pieces piece) at
-          (read_more _ _ _ _ _ _ _ _ _ (so_far.read told) so_far.readable (c.in-Ok.ensures.bytes told) c.in-Ok.ensures.rest);
-      last = λ told. gave_last so_far.pieces _ _ _ so_far.readable (c.in-Ok.ensures.bytes told) c.in-Ok.ensures.rest;
+      read = λ visible. rw (joined_more so_far.pieces piece) at
+          (read_more _ _ _ _ _ _ _ _ _ (so_far.read visible) so_far.readable (c.in-Ok.ensures.bytes visible) c.in-Ok.ensures.rest);
+      last = λ visible. gave_last so_far.pieces _ _ _ so_far.readable (c.in-Ok.ensures.bytes visible) c.in-Ok.ensures.rest;
       reads = reads_more piece so_far.copied (omega (arith, so_far.counted, so_far.small)) so_far.reads
           (ap (λ (source : Source). source.reads) (changed_source 0 (gives _ c.in-Ok.n) _ _ so_far.readable c.in-Ok.ensures.rest));
       asked = λ within. asked_again _ _ _ _ _ _ so_far.readable c.in-Ok.ensures.rest (omega arith) (so_far.asked within);
@@ -84,7 +84,7 @@ returns-in-Err-clause-copies g c =
           few = small;
           met = inl (ap Some c.in-Err.ensures.err.0);
           ended = λ none. absurd (cc);
-          last = λ told vain. absurd (false≢true vain);
+          last = λ visible vain. absurd (false≢true vain);
           reads = reads_once so_far.copied small so_far.reads (ap (λ (source : Source). source.reads)
               (changed_source 0 (fails _ _) _ _ so_far.readable c.in-Err.ensures.err.1.1));
         }),
@@ -110,7 +110,7 @@ returns-then-n-eq0-clause-copies g c =
           met = inr (sound_at (g.I.Inputs.sources c.read.new.self) 0
               (still_readable _ _ _ _ c.in-Ok.n c.in-Ok.ensures.rest so_far.readable));
           ended = λ none left. ended_now _ _ c.in-Ok.n _ _ so_far.readable c.in-Ok.ensures.rest c.if-n-eq0.true (omega arith);
-          last = λ told vain. absurd (false≢true vain);
+          last = λ visible vain. absurd (false≢true vain);
           reads = reads_once so_far.copied small so_far.reads (ap (λ (source : Source). source.reads)
               (changed_source 0 (gives _ c.in-Ok.n) _ _ so_far.readable c.in-Ok.ensures.rest));
         }),
@@ -138,7 +138,7 @@ returns-in_default-clause-copies g c =
           met = inr (sound_at (g.I.Inputs.sources c.read.new.self) 0
               (still_readable _ _ _ _ c.in-Ok.n c.in-Ok.ensures.rest so_far.readable));
           ended = λ none. absurd (cc);
-          last = λ told vain. absurd (false≢true vain);
+          last = λ visible vain. absurd (false≢true vain);
           reads = reads_once so_far.copied small so_far.reads (ap (λ (source : Source). source.reads)
               (changed_source 0 (gives _ c.in-Ok.n) _ _ so_far.readable c.in-Ok.ensures.rest));
         }),
@@ -160,7 +160,7 @@ returns-clause-copies g c =
           few = omega (arith, so_far.counted, so_far.small);
           met = inr (sound_at (g.I.Inputs.sources c.pieces.inputs) 0 so_far.readable);
           ended = λ none left. absurd (false≢true (sym left));
-          last = λ told vain. so_far.last told;
+          last = λ visible vain. so_far.last visible;
           reads = omega arith;
         }),
         breaks,

@@ -4,7 +4,7 @@ use Rattle.tools_core.{specs.Following.{method_of, pause_by}, proofs.RunLemmas.{
 use Rattle.tools_core.proofs.follow.follow_tail.Goals as goal
 
 pub returns : goal.returns
-returns g c told inputs =
+returns g c visible inputs =
     let process = ap (λ (those : TailSettings). those.process) c.settings.view_is in
     let pause = ap (λ (those : TailSettings). those.pause) c.settings.view_is in
     let names = ends_names c.deref.ensures.value (ap (λ (those : TailSettings). those.ends) c.settings.view_is) in

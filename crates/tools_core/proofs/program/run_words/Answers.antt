@@ -9,7 +9,7 @@ pub returns-then-follows-clause-ends : goal.returns-then-follows-clause-ends
 returns-then-follows-clause-ends g c =
     let sources = g.I.Inputs.sources c.args.inputs.now in
     program_follows _ _ c.in-Ok.settings c.in-Ok.ensures.ok c.is_fed-fed.ensures (sym c.follows.ensures ∙ c.if-follows.true)
-    c.looks.ensures (fresh_is c.requires.inputs) (c.follow_asked.ensures g.I.Inputs.told (g.I.Inputs.laid c.args.inputs.now, sources, sources))
+    c.looks.ensures (fresh_is c.requires.inputs) (c.follow_asked.ensures g.I.Inputs.visible (g.I.Inputs.laid c.args.inputs.now, sources, sources))
 
 pub returns-then-follows-clause-opened : goal.returns-then-follows-clause-opened
 returns-then-follows-clause-opened g c = fresh_counts (names_read c.args.calling (map (λ word. word.now) c.args.words.now)) c.requires.inputs

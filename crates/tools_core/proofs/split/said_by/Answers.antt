@@ -7,13 +7,13 @@ use Rattle.tools_core.proofs.split.said_by.Goals as goal
 pub returns-in-Some-clause-said : goal.returns-in-Some-clause-said
 returns-in-Some-clause-said g c =
     let sources = g.I.Inputs.sources c.args.inputs.now in
-    let (shown, says, is) = said_shown g.I.Inputs.told c.in-Some.slot sources c.shown_or_limited.ensures.counted in (
+    let (shown, says, is) = said_shown g.I.Inputs.visible c.in-Some.slot sources c.shown_or_limited.ensures.counted in (
       shown,
-      subst (λ source. IsShown g.I.Inputs.told source sources shown) (sym c.in-Some.is) says,
+      subst (λ source. IsShown g.I.Inputs.visible source sources shown) (sym c.in-Some.is) says,
       λ elide filing. ap (way_work c.args.way.now elide filing) is,
     )
 
 pub returns-in_default-clause-said : goal.returns-in_default-clause-said
 returns-in_default-clause-said g c =
-    let (shown, says) = shows_something g.I.Inputs.told c.args.source (g.I.Inputs.sources c.args.inputs.now) in
+    let (shown, says) = shows_something g.I.Inputs.visible c.args.source (g.I.Inputs.sources c.args.inputs.now) in
     (shown, says, length_matters c.args.way.now c.in_default.not-Chunks c.in_default.not-Chunk _ _)

@@ -1,9 +1,10 @@
 use Rattle.std.proofs.Common.{List, [], length, refl, ap, arith}
 use Rattle.seg_core.specs.Line.{delimiters}
-use Rattle.ports_core.{
-  specs.{Part.{OutputsAt, StoppedBetween, nothing}, Slot.Slot},
-  proofs.{HandedOn.fault_is, PartLemmas.stopped_in_turn, ShareLemmas.nothing_told},
+use Rattle.engine_core.{
+  specs.Written.{OutputsAt, StoppedBetween, nothing},
+  proofs.{WrittenLemmas.stopped_in_turn, ShareLemmas.nothing_told},
 }
+use Rattle.ports_core.{specs.Slot.Slot, proofs.HandedOn.fault_is}
 use Rattle.csplit_core.{specs.{Output.sizes_wanted, Csplit.settled_by, Input.newline}, proofs.StageLemmas.none_stands}
 use Rattle.csplit_core.proofs.csplitter.Csplitter.open.Goals as goal
 
@@ -37,12 +38,12 @@ returns-clause-owns g c = rw c.new-2.ensures (record { writer = c.in_ok-cutter.e
 
 pub returns-clause-outputs : goal.returns-clause-outputs
 returns-clause-outputs g c before at = rw c.as_slice.ensures at (c.in_ok-cutter.ensures.reaches.there before
-    (none_stands g.O.Outs.told c.args.style c.requires.streams at)).outputs
+    (none_stands g.O.Outs.visible c.args.style c.requires.streams at)).outputs
 
 pub returns-in_err-cutter-clause-cut : goal.returns-in_err-cutter-clause-cut
 returns-in_err-cutter-clause-cut g c = fault_is c.from_residual.result
-    (λ fault. (before : List Slot) → OutputsAt g.O.Outs.told before nothing _ → StoppedBetween
-    (sizes_wanted c.args.style) g.O.Outs.told before nothing (settled_by c.args.style c.args.operands.now []) fault _) _ c.from_residual.ensures.1
-    (λ before at. rw c.as_slice.ensures at (stopped_in_turn (sizes_wanted c.args.style) g.O.Outs.told before nothing _ _ _
+    (λ fault. (before : List Slot) → OutputsAt g.O.Outs.visible before nothing _ → StoppedBetween
+    (sizes_wanted c.args.style) g.O.Outs.visible before nothing (settled_by c.args.style c.args.operands.now []) fault _) _ c.from_residual.ensures.1
+    (λ before at. rw c.as_slice.ensures at (stopped_in_turn (sizes_wanted c.args.style) g.O.Outs.visible before nothing _ _ _
     (nothing_told (sizes_wanted c.args.style)) (c.in_err-cutter.ensures.reaches.there before
-    (none_stands g.O.Outs.told c.args.style c.requires.streams at))))
+    (none_stands g.O.Outs.visible c.args.style c.requires.streams at))))

@@ -1,5 +1,5 @@
 use Rattle.std.proofs.Common.{refl}
-use Rattle.ports_core.proofs.SpareLemmas.{all_used}
+use Rattle.engine_core.proofs.SpareLemmas.{all_used}
 use Rattle.csplit_core.proofs.csplitter.CsplitterStage.unused.Goals as goal
 
 pub returns : goal.returns

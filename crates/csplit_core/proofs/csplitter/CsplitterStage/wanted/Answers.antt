@@ -1,5 +1,5 @@
 use Rattle.std.proofs.Common.{refl, ◌++◌, arith}
-use Rattle.ports_core.proofs.SpareLemmas.{none_spare}
+use Rattle.engine_core.proofs.SpareLemmas.{none_spare}
 use Rattle.csplit_core.specs.laws.InputLaws.{lawful}
 use Rattle.csplit_core.proofs.csplitter.CsplitterStage.wanted.Goals as goal
 

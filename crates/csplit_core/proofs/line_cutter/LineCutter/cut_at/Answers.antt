@@ -1,5 +1,6 @@
 use Rattle.std.proofs.Common.{◌∙◌, Err, ap, arith, refl}
-use Rattle.ports_core.proofs.{HandedOn.fault_is, WriterSteps.goes_or_lacks}
+use Rattle.ports_core.proofs.HandedOn.{fault_is}
+use Rattle.engine_core.proofs.WriterSteps.{goes_or_lacks}
 use Rattle.csplit_core.{
   specs.{Cutter.{CutterState, kept_next}, Output.{Style, opening_of}},
   proofs.CutterLemmas.{cut_put_stopped, cut_next_stopped, cut_done},

@@ -1,4 +1,5 @@
-use Rattle.ports_core.{proofs.{HandedOn.handed_on, WriterSteps.goes_lacking}}
+use Rattle.ports_core.proofs.HandedOn.{handed_on}
+use Rattle.engine_core.proofs.WriterSteps.{goes_lacking}
 use Rattle.std.proofs.{Common.{refl, sym, ◌∙◌, arith}, lemmas.Grind.common_steps}
 use Rattle.csplit_core.{
   proofs.{CutterLemmas.cut_put_stopped, TakeLemmas.{cut_drained, spread_held, spread_fit, spread_ready}},

@@ -1,6 +1,6 @@
 use Rattle.std.proofs.Common.{arith, length-append}
 use Rattle.csplit_core.proofs.CutterLemmas.{hold_goes, hold_past}
-use Rattle.ports_core.proofs.FileWriterLemmas.{well_in}
+use Rattle.engine_core.proofs.FileWriterLemmas.{well_in}
 use Rattle.csplit_core.proofs.line_cutter.LineCutter.hold.Goals as goal
 
 pub returns-then-is_past : goal.returns-then-is_past

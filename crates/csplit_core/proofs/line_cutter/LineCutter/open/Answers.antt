@@ -1,6 +1,7 @@
 use Rattle.std.proofs.lemmas.Grind.{common_steps}
 use Rattle.std.proofs.Common.{◌∙◌, ap, arith}
-use Rattle.ports_core.{proofs.HandedOn.handed_on, specs.FileWriter.WriterState}
+use Rattle.ports_core.proofs.HandedOn.{handed_on}
+use Rattle.engine_core.specs.FileWriter.{WriterState}
 use Rattle.csplit_core.{proofs.StageLemmas.{begun_not, first_opened, first_part, made_goes, opened_lacks}}
 use Rattle.csplit_core.proofs.line_cutter.LineCutter.open.Goals as goal
 
@@ -12,7 +13,7 @@ returns-in_err-window g c = grind (arith, common_steps, handed_on, opened_lacks)
 
 pub returns-in_err-writer : goal.returns-in_err-writer
 returns-in_err-writer g c =
-    rw (handed_on _ _ c.from_residual-in_err-writer.ensures.1) (opened_lacks g.O.Outs.told c.args.operands.now c.in_err-writer.ensures.err)
+    rw (handed_on _ _ c.from_residual-in_err-writer.ensures.1) (opened_lacks g.O.Outs.visible c.args.operands.now c.in_err-writer.ensures.err)
 
 pub returns-in_err-begin : goal.returns-in_err-begin
 returns-in_err-begin g c =

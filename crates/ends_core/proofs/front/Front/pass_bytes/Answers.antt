@@ -1,6 +1,6 @@
 use Rattle.std.proofs.{Common.{arith, sym}, lemmas.List.nil_from_length}
 use Rattle.seg_core.specs.declared.unit.Unit.TheVariants.{Bytes}
-use Rattle.ports_core.proofs.LoadLemmas.{passes_none, passes_so, passes_by}
+use Rattle.ports_core.proofs.InputsLemmas.{passes_none, passes_so, passes_by}
 use Rattle.ends_core.proofs.KeptLemmas.{fewer_left, stays}
 use Rattle.ends_core.proofs.front.Front.pass_bytes.Goals as goal
 

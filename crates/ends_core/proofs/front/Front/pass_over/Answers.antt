@@ -1,4 +1,4 @@
-use Rattle.ports_core.proofs.LoadLemmas.{passes_none}
+use Rattle.ports_core.proofs.InputsLemmas.{passes_none}
 use Rattle.ends_core.proofs.KeptLemmas.{stays}
 use Rattle.ends_core.proofs.front.Front.pass_over.Goals as goal
 

@@ -46,14 +46,14 @@ returns-in-Ok-clause-visits g c first = gave_through c.in-Ok.ensures.starts.fate
     (latest (g.W.Watch.seen c.args.watch.now)).leads c.requires.name) c.in-Ok.ensures.starts.keeps)
     (first_started c.self.view_is c.in-Ok-true.ensures.ok c.in-Ok-true.field-0-test c.requires.name c.requires.watchable
     (ap latest c.reopen.ensures.seen) (header_only None c.in_default.ensures.puts) c.in-Ok.ensures.starts)
-    (first_long g.W.Watch.told c.args.by_name (latest (g.W.Watch.seen c.args.watch.now)) c.in-Ok.len
+    (first_long g.W.Watch.visible c.args.by_name (latest (g.W.Watch.seen c.args.watch.now)) c.in-Ok.len
     c.in-Ok-true.ensures.ok c.in-Ok-true.field-0-test c.requires.watchable c.in-Ok.ensures.starts.keeps
     (rw c.reopen.ensures.seen at c.in-Ok.ensures.long))
 
 pub returns-in-Err-write_start-clause-visits : goal.returns-in-Err-write_start-clause-visits
 returns-in-Err-write_start-clause-visits g c first = gave_fails c.in-Err-write_start.ensures.starts.fate c.in-Err-write_start.stop
     c.requires.name c.requires.watchable
-    (follows_from {told = g.W.Watch.told} {led = (latest (g.W.Watch.seen c.args.watch.now)).leads c.args.name.now} _ _ _
+    (follows_from {visible = g.W.Watch.visible} {led = (latest (g.W.Watch.seen c.args.watch.now)).leads c.args.name.now} _ _ _
     c.in-Err-write_start.ensures.starts.fate (Some c.in-Err-write_start.stop) c.in-Ok-true.ensures.ok.names
     (λ none. absurd (cc)) c.in-Err-write_start.ensures.starts.keeps)
     (first_started c.self.view_is c.in-Ok-true.ensures.ok c.in-Ok-true.field-0-test c.requires.name c.requires.watchable

@@ -9,7 +9,7 @@ is_gone c = gone_next c.args.process c.self.view_is c.self.invariant.0
     (c.world_in.ensures ∙ ap (λ worlds. world_at worlds c.min-next.result) c.deref.ensures.value) c.has_ended.ensures
 
 pub returns-clause-told : goal.returns-clause-told
-returns-clause-told c told = is_gone c
+returns-clause-told c visible = is_gone c
 
 pub returns-clause-found : goal.returns-clause-found
 returns-clause-found c gone = rw (is_gone c) at gone

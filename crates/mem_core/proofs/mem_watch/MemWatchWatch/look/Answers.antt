@@ -3,7 +3,7 @@ use Rattle.mem_core.proofs.MemWatchLemmas.{finds_any, leads_there, may_break}
 use Rattle.mem_core.proofs.mem_watch.MemWatchWatch.look.Goals as goal
 
 pub returns-clause-ok : goal.returns-clause-ok
-returns-clause-ok c told = rw c.led.ensures at c.seen_of-found.ensures.tells
+returns-clause-ok c visible = rw c.led.ensures at c.seen_of-found.ensures.tells
 
 pub returns-clause-found : goal.returns-clause-found
 returns-clause-found c = finds_any c.args.self.now.manner c.args.self.now.within c.args.self.now.worlds c.args.self.now.turns _ _

@@ -1,5 +1,5 @@
 use Rattle.std.proofs.Common.{◌≤◌, arith}
-use Rattle.ports_core.proofs.SlotSteps.{opened_writable, written_writable}
+use Rattle.engine_core.proofs.SlotSteps.{opened_writable, written_writable}
 use Rattle.port_tests.proofs.pages.written_file.write_file.Goals as goal
 
 pub close-requires : goal.close-requires

@@ -3,7 +3,7 @@ use Rattle.split_core.{specs.inner.Cutter.seen_cutter, proofs.CutterLemmas.Endin
 use Rattle.split_core.proofs.chunk_cutter.ChunkCutter.end_all.Given as goal
 
 abbrev pub invariant-places : goal.invariant-places
-invariant-places g l = Ending g.O.Outs.told (seen_cutter l.fn.self) l.fn.size (g.O.Outs.slots l.fn.outs) (g.O.Outs.slots l.outs) (seen_cutter l.self)
+invariant-places g l = Ending g.O.Outs.visible (seen_cutter l.fn.self) l.fn.size (g.O.Outs.slots l.fn.outs) (g.O.Outs.slots l.outs) (seen_cutter l.self)
 
 abbrev pub decreases-places : goal.decreases-places
 decreases-places g l = l.self.chunks.count - l.self.sink.place

@@ -1,5 +1,6 @@
 use Rattle.std.proofs.Common.{IfSome, subst, sym}
-use Rattle.ports_core.{specs.Engine.TookIn, proofs.LoadLemmas.{loads_none, loads_still, passes_by, passes_so}}
+use Rattle.engine_core.{specs.Engine.TookIn, proofs.LoadLemmas.{loads_none, loads_still}}
+use Rattle.ports_core.proofs.InputsLemmas.{passes_by, passes_so}
 use Rattle.split_core.{
   specs.{Alike.as_if, Ways.terms, inner.Chunker.{TakesFront, passed_to}},
   proofs.AlikeLemmas.holds_itself,

@@ -1,13 +1,10 @@
 use Rattle.ports_core.{
-  proofs.{HandedOn.handed_on, ShareLemmas.{bytes_begin, next_begins}, WriterSteps.{goes_again, goes_wider}},
-  specs.{
-    FileWriter.is_file,
-    declared.{
-      fault.Fault.TheVariants.{Verdict, Write},
-      verdict.Verdict.TheVariants.Suffixes,
-      file_writer.Opening.TheVariants.Never,
-    },
-  },
+  proofs.HandedOn.handed_on,
+  specs.declared.{fault.Fault.TheVariants.{Verdict, Write}, verdict.Verdict.TheVariants.Suffixes},
+}
+use Rattle.engine_core.{
+  proofs.{ShareLemmas.{bytes_begin, next_begins}, WriterSteps.{goes_again, goes_wider}},
+  specs.{FileWriter.is_file, declared.file_writer.Opening.TheVariants.Never},
 }
 use Rattle.std.proofs.Common.{◌≡◌, refl, ap, sym, inl, ◌∙◌}
 use Rattle.split_core.{specs.PartsState.PartsState, proofs.PartsLemmas.{closed_so, finishes_none, some_broke}}

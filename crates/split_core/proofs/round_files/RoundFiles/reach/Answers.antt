@@ -1,5 +1,6 @@
 use Rattle.std.proofs.Common.{ap, length, arith, refl}
-use Rattle.ports_core.{proofs.HandedOn.result_is, specs.Names.no_memory}
+use Rattle.ports_core.proofs.HandedOn.{result_is}
+use Rattle.engine_core.specs.Names.{no_memory}
 use Rattle.split_core.{specs.{FilesState.FilesState, inner.Sharing.Opens}, proofs.FilesLemmas.{reached, reached_not}}
 use Rattle.split_core.proofs.round_files.RoundFiles.reach.Goals as goal
 

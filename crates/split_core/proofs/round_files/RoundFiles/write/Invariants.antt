@@ -4,4 +4,4 @@ use Rattle.split_core.specs.inner.Sharing.{Adds}
 use Rattle.split_core.proofs.round_files.RoundFiles.write.Given as goal
 
 abbrev pub invariant-loop-place : goal.invariant-loop-place
-invariant-loop-place g l = Adds l.fn.self l.self (λ place. get_or (take l.place l.fn.gathered) place []) 0 l.place (effect g.O.Outs.told (g.O.Outs.slots l.fn.outs) (g.O.Outs.slots l.outs)) (Ok tt)
+invariant-loop-place g l = Adds l.fn.self l.self (λ place. get_or (take l.place l.fn.gathered) place []) 0 l.place (effect g.O.Outs.visible (g.O.Outs.slots l.fn.outs) (g.O.Outs.slots l.outs)) (Ok tt)

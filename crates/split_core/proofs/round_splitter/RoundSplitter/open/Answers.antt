@@ -1,5 +1,6 @@
 use Rattle.std.proofs.Common.{◌∙◌, ap, refl}
-use Rattle.ports_core.proofs.{HandedOn.fault_is, PartLemmas.{nothing_begins_part, stopped_here}}
+use Rattle.ports_core.proofs.HandedOn.{fault_is}
+use Rattle.engine_core.proofs.WrittenLemmas.{nothing_begins_part, stopped_here}
 use Rattle.split_core.{specs.FilesState.filing_in, proofs.RoundLemmas.{does_all, opens_cut, opens_so}}
 use Rattle.split_core.proofs.round_splitter.RoundSplitter.open.Goals as goal
 

@@ -1,4 +1,4 @@
-use Rattle.ports_core.proofs.LoadLemmas.{loads_none}
+use Rattle.engine_core.proofs.LoadLemmas.{loads_none}
 use Rattle.split_core.proofs.splitter.SplitterStage.load.Goals as goal
 
 pub returns-in_default-clause-loads : goal.returns-in_default-clause-loads

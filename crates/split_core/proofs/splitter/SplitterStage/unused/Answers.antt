@@ -1,5 +1,5 @@
 use Rattle.split_core.proofs.{AlikeLemmas.unused_as, ChunkerWays.chunks_spare, RoundLemmas.never_done}
-use Rattle.ports_core.proofs.SpareLemmas.{all_used}
+use Rattle.engine_core.proofs.SpareLemmas.{all_used}
 use Rattle.split_core.proofs.splitter.SplitterStage.unused.Goals as goal
 
 pub returns-in_default : goal.returns-in_default

@@ -9,6 +9,6 @@ returns-in_err-gather-clause-passes g c = result_is (PassesAs _ _ _ _) _ _ c.fro
 
 pub returns-clause-passes : goal.returns-clause-passes
 returns-clause-passes g c = let gathers = c.in_ok-gather.ensures.gathers in
-    rw (← c.self.view_is, c.gather.ensures.delim, c.gather.ensures.count, gathers.next_is) (passes_at g.O.Outs.told
+    rw (← c.self.view_is, c.gather.ensures.delim, c.gather.ensures.count, gathers.next_is) (passes_at g.O.Outs.visible
     _ _ _ c.requires
     (rw (c.at.ensures ∙ picked _ c.args.piece.now c.self.invariant gathers.gathered_is) at c.write_bytes.ensures))

@@ -1,4 +1,5 @@
-use Rattle.ports_core.proofs.{SlotSteps.swept_none, HandedOn.fault_is, PartLemmas.nothing_out}
+use Rattle.engine_core.proofs.{SlotSteps.swept_none, WrittenLemmas.nothing_out}
+use Rattle.ports_core.proofs.HandedOn.{fault_is}
 use Rattle.std.proofs.{Common.{◌∙◌, refl, ap}, lemmas.Result.on_ok_weaker}
 use Rattle.words_core.specs.CsplitWords.{CsplitAsked}
 use Rattle.run_core.proofs.InputLemmas.{shows_something}
@@ -10,7 +11,7 @@ use Rattle.tools_core.proofs.csplit.CsplitAdapterAdapter.open.Goals as goal
 
 pub returns-in_err-style-clause-opens : goal.returns-in_err-style-clause-opens
 returns-in_err-style-clause-opens g c =
-    let (shown, says) = shows_something g.I.Inputs.told c.args.source (g.I.Inputs.sources c.args.inputs.now) in (
+    let (shown, says) = shows_something g.I.Inputs.visible c.args.source (g.I.Inputs.sources c.args.inputs.now) in (
       shown,
       says,
       (
@@ -21,7 +22,7 @@ returns-in_err-style-clause-opens g c =
 
 pub returns-clause-opens : goal.returns-clause-opens
 returns-clause-opens g c =
-    let (shown, says) = shows_something g.I.Inputs.told c.args.source (g.I.Inputs.sources c.args.inputs.now) in
+    let (shown, says) = shows_something g.I.Inputs.visible c.args.source (g.I.Inputs.sources c.args.inputs.now) in
     let same = c.in_ok-style.ensures ∙ ap (λ (asked : CsplitAsked). asked.style) c.settings.view_is in
     let is = ap (λ style. csplit_work style c.args.self.now.operands.now) same in (
       shown,

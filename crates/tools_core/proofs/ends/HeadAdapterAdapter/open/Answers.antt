@@ -2,12 +2,13 @@ use Rattle.std.proofs.{Common.{Ok, None, Some, true, false, refl, sym, ◌∙◌
 use Rattle.run_core.{proofs.InputLemmas.shows_something}
 use Rattle.ends_core.specs.Shown.{place_of}
 use Rattle.words_core.specs.EndsWords.{EndsAsked}
-use Rattle.tools_core.{specs.Tasks.is_minus, proofs.AdapterLemmas.{head_by, between_starts, head_begins, no_memory_for, opened_still}}
+use Rattle.words_core.specs.EndsWords.{is_minus}
+use Rattle.tools_core.proofs.AdapterLemmas.{head_by, between_starts, head_begins, no_memory_for, opened_still}
 use Rattle.tools_core.proofs.ends.HeadAdapterAdapter.open.Goals as goal
 
 pub returns-then-not-is_minus-clause-opens : goal.returns-then-not-is_minus-clause-opens
 returns-then-not-is_minus-clause-opens g c =
-    let (shown, says) = shows_something g.I.Inputs.told c.args.source (g.I.Inputs.sources c.args.inputs.now) in
+    let (shown, says) = shows_something g.I.Inputs.visible c.args.source (g.I.Inputs.sources c.args.inputs.now) in
     let is = head_by shown c.settings.view_is (sym c.is_minus.ensures ∙ c.if-not-is_minus.true) in (
       shown,
       says,

@@ -1,12 +1,13 @@
 use Rattle.std.proofs.{Common.{Ok, None, Some, true, false, refl, sym, ◌∙◌, ap}, lemmas.Bool.false≢true}
 use Rattle.run_core.{proofs.InputLemmas.shows_something}
 use Rattle.words_core.specs.EndsWords.{EndsAsked}
-use Rattle.tools_core.{specs.Tasks.is_plus, proofs.AdapterLemmas.{between_starts, tail_by, tail_starts, no_memory_for, opened_still}}
+use Rattle.words_core.specs.EndsWords.{is_plus}
+use Rattle.tools_core.proofs.AdapterLemmas.{between_starts, tail_by, tail_starts, no_memory_for, opened_still}
 use Rattle.tools_core.proofs.ends.TailAdapterAdapter.open.Goals as goal
 
 pub returns-then-is_plus-clause-opens : goal.returns-then-is_plus-clause-opens
 returns-then-is_plus-clause-opens g c =
-    let (shown, says) = shows_something g.I.Inputs.told c.args.source (g.I.Inputs.sources c.args.inputs.now) in
+    let (shown, says) = shows_something g.I.Inputs.visible c.args.source (g.I.Inputs.sources c.args.inputs.now) in
     let is = tail_by shown c.settings.view_is (sym c.is_plus.ensures ∙ c.if-is_plus.true) in (
       shown,
       says,

@@ -1,5 +1,6 @@
 use Rattle.std.{proofs.{Common.refl, lemmas.Result.on_ok_weaker}, specs.Bool.⊤}
-use Rattle.ports_core.proofs.{HandedOn.fault_is, PartLemmas.nothing_out}
+use Rattle.ports_core.proofs.HandedOn.{fault_is}
+use Rattle.engine_core.proofs.WrittenLemmas.{nothing_out}
 use Rattle.tools_core.proofs.{
   AdapterLemmas.{no_memory, none_opened, only_looked_none, opened_of, opened_short, some_there, split_asked},
   AdapterLemmas.{split_halts, whatever},

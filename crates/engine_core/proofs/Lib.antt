@@ -1,0 +1,15 @@
+pub mod WrittenLemmas
+pub mod EngineLemmas
+pub mod LoadLemmas
+pub mod SweepLemmas
+pub mod FileLemmas
+pub mod SpareLemmas
+pub mod SlotSteps
+pub mod AgreedLemmas
+pub mod LeastLemmas
+pub mod WrittenSteps
+pub mod ShareLemmas
+pub mod OpenLemmas
+pub mod FileWriterLemmas
+pub mod FileBegunLemmas
+pub mod WriterSteps

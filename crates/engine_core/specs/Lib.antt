@@ -1,0 +1,11 @@
+pub mod Written
+pub mod Swept
+pub mod InTurn
+pub mod Work
+pub mod Agreed
+pub mod Engine
+pub mod EngineState
+pub mod Names
+pub mod Draft
+pub mod FileWriter
+pub mod inner

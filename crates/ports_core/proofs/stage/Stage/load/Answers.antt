@@ -1,6 +1,0 @@
-use Rattle.std.proofs.{Common.arith}
-use Rattle.ports_core.proofs.LoadLemmas.{loads_none}
-use Rattle.ports_core.proofs.stage.Stage.load.Goals as goal
-
-pub returns-clause-loads : goal.returns-clause-loads
-returns-clause-loads g c = grind (arith, loads_none)
