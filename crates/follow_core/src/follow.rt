@@ -188,8 +188,8 @@ impl Follow {
             (slots : List Slot)
             → Holds true visible asked looks (point self.now watched slots)
             → result ≡ is_alive asked.ways asked.names looks }
-        ensures none { (visible_in visible : Bool) (asked : Asked) (looks : List Look) (watched : List Watched)
-            (slots : List Slot) → Holds visible_in visible asked looks (point self.now watched slots) → 0 < length looks
+        ensures none { (read visible : Bool) (asked : Asked) (looks : List Look) (watched : List Watched)
+            (slots : List Slot) → Holds read visible asked looks (point self.now watched slots) → 0 < length looks
             → result ≡ false → NoneGoesOn asked.ways watched }
     {
         any_goes_on(&self.names, self.by_name)

@@ -136,9 +136,9 @@ fn take_name<A: Adapter, I: Inputs, O: Outs>(
     requires standard { progress.was_read ≡ false → IsTrue (is_readable (I.sources inputs.old) 0) }
     requires unread { progress.was_read ≡ false → IsUntaken (source_at (I.sources inputs.old) 0) }
     requires outputs { HasStreams O.visible (O.slots outs.old) }
-    ensures took { (had : HasStreams O.visible (O.slots outs.old))
+    ensures took { (is : HasStreams O.visible (O.slots outs.old))
         → TookName I.visible (I.laid inputs.old) (A.task job.now.adapter.now) name.now
-        (start_at had progress (length buffer.old) (I.sources inputs.old)) (I.sources inputs.new) (O.slots outs.new)
+        (start_at is progress (length buffer.old) (I.sources inputs.old)) (I.sources inputs.new) (O.slots outs.new)
         result }
     ensures takes { TakesOne (length buffer.old) progress.was_read name.now (I.sources inputs.old)
         (I.sources inputs.new) }

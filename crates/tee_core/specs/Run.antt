@@ -24,6 +24,7 @@ use Rattle.tee_core.specs.{
   Outputs.{ChangesEach, Closes, Gets},
 }
 use Rattle.ports_core.specs.declared.reason.Reason.TheVariants as reason
+use denote.Ref.{Bor}
 
 -- who speaks in the messages of `tee`
 abbrev pub tee_called : Calling → Speaker
@@ -36,6 +37,15 @@ pub record TeeRun : Type 0 where
   pub mode : Mode
   pub on_broken : OnBroken
   pub names : List (List ℕ)
+
+abbrev pub tee_run : Bool → Calling → Mode → OnBroken → List (Bor (List ℕ)) → TeeRun
+tee_run visible calling mode on_broken names = record {
+  visible = visible;
+  calling = calling;
+  mode = mode;
+  on_broken = on_broken;
+  names = map (λ name. name.now) names;
+}
 
 -- how an output stands that broke for this reason: it is gone if its reader is gone
 abbrev pub lost_for : Reason → Standing

@@ -15,7 +15,7 @@ ghost use Rattle.tee_core.specs.{
   Opening.Opens,
   Outputs.IsReady,
   Run.{AreSound, ClosesAll, CopiesPiece, Copied, EndsOver, SaysTo, all_copied, forgives, is_done, output_names, said_of_input},
-  Run.{output_slot, said_since, standings_of, stands_as, tee_called, tells},
+  Run.{output_slot, said_since, standings_of, stands_as, tee_called, tee_run, tells},
   inner.Steps.{CopiesOver, HasStreams, IsTeeOf, run_for},
   declared.standing.Standing.TheVariants.Sound,
 };
@@ -63,13 +63,7 @@ pub fn run_tee<I: Inputs, O: Outs>(
 ) -> u8
     requires fresh { IsFresh (I.sources inputs.old) }
     requires outputs { O.slots outs.old ≡ streams }
-    ensures ends { EndsOver (record {
-      visible = O.visible;
-      calling = calling;
-      mode = mode;
-      on_broken = on_broken;
-      names = map (λ name. name.now) names.now;
-    }) I.visible (source_at (I.sources inputs.old) 0) (source_at (I.sources inputs.new) 0) (O.slots outs.new) result }
+    ensures ends { EndsOver (tee_run O.visible calling mode on_broken names.now) I.visible (source_at (I.sources inputs.old) 0) (source_at (I.sources inputs.new) 0) (O.slots outs.new) result }
     ensures whole { I.visible ≡ true → result ≡ 0 → (forgives on_broken ≡ true → AreSound (O.slots outs.new))
         → O.slots outs.new
         ≡ all_copied O.visible mode (map (λ name. name.now) names.now) (source_at (I.sources inputs.old) 0).left.bytes }

@@ -41,6 +41,10 @@ pub record Run : Type 0 where
 abbrev pub OfInputs : Type 0
 OfInputs = (ℕ → List ℕ → Option Content) × List Source × List Source
 
+abbrev pub of_inputs : {Inputs : Type 0} → (Inputs → ℕ → List ℕ → Option Content) → (Inputs → List Source)
+    → (old new : Inputs) → OfInputs
+of_inputs laid sources old new = (laid old, sources old, sources new)
+
 -- what a run found and left of its watch: whether standard input is a file that can be watched, what each look would see,
 -- what the looks saw that were made, and the names as they are watched
 abbrev pub OfWatch : Type 0

@@ -37,7 +37,7 @@ pub fn run_follow<W: Watch, O: Outs>(
     requires unseen { W.seen watch.old ≡ [] }
     requires unwatched { W.watched watch.old ≡ [] }
     requires outputs { O.slots outs.old ≡ streams }
-    ensures { (visible_in : Bool) (inputs : OfInputs) → FollowingEnds (visible_by visible_in W.visible O.visible)
+    ensures { (any : Bool) (inputs : OfInputs) → FollowingEnds (visible_by any W.visible O.visible)
         (whole_run Calling.Cutters words.now inputs (false, W.shows watch.old, W.seen watch.new, W.watched watch.new)
         (O.slots outs.new) result) looks }
 {
@@ -72,7 +72,7 @@ pub(crate) fn follow_asked<W: Watch, O: Outs>(
     requires unwatched { W.watched watch.old ≡ [] }
     requires outputs { O.slots outs.old ≡ streams }
     requires operands { HasOperands settings.now }
-    ensures { (visible_in : Bool) (inputs : OfInputs) → FollowingEndsAt (visible_by visible_in W.visible O.visible)
+    ensures { (any : Bool) (inputs : OfInputs) → FollowingEndsAt (visible_by any W.visible O.visible)
         (whole_run calling words.now inputs (fed, W.shows watch.old, W.seen watch.new, W.watched watch.new)
         (O.slots outs.new) result) looks (Ok settings.now) }
 {
@@ -98,7 +98,7 @@ fn follow_tail<W: Watch, O: Outs>(
     requires unseen { W.seen watch.old ≡ [] }
     requires unwatched { W.watched watch.old ≡ [] }
     requires outputs { O.slots outs.old ≡ streams }
-    ensures { (visible_in : Bool) (inputs : OfInputs) → FollowsAs (visible_by visible_in W.visible O.visible)
+    ensures { (any : Bool) (inputs : OfInputs) → FollowsAs (visible_by any W.visible O.visible)
         (whole_run calling [] inputs (false, W.shows watch.old, W.seen watch.new, W.watched watch.new)
         (O.slots outs.new) result) looks settings.now followed }
 {

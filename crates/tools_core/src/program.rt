@@ -2,7 +2,7 @@
 ghost use Rattle.std.specs.Prelude.{◌≡◌, ◌≤◌, ◌&&◌, [], false, length, map};
 ghost use Rattle.ports_core.specs.{Slot.streams, Source.{source_at, IsFresh}, Inputs.{AsksAtMost, largest_piece}};
 ghost use Rattle.run_core.specs.{Input.has_dash, Reading.count_after};
-ghost use Rattle.tools_core.specs.{Outcome.names_read, Program.ProgramEnds, Run.{visible_by, whole_run}};
+ghost use Rattle.tools_core.specs.{Outcome.names_read, Program.ProgramEnds, Run.{of_inputs, visible_by, whole_run}};
 ghost use Rattle.words_core.specs.Words.{asks_input};
 
 use crate::follow::follow_asked;
@@ -28,7 +28,7 @@ pub fn run_words<I: Inputs, W: Watch, O: Outs>(
     requires unwatched { W.watched watch.old ≡ [] }
     requires outputs { O.slots outs.old ≡ streams }
     ensures ends { ProgramEnds (visible_by I.visible W.visible O.visible) (whole_run calling words.now
-        (I.laid inputs.old, I.sources inputs.old, I.sources inputs.new)
+        (of_inputs I.laid I.sources inputs.old inputs.new)
         (W.fed watch.old, W.shows watch.old, W.seen watch.new, W.watched watch.new) (O.slots outs.new) result) }
     ensures opened { length (I.sources inputs.new) ≤ count_after 1
         (names_read calling (map (λ word. word.now) words.now)) }

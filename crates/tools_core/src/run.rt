@@ -10,7 +10,7 @@ ghost use Rattle.ports_core.specs.{
 ghost use Rattle.run_core.specs.{Input.has_dash, Reading.count_after};
 ghost use Rattle.tools_core.specs.{
   Outcome.{RefusesFor, RunEnds, names_read, refuser, speaker},
-  Run.{OfWatch, visible_by, whole_run},
+  Run.{OfWatch, of_inputs, visible_by, whole_run},
   Tasks.{by, names_of},
   inner.Asked.RunsAsked,
 };
@@ -40,7 +40,7 @@ pub fn run<I: Inputs, O: Outs>(alloc: Global, words: &[&str], inputs: &mut I, ou
     requires inputs { IsFresh (I.sources inputs.old) }
     requires outputs { O.slots outs.old ≡ streams }
     ensures ends { (visible_watched : Bool) (watch : OfWatch) → RunEnds (visible_by I.visible visible_watched O.visible)
-        (whole_run Calling.Cutters words.now (I.laid inputs.old, I.sources inputs.old, I.sources inputs.new) watch
+        (whole_run Calling.Cutters words.now (of_inputs I.laid I.sources inputs.old inputs.new) watch
         (O.slots outs.new) result) }
     ensures opened { length (I.sources inputs.new) ≤ count_after 1
         (names_read Calling.Cutters (map (λ word. word.now) words.now)) }
@@ -110,9 +110,9 @@ pub(crate) fn run_tool<I: Inputs, O: Outs>(
     requires inputs { IsFresh (I.sources inputs.old) }
     requires outputs { O.slots outs.old ≡ streams }
     requires can { CanRun settings.now }
-    ensures ends { (visible : Bool) (words : List (Bor (List ℕ))) (watch : OfWatch)
-        → RunsAsked (visible_by I.visible visible O.visible) (whole_run calling words
-        (I.laid inputs.old, I.sources inputs.old, I.sources inputs.new) watch (O.slots outs.new) result) settings.now }
+    ensures ends { (any : Bool) (words : List (Bor (List ℕ))) (watch : OfWatch)
+        → RunsAsked (visible_by I.visible any O.visible) (whole_run calling words
+        (of_inputs I.laid I.sources inputs.old inputs.new) watch (O.slots outs.new) result) settings.now }
     ensures opened { length (I.sources inputs.new) ≤ count_after 1 (names_of settings.now) }
     ensures asked { AsksAtMost largest_piece (I.sources inputs.new) }
     ensures untouched { has_dash (names_of settings.now) ≡ false

@@ -1,5 +1,5 @@
 -- What private calls of a run rest on, and what they leave.
-use Rattle.std.specs.Prelude.{◌≡◌, ℕ, ◌<◌, Bool, true, false, List, ◌∷◌, length, map, Option}
+use Rattle.std.specs.Prelude.{◌≡◌, ℕ, ◌<◌, Bool, true, false, List, ◌∷◌, length, Option}
 use Rattle.ports_core.specs.{
   Slot.{Slot, is_open},
   Inputs.{CameFrom, OfContent},
@@ -7,20 +7,14 @@ use Rattle.ports_core.specs.{
   declared.fault.Fault.Fault,
 }
 use Rattle.tee_core.specs.{
-  Run.{ComesIn, Copied, TeeRun, is_done, standings_of},
+  Run.{ComesIn, Copied, TeeRun, is_done, standings_of, tee_run},
   TeeState.TeeState,
   declared.run.Job.Job,
 }
 
 -- the run that a job asks for
 abbrev pub run_for : Bool → Job → TeeRun
-run_for visible job = record {
-  visible = visible;
-  calling = job.calling;
-  mode = job.mode;
-  on_broken = job.on_broken;
-  names = map (λ name. name.now) job.names.now;
-}
+run_for visible job = tee_run visible job.calling job.mode job.on_broken job.names.now
 
 -- both streams are there, and standard error is open
 pub record HasStreams (slots : List Slot) (count : ℕ) : Type 0 where
