@@ -63,7 +63,8 @@ pub fn run_tee<I: Inputs, O: Outs>(
 ) -> u8
     requires fresh { IsFresh (I.sources inputs.old) }
     requires outputs { O.slots outs.old ≡ streams }
-    ensures ends { EndsOver (tee_run O.visible calling mode on_broken names.now) I.visible (source_at (I.sources inputs.old) 0) (source_at (I.sources inputs.new) 0) (O.slots outs.new) result }
+    ensures ends { EndsOver (tee_run O.visible calling mode on_broken names.now) I.visible
+        (source_at (I.sources inputs.old) 0) (source_at (I.sources inputs.new) 0) (O.slots outs.new) result }
     ensures whole { I.visible ≡ true → result ≡ 0 → (forgives on_broken ≡ true → AreSound (O.slots outs.new))
         → O.slots outs.new
         ≡ all_copied O.visible mode (map (λ name. name.now) names.now) (source_at (I.sources inputs.old) 0).left.bytes }
