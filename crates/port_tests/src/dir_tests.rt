@@ -6,6 +6,7 @@ use crate::compare::same;
 use crate::dir_steps::{Step, is_left, play, play_in};
 use crate::folder::{holds, is_there, make_file, make_folder, remove_folder};
 use crate::reading::{Call, ask, inputs_of, open_and_ask, open_input};
+use crate::seek_tests::{LOOKED_AT, UNKNOWN};
 use crate::writing::outs_of;
 use ports_core::{DirIn, DirOut, Fault, InputFiles, Inputs, Mode, Outs, Reason, write_whole};
 use std::fs;
@@ -76,11 +77,6 @@ const DEVICE: &[Step<'static>] = &[
     Step::WriteOnce("/dev/null", Mode::Fresh, 2, b"abc", Ok(3)),
 ];
 
-#[test]
-fn a_device_is_read_and_written(rt: HostRuntime) -> Result<(), Fail> {
-    play(&rt, rt, "/dev", DEVICE)
-}
-
 const APPENDED: &[Step<'static>] = &[
     Step::WriteOnce("ports_core_append/f", Mode::Append, 2, b"", Ok(0)),
     Step::Holds("ports_core_append/f", b""),
@@ -117,14 +113,6 @@ const FULL: &[Step<'static>] = &[
     Step::Left(0, "standard output", false),
 ];
 
-#[test]
-fn an_output_without_room(rt: HostRuntime) -> Result<(), Fail> {
-    if is_there(&rt, "/dev/full") {
-        return play(&rt, rt, "/dev", FULL);
-    }
-    Ok(())
-}
-
 /// A file with four bytes is read in pieces of three, and then the first piece of it alone.
 const READ: &[Step<'static>] = &[
     Step::Make("ports_core_read/f", b"abcd"),
@@ -151,12 +139,36 @@ const NO_ROOM: &[Step<'static>] = &[
     ),
 ];
 
-/// A folder opens, and its first read fails.
-const FOLDER: &[Step<'static>] = &[Step::Ask(".", 1, &[Call::Fails(8, Fault::Read(1))])];
+/// A folder opens, and its first read fails. It shows nothing.
+const FOLDER: &[Step<'static>] = &[
+    Step::Ask(".", 1, &[Call::Fails(8, Fault::Read(1))]),
+    Step::Ask(".", 2, UNKNOWN),
+];
 
+/// A device has no end, and shows nothing.
+const ENDLESS: &[Step<'static>] = &[Step::Ask(
+    "/dev/zero",
+    1,
+    &[Call::Shown(None), Call::Read(1, 1, b"\0")],
+)];
+
+/// What is no plain file, and what is done with it.
+const OTHER_FILES: &[(&str, &[Step<'static>])] = &[
+    ("/dev/null", DEVICE),
+    ("/dev/full", FULL),
+    ("/dev/zero", ENDLESS),
+    (".", FOLDER),
+];
+
+/// Some systems lack a device.
 #[test]
-fn a_folder_is_read(rt: HostRuntime) -> Result<(), Fail> {
-    play(&rt, rt, ".", FOLDER)
+fn devices_and_a_folder(rt: HostRuntime) -> Result<(), Fail> {
+    for (name, steps) in OTHER_FILES {
+        if is_there(&rt, name) {
+            play(&rt, rt, name, steps)?;
+        }
+    }
+    Ok(())
 }
 
 /// A folder, and what is done there and must come of it.
@@ -169,6 +181,7 @@ const FOLDERS: &[(&str, &[Step<'static>])] = &[
     ("ports_core_closed_off", CLOSED_OFF),
     ("ports_core_read", READ),
     ("ports_core_no_room", NO_ROOM),
+    ("ports_core_looks", LOOKED_AT),
 ];
 
 #[test]

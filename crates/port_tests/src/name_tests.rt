@@ -23,29 +23,30 @@ fn is_name(drawn: Option<String>, wanted: Option<&[u8]>) -> bool {
     }
 }
 
-/// Names that have no prefix and widen from two letters on: the alphabet, a place, and the name there.
-const WIDENED: &[(Alphabet, u64, &str)] = &[
-    (Alphabet::Letters, 0, "aa"),
-    (Alphabet::Letters, 27, "bb"),
-    (Alphabet::Letters, 649, "yz"),
-    (Alphabet::Letters, 650, "zaaa"),
-    (Alphabet::Letters, 17_549, "zyzz"),
-    (Alphabet::Letters, 17_550, "zzaaaa"),
-    (Alphabet::Digits, 89, "89"),
-    (Alphabet::Digits, 90, "9000"),
-    (Alphabet::Digits, 989, "9899"),
-    (Alphabet::Digits, 990, "990000"),
-    (Alphabet::Hex, 10, "0a"),
-    (Alphabet::Hex, 239, "ef"),
-    (Alphabet::Hex, 240, "f000"),
-    (Alphabet::Hex, 4_079, "feff"),
-    (Alphabet::Hex, 4_080, "ff0000"),
+/// Names that widen from two letters on: the prefix, the alphabet, the ending, a place, and the name there.
+const WIDENED: &[(&str, Alphabet, &str, u64, &str)] = &[
+    ("x", Alphabet::Letters, ".txt", 650, "xzaaa.txt"),
+    ("", Alphabet::Letters, "", 0, "aa"),
+    ("", Alphabet::Letters, "", 27, "bb"),
+    ("", Alphabet::Letters, "", 649, "yz"),
+    ("", Alphabet::Letters, "", 650, "zaaa"),
+    ("", Alphabet::Letters, "", 17_549, "zyzz"),
+    ("", Alphabet::Letters, "", 17_550, "zzaaaa"),
+    ("", Alphabet::Digits, "", 89, "89"),
+    ("", Alphabet::Digits, "", 90, "9000"),
+    ("", Alphabet::Digits, "", 989, "9899"),
+    ("", Alphabet::Digits, "", 990, "990000"),
+    ("", Alphabet::Hex, "", 10, "0a"),
+    ("", Alphabet::Hex, "", 239, "ef"),
+    ("", Alphabet::Hex, "", 240, "f000"),
+    ("", Alphabet::Hex, "", 4_079, "feff"),
+    ("", Alphabet::Hex, "", 4_080, "ff0000"),
 ];
 
 #[test]
 fn names_widen(rt: HostRuntime) -> Result<(), Fail> {
-    for (alphabet, place, wanted) in WIDENED {
-        let names = Names::new(rt.alloc(), "", *alphabet, 2, true, "")?;
+    for (prefix, alphabet, ending, place, wanted) in WIDENED {
+        let names = Names::new(rt.alloc(), prefix, *alphabet, 2, true, ending)?;
         let drawn = name_at(names, *place)?;
         assert!(rt; is_name(drawn, Some(wanted.as_bytes())), "at {wanted}");
     }
@@ -119,13 +120,6 @@ fn names_begin_at_a_number(rt: HostRuntime) -> Result<(), Fail> {
         let wanted = wanted.map(|name| name.as_bytes());
         assert!(rt; is_name(drawn, wanted), "at {from} and {place}");
     }
-    Ok(())
-}
-
-#[test]
-fn names_have_an_ending(rt: HostRuntime) -> Result<(), Fail> {
-    let names = Names::new(rt.alloc(), "x", Alphabet::Letters, 2, true, ".txt")?;
-    assert!(rt; is_name(name_at(names, 650)?, Some(b"xzaaa.txt")));
     Ok(())
 }
 

@@ -3,8 +3,8 @@ ghost use Rattle.std.specs.Prelude.{◌≡◌, ◌∷◌, [], IsTrue};
 ghost use Rattle.ports_core.specs.Source.{is_readable, source_of, unshown};
 
 use crate::compare::same;
-use crate::dir_steps::{Step, play, play_in};
-use crate::folder::{is_there, make_file, remove_folder};
+use crate::dir_steps::Step;
+use crate::folder::{make_file, remove_folder};
 use crate::reading::{Call, ask, broken_input, inputs_of, open_and_ask, open_input};
 use mem_core::MemIn;
 use ports_core::{DirIn, Fault, InputFiles, Inputs};
@@ -130,7 +130,7 @@ fn ask_new(abort: &impl Abort, alloc: Global, row: &Row<'_>) -> Result<(), Fault
 }
 
 /// What is asked of an input of which nothing is shown.
-const UNKNOWN: &[Call<'static>] = &[Call::Shown(None), Call::Hides(0, 1)];
+pub(crate) const UNKNOWN: &[Call<'static>] = &[Call::Shown(None), Call::Hides(0, 1)];
 
 /// Asks standard input, and a file without a byte: both show nothing.
 fn ask_unknown(abort: &impl Abort, inputs: &mut MemIn) -> Result<(), Fault>
@@ -184,16 +184,11 @@ const SIXTEEN_LETTERS: &[Call<'static>] = &[
     Call::Keeps(0),
 ];
 
-/// A file is asked that holds sixteen bytes.
-const LOOKED_AT: &[Step<'static>] = &[
+/// A file is asked that holds sixteen bytes: any place of it.
+pub(crate) const LOOKED_AT: &[Step<'static>] = &[
     Step::Make("ports_core_looks/f", b"abcdefghijklmnop"),
     Step::Ask("ports_core_looks/f", 1, SIXTEEN_LETTERS),
 ];
-
-#[test]
-fn files_are_looked_at_from_any_place(rt: HostRuntime) -> Result<(), Fail> {
-    play_in(&rt, rt, "ports_core_looks", LOOKED_AT)
-}
 
 /// What is asked of a file with the bytes `abcdef`, the bytes that it has after that, and what is asked of it then.
 type Change<'a> = (&'a [Call<'a>], &'a [u8], &'a [Call<'a>]);
@@ -281,26 +276,6 @@ fn files_may_change(rt: HostRuntime) -> Result<(), Fail> {
         ask_first(&rt, rt, change)?;
     }
     remove_folder(&rt, "ports_core_changes")
-}
-
-/// What is asked of a device that has no end.
-const ENDLESS: &[Call<'static>] = &[Call::Shown(None), Call::Read(1, 1, b"\0")];
-
-/// A folder is asked.
-const FOLDER: &[Step<'static>] = &[Step::Ask(".", 1, UNKNOWN)];
-
-/// A folder is asked, and a device that has no end.
-const FOLDER_AND_DEVICE: &[Step<'static>] = &[
-    Step::Ask(".", 1, UNKNOWN),
-    Step::Ask("/dev/zero", 2, ENDLESS),
-];
-
-#[test]
-fn what_is_no_file_shows_nothing(rt: HostRuntime) -> Result<(), Fail> {
-    if is_there(&rt, "/dev/zero") {
-        return play(&rt, rt, ".", FOLDER_AND_DEVICE);
-    }
-    play(&rt, rt, ".", FOLDER)
 }
 
 #[test]

@@ -1,5 +1,5 @@
 //! Whole runs over memory that are asked for help or the version: the text, and nothing read or opened; and words that ask for none.
-use crate::left::{Left, NOTHING, Plan, Run, check_runs, check_twice};
+use crate::left::{Left, NOTHING, Plan, Run, check_twice};
 use ports_core::Fault;
 use std::alloc::Global;
 use std::process::Abort;
@@ -82,7 +82,10 @@ fn tells(rt: &impl Abort, alloc: Global, row: &Row<'_>) -> Result<(), Fault> {
 
 #[test]
 fn tells_about_tools(rt: HostRuntime) -> Result<(), Fail> {
-    tell(&rt, rt.alloc(), TEXTS)
+    for rows in [TEXTS, FAULTS] {
+        tell(&rt, rt.alloc(), rows)?;
+    }
+    Ok(())
 }
 
 /// What stands after such a word is not read, and the line as a whole is not checked.
@@ -123,11 +126,6 @@ const TEXTS: &[Row<'static>] = &[
     (&["csplit", "--version"], CSPLIT_VERSION, b""),
     (&["csplit", "-", "{2}", "--version"], CSPLIT_VERSION, b""),
 ];
-
-#[test]
-fn tells_faults_before_that(rt: HostRuntime) -> Result<(), Fail> {
-    tell(&rt, rt.alloc(), FAULTS)
-}
 
 /// A fault to the left comes first, and a value or an operand is no option.
 const FAULTS: &[Row<'static>] = &[
@@ -188,13 +186,8 @@ const FAULTS: &[Row<'static>] = &[
     ),
 ];
 
-#[test]
-fn tells_what_is_refused(rt: HostRuntime) -> Result<(), Fail> {
-    check_runs(&rt, rt.alloc(), REFUSED)
-}
-
 /// Standard output takes a beginning of the text, or nothing.
-const REFUSED: &[Run<'static>] = &[
+pub(crate) const REFUSED: &[Run<'static>] = &[
     Run {
         words: &["head", "--help"],
         files: &[],

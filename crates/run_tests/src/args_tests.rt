@@ -58,64 +58,47 @@ fn are(found: &[String], wanted: &[&[u8]]) -> bool {
 
 #[test]
 fn reads_words(rt: HostRuntime) {
-    for (words, wanted) in READ {
-        assert!(rt;
-            reads(rt.alloc(), words, Calling::Cutters, wanted),
-            "{wanted:?}"
-        );
+    for (words, calling, wanted) in READ {
+        assert!(rt; reads(rt.alloc(), words, *calling, wanted), "of {words:?}");
     }
 }
 
-/// What the system gives, and the words that it is read as.
-const READ: &[(&[&[u8]], &[&[u8]])] = &[
-    (&[b"cutters", b"head", b"", LONG], &[b"head", b"", LONG]),
-    (&[], &[]),
+/// What the system gives, how the program is called then, and the words that it is read as.
+const READ: &[(&[&[u8]], Calling, &[&[u8]])] = &[
+    (
+        &[b"cutters", b"head", b"", LONG],
+        Calling::Cutters,
+        &[b"head", b"", LONG],
+    ),
+    (&[], Calling::Cutters, &[]),
+    // Names of a tool.
+    (&[b"head", b"x"], Calling::OwnName, &[b"head", b"x"]),
+    (
+        &[b"/usr/bin/tail", b"x"],
+        Calling::OwnName,
+        &[b"tail", b"x"],
+    ),
+    (&[b"./split", b"x"], Calling::OwnName, &[b"split", b"x"]),
+    (
+        &[b"no \xff text/csplit", b"x"],
+        Calling::OwnName,
+        &[b"csplit", b"x"],
+    ),
+    (&[b"//tee", b"x"], Calling::OwnName, &[b"tee", b"x"]),
+    (&[b"-tail", b"x"], Calling::OwnName, &[b"tail", b"x"]),
+    (&[b"/bin/-head", b"x"], Calling::OwnName, &[b"head", b"x"]),
+    // Names that are no tool's.
+    (&[b"cutters", b"x"], Calling::Cutters, &[b"x"]),
+    (&[b"tee/", b"x"], Calling::Cutters, &[b"x"]),
+    (&[b"tee/cutters", b"x"], Calling::Cutters, &[b"x"]),
+    (&[b"header", b"x"], Calling::Cutters, &[b"x"]),
+    (&[b"a-head", b"x"], Calling::Cutters, &[b"x"]),
+    (&[b"--head", b"x"], Calling::Cutters, &[b"x"]),
+    (&[b"-/cutters", b"x"], Calling::Cutters, &[b"x"]),
+    (&[b"-", b"x"], Calling::Cutters, &[b"x"]),
+    (&[b"", b"x"], Calling::Cutters, &[b"x"]),
+    (&[b"head\xff", b"x"], Calling::Cutters, &[b"x"]),
 ];
-
-/// Names by which the program is called as a tool, and the tool's name.
-const OWN_NAMES: &[(&[u8], &[u8])] = &[
-    (b"head", b"head"),
-    (b"/usr/bin/tail", b"tail"),
-    (b"./split", b"split"),
-    (b"no \xff text/csplit", b"csplit"),
-    (b"//tee", b"tee"),
-    (b"-tail", b"tail"),
-    (b"/bin/-head", b"head"),
-];
-
-#[test]
-fn is_called_by_a_tool(rt: HostRuntime) {
-    for (name, tool) in OWN_NAMES {
-        assert!(rt;
-            reads(rt.alloc(), &[*name, b"x"], Calling::OwnName, &[*tool, b"x"]),
-            "at {name:?}"
-        );
-    }
-}
-
-/// Names that are no tool's.
-const OTHER_NAMES: &[&[u8]] = &[
-    b"cutters",
-    b"tee/",
-    b"tee/cutters",
-    b"header",
-    b"a-head",
-    b"--head",
-    b"-/cutters",
-    b"-",
-    b"",
-    b"head\xff",
-];
-
-#[test]
-fn is_called_by_no_tool(rt: HostRuntime) {
-    for name in OTHER_NAMES {
-        assert!(rt;
-            reads(rt.alloc(), &[*name, b"x"], Calling::Cutters, &[b"x"]),
-            "at {name:?}"
-        );
-    }
-}
 
 #[test]
 fn words_that_are_no_text_have_one_by_a_tools_name(rt: HostRuntime) {

@@ -1,10 +1,11 @@
 //! Whole runs of `csplit` over memory, which no clause can show to succeed: files with their names, the sizes on standard
 //! output, messages and status.
-use crate::left::{File, LAID, Left, NOTHING, Plan, Run, check_runs, check_twice};
-use ports_core::Fault;
+use crate::left::{File, LAID, Left, NOTHING, Plan, Run, check_twice, inputs_of, planned_outs};
+use ports_core::{Fault, Outs};
 use std::alloc::Global;
 use std::process::Abort;
 use std::test::Fail;
+use tools_core::run::run;
 
 /// Words, an input, the sizes that are written, and the files that are made.
 type Row<'a> = (&'a [&'a str], &'a [u8], &'a [u8], &'a [File<'a>]);
@@ -18,7 +19,10 @@ fn cut(rt: &impl Abort, alloc: Global, rows: &[Row<'_>]) -> Result<(), Fail> {
 
 #[test]
 fn cuts_into_sections(rt: HostRuntime) -> Result<(), Fail> {
-    cut(&rt, rt.alloc(), SECTIONS)
+    for rows in [SECTIONS, OPTIONS] {
+        cut(&rt, rt.alloc(), rows)?;
+    }
+    Ok(())
 }
 
 const SECTIONS: &[Row<'static>] = &[
@@ -114,11 +118,6 @@ const SECTIONS: &[Row<'static>] = &[
         &[("xx00", b"b\n"), ("xx01", b"b\nb\n"), ("xx02", b"c")],
     ),
 ];
-
-#[test]
-fn does_as_its_options_say(rt: HostRuntime) -> Result<(), Fail> {
-    cut(&rt, rt.alloc(), OPTIONS)
-}
 
 const OPTIONS: &[Row<'static>] = &[
     (
@@ -248,10 +247,14 @@ fn ends(rt: &impl Abort, alloc: Global, row: &FaultRow<'_>) -> Result<(), Fault>
 }
 
 #[test]
-fn removes_its_files_where_an_operand_finds_no_line(rt: HostRuntime) -> Result<(), Fail> {
-    end(&rt, rt.alloc(), REMOVED)
+fn ends_at_a_fault(rt: HostRuntime) -> Result<(), Fail> {
+    for rows in [REMOVED, KEPT] {
+        end(&rt, rt.alloc(), rows)?;
+    }
+    Ok(())
 }
 
+/// An operand finds no line, and the files are removed.
 const REMOVED: &[FaultRow<'static>] = &[
     (
         &["csplit", "-", "/x/"],
@@ -343,11 +346,7 @@ const REMOVED: &[FaultRow<'static>] = &[
     ),
 ];
 
-#[test]
-fn keeps_its_files_where_that_is_asked(rt: HostRuntime) -> Result<(), Fail> {
-    end(&rt, rt.alloc(), KEPT)
-}
-
+/// The files are kept, since that is asked.
 const KEPT: &[FaultRow<'static>] = &[
     (
         &["csplit", "-k", "-", "/x/"],
@@ -391,12 +390,8 @@ const KEPT: &[FaultRow<'static>] = &[
     ),
 ];
 
-#[test]
-fn tells_of_its_input(rt: HostRuntime) -> Result<(), Fail> {
-    check_runs(&rt, rt.alloc(), INPUTS)
-}
-
-const INPUTS: &[Run<'static>] = &[
+/// An input breaks off or is missing.
+pub(crate) const INPUTS: &[Run<'static>] = &[
     Run {
         words: &["csplit", "g", "2"],
         files: LAID,
@@ -461,12 +456,8 @@ const INPUTS: &[Run<'static>] = &[
     },
 ];
 
-#[test]
-fn an_output_that_fails_ends_the_run(rt: HostRuntime) -> Result<(), Fail> {
-    check_runs(&rt, rt.alloc(), OUTPUTS)
-}
-
-const OUTPUTS: &[Run<'static>] = &[
+/// An output that fails ends the run.
+pub(crate) const OUTPUTS: &[Run<'static>] = &[
     Run {
         words: &["csplit", "-", "/^b/", "{*}"],
         files: &[],
@@ -534,3 +525,16 @@ const OUTPUTS: &[Run<'static>] = &[
         },
     },
 ];
+
+/// No message names a file that can't be removed.
+#[test]
+fn file_that_stays_is_not_named(rt: HostRuntime) -> Result<(), Fail> {
+    let words: [&str; 3] = ["csplit", "-", "/c/"];
+    let mut inputs = inputs_of(rt.alloc(), &[], b"a\nbb\nccccccccc\nd\ne")?;
+    let mut outs = planned_outs(rt.alloc(), &[Plan::Limit(3, 4), Plan::FailAt(8)])?;
+    let status = run(rt.alloc(), &words, &mut inputs, &mut outs);
+    assert_eq!(rt; status, 1);
+    assert_eq!(rt; outs.bytes(1), b"csplit: cannot write 'xx01'\n".as_slice());
+    assert!(rt; outs.broken(2) && !outs.removed(2) && outs.removed(3));
+    Ok(())
+}

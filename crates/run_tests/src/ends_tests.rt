@@ -1,5 +1,5 @@
 //! Runs of `head` and `tail` over several inputs in memory.
-use crate::left::{File, Left, NOTHING, Plan, Run, check_run, check_runs, check_twice};
+use crate::left::{File, Left, NOTHING, Plan, Run, check_run, check_twice};
 use ports_core::Fault;
 use std::alloc::Global;
 use std::process::Abort;
@@ -45,10 +45,21 @@ fn puts_out<'a>(
 }
 
 #[test]
-fn puts_headers_before_several(rt: HostRuntime) -> Result<(), Fail> {
-    put_out(&rt, rt.alloc(), TWO, b"x\ny\n", SEVERAL)
+fn puts_headers_and_names(rt: HostRuntime) -> Result<(), Fail> {
+    for (files, input, rows) in PUT_OUT {
+        put_out(&rt, rt.alloc(), files, input, rows)?;
+    }
+    Ok(())
 }
 
+/// Files, standard input, and rows over these.
+const PUT_OUT: &[(&[File<'static>], &[u8], &[Row<'static>])] = &[
+    (TWO, b"x\ny\n", SEVERAL),
+    (TWO, b"x\n", ASKED),
+    (ODD, b"6\n", NAMES),
+];
+
+/// Several files have headers.
 const SEVERAL: &[Row<'static>] = &[
     (
         &["head", "-n", "1", "f", "g"],
@@ -93,15 +104,11 @@ const SEVERAL: &[Row<'static>] = &[
     ),
 ];
 
-#[test]
-fn puts_headers_as_asked(rt: HostRuntime) -> Result<(), Fail> {
-    put_out(&rt, rt.alloc(), TWO, b"x\n", ASKED)
-}
-
 const ONE: &[u8] = b"==> f <==\na\n";
 
 const BOTH: &[u8] = b"==> f <==\na\n\n==> g <==\nc";
 
+/// Headers are written if that is asked.
 const ASKED: &[Row<'static>] = &[
     (&["head", "-q", "-n", "1", "f", "g"], b"a\nc"),
     (&["head", "--quiet", "-n", "1", "f", "g"], b"a\nc"),
@@ -124,11 +131,6 @@ const ASKED: &[Row<'static>] = &[
     (&["tail", "f", "-n1", "-v"], b"==> f <==\nb\n"),
 ];
 
-#[test]
-fn names_are_taken_as_they_stand(rt: HostRuntime) -> Result<(), Fail> {
-    put_out(&rt, rt.alloc(), ODD, b"6\n", NAMES)
-}
-
 const ODD: &[File<'static>] = &[
     ("-x", b"1\n"),
     ("--", b"2\n"),
@@ -137,6 +139,7 @@ const ODD: &[File<'static>] = &[
     ("+2", b"5\n"),
 ];
 
+/// Names are taken as they stand.
 const NAMES: &[Row<'static>] = &[
     (&["tail", "--", "-x"], b"1\n"),
     (&["head", "--", "-x"], b"1\n"),
@@ -267,12 +270,8 @@ const BROKEN: &[Told<'static>] = &[
     ),
 ];
 
-#[test]
-fn calls_that_fail_are_told(rt: HostRuntime) -> Result<(), Fail> {
-    check_runs(&rt, rt.alloc(), FAILING)
-}
-
-const FAILING: &[Run<'static>] = &[
+/// Calls that fail are told.
+pub(crate) const FAILING: &[Run<'static>] = &[
     // Missing files have numbers of their own.
     Run {
         words: &["head", "m", "f", "g"],

@@ -1,7 +1,6 @@
 //! The manual's examples as whole runs over memory: what each leaves in files, on standard output and on standard error.
-use crate::left::{
-    Left, NOTHING, Plan, Run, check_run, check_runs, check_twice, planned_inputs, planned_outs,
-};
+use crate::left::{Left, NOTHING, Plan, Run, check_run, planned_inputs, planned_outs};
+use crate::tests::Refused;
 use mem_core::MemOut;
 use ports_core::{Fault, Outs};
 use std::alloc::Global;
@@ -24,19 +23,7 @@ const FAILED: Left<'static> = Left {
     ..NOTHING
 };
 
-fn check_all_twice(rt: &impl Abort, alloc: Global, runs: &[Run<'_>]) -> Result<(), Fail> {
-    for run in runs {
-        check_twice(rt, alloc, run)?;
-    }
-    Ok(())
-}
-
-#[test]
-fn splits_the_examples(rt: HostRuntime) -> Result<(), Fail> {
-    check_all_twice(&rt, rt.alloc(), SPLIT)
-}
-
-const SPLIT: &[Run<'static>] = &[
+pub(crate) const SPLIT: &[Run<'static>] = &[
     Run {
         words: &["split", "-l", "2"],
         ..RUN
@@ -116,18 +103,7 @@ const SPLIT: &[Run<'static>] = &[
     },
 ];
 
-/// Words that are refused, and the message.
-type Refused<'a> = (&'a [&'a str], &'a [u8]);
-
-#[test]
-fn refuses_words_of_split(rt: HostRuntime) -> Result<(), Fail> {
-    for row in REFUSED {
-        refuses(&rt, rt.alloc(), row)?;
-    }
-    Ok(())
-}
-
-const REFUSED: &[Refused<'static>] = &[
+pub(crate) const REFUSED: &[Refused<'static>] = &[
     (
         &["split", "-l", "2", "-b", "3"],
         b"split: more than one way to split\n",
@@ -149,21 +125,6 @@ const REFUSED: &[Refused<'static>] = &[
         b"split: invalid suffix '--additional-suffix=a/b'\n",
     ),
 ];
-
-fn refuses(rt: &impl Abort, alloc: Global, row: &Refused<'_>) -> Result<(), Fault> {
-    let run = Run {
-        words: row.0,
-        files: &[],
-        input: b"a\nb\n",
-        plans: &[],
-        left: Left {
-            messages: row.1,
-            status: 1,
-            ..NOTHING
-        },
-    };
-    check_twice(rt, alloc, &run)
-}
 
 /// Words, how many empty lines come in, how many files are made, and the names of the first and the last.
 const MANY: &[(&[&str], usize, usize, &str, &str)] = &[
@@ -199,13 +160,8 @@ fn after(rt: &impl Abort, alloc: Global, row: &Run<'_>) -> Result<MemOut, Fault>
     Ok(outs)
 }
 
-#[test]
-fn what_follows_decides_where_a_line_goes(rt: HostRuntime) -> Result<(), Fail> {
-    check_all_twice(&rt, rt.alloc(), DECIDED)
-}
-
 /// After `a` and `b`, a line that matches and one that doesn't put the second line into different sections.
-const DECIDED: &[Run<'static>] = &[
+pub(crate) const DECIDED: &[Run<'static>] = &[
     Run {
         words: &["csplit", "-", "/c/-1"],
         input: b"a\nb\nc\n",
@@ -228,12 +184,8 @@ const DECIDED: &[Run<'static>] = &[
     },
 ];
 
-#[test]
-fn ends_where_an_input_or_an_output_breaks(rt: HostRuntime) -> Result<(), Fail> {
-    check_runs(&rt, rt.alloc(), BROKEN)
-}
-
-const BROKEN: &[Run<'static>] = &[
+/// Runs end where an input or an output breaks.
+pub(crate) const BROKEN: &[Run<'static>] = &[
     Run {
         words: &["split", "-b", "4"],
         input: b"abcdefghij",

@@ -30,9 +30,9 @@ mod own_name_tests;
 #[cfg(test)]
 mod pages;
 #[cfg(test)]
-mod promise_tests;
-#[cfg(test)]
 mod refused_tests;
+#[cfg(test)]
+mod row_tests;
 #[cfg(test)]
 mod shown_tests;
 #[cfg(test)]

@@ -43,13 +43,23 @@ const TAIL_BROKEN: &[u8] = b"tail: cannot read 'f'\n";
 const SPLIT_BROKEN: &[u8] = b"split: cannot read 'f'\n";
 
 #[test]
-fn heads_end_where_the_text_did(rt: HostRuntime) -> Result<(), Fail> {
-    for row in HEADS {
-        check_changing(&rt, rt.alloc(), SHOWN, row)?;
+fn what_is_shown_decides(rt: HostRuntime) -> Result<(), Fail> {
+    for (shown, rows) in SHOWING {
+        check_all_changing(&rt, rt.alloc(), shown, rows)?;
     }
     Ok(())
 }
 
+/// What `f` shows, and rows over it.
+const SHOWING: &[(&[u8], &[Row<'static>])] = &[
+    (SHOWN, HEADS),
+    (SHOWN, TAILS),
+    (SHOWN, CHUNKS),
+    (&[b'x'; 200_000], LONG),
+    (b"", UNSHOWN),
+];
+
+/// Heads end where the text did that was shown.
 const HEADS: &[Row<'static>] = &[
     // All but the last of four lines are the first six bytes, and of `g` the first line.
     (ALL_BUT_ONE, SHOWN, &[], b"a\nb\nc\n1\n", &[], b""),
@@ -148,14 +158,7 @@ const ALL_BUT_ONE: &[&str] = &["head", "-q", "-n", "-1", "f", "g"];
 
 const ALL_BUT_THREE: &[&str] = &["head", "-q", "-c", "-3", "f", "g"];
 
-#[test]
-fn tails_begin_where_the_text_did(rt: HostRuntime) -> Result<(), Fail> {
-    for row in TAILS {
-        check_changing(&rt, rt.alloc(), SHOWN, row)?;
-    }
-    Ok(())
-}
-
+/// Tails begin where the text did that was shown.
 const TAILS: &[Row<'static>] = &[
     // Before the last of four lines stand six bytes.
     (LAST, SHOWN, &[], b"d\n2\n", &[], b""),
@@ -214,14 +217,7 @@ const LAST: &[&str] = &["tail", "-q", "-n", "1", "f", "g"];
 
 const LAST_THREE: &[&str] = &["tail", "-q", "-c", "3", "f", "g"];
 
-#[test]
-fn chunks_are_those_of_the_length(rt: HostRuntime) -> Result<(), Fail> {
-    for row in CHUNKS {
-        check_changing(&rt, rt.alloc(), SHOWN, row)?;
-    }
-    Ok(())
-}
-
+/// Chunks are those of the length that was shown.
 const CHUNKS: &[Row<'static>] = &[
     // Three chunks of eight bytes have three, three and two.
     (
@@ -405,15 +401,7 @@ const CHUNKS: &[Row<'static>] = &[
     ),
 ];
 
-/// Of texts that are longer than a read.
-#[test]
-fn what_stands_before_one_chunk_is_passed_over(rt: HostRuntime) -> Result<(), Fail> {
-    for row in LONG {
-        check_changing(&rt, rt.alloc(), &[b'x'; 200_000], row)?;
-    }
-    Ok(())
-}
-
+/// What stands before one chunk is passed over, of texts that are longer than a read.
 const LONG: &[Row<'static>] = &[
     (
         &["split", "-n", "2/2", "f"],
@@ -459,15 +447,7 @@ const LONG: &[Row<'static>] = &[
     ),
 ];
 
-#[test]
-fn an_empty_text_shows_nothing(rt: HostRuntime) -> Result<(), Fail> {
-    for row in UNSHOWN {
-        check_changing(&rt, rt.alloc(), b"", row)?;
-    }
-    Ok(())
-}
-
-/// As from a pipe.
+/// An empty text shows nothing, as from a pipe.
 const UNSHOWN: &[Row<'static>] = &[
     (ALL_BUT_ONE, b"x\ny\n", &[], b"x\n1\n", &[], b""),
     (LAST, b"x\ny\n", &[], b"y\n2\n", &[], b""),
@@ -480,6 +460,18 @@ const UNSHOWN: &[Row<'static>] = &[
         b"",
     ),
 ];
+
+fn check_all_changing(
+    rt: &impl Abort,
+    alloc: Global,
+    shown: &[u8],
+    rows: &[Row<'_>],
+) -> Result<(), Fail> {
+    for row in rows {
+        check_changing(rt, alloc, shown, row)?;
+    }
+    Ok(())
+}
 
 /// Runs the words over `f`, which shows this text, and `g`: once where reads give all there is, and once byte by byte.
 fn check_changing(

@@ -1,6 +1,6 @@
 //! Whole runs of `split` over memory, which no clause can show to succeed: files with their names, messages and
 //! status. What is wanted of runs without a fault is what GNU's split makes of the same words and bytes.
-use crate::left::{File, LAID, Left, NOTHING, Plan, Run, check_runs, check_twice};
+use crate::left::{File, LAID, Left, NOTHING, Plan, Run, check_twice};
 use ports_core::Fault;
 use std::alloc::Global;
 use std::process::Abort;
@@ -14,8 +14,15 @@ const LINES: &[u8] = b"a\nb\nc\nd\ne";
 
 #[test]
 fn cuts_into_files(rt: HostRuntime) -> Result<(), Fail> {
-    for row in FILES {
-        cuts(&rt, rt.alloc(), row)?;
+    for rows in [FILES, CHUNKS] {
+        cut(&rt, rt.alloc(), rows)?;
+    }
+    Ok(())
+}
+
+fn cut(rt: &impl Abort, alloc: Global, rows: &[Row<'_>]) -> Result<(), Fail> {
+    for row in rows {
+        cuts(rt, alloc, row)?;
     }
     Ok(())
 }
@@ -116,15 +123,7 @@ const FILES: &[Row<'static>] = &[
     ),
 ];
 
-#[test]
-fn cuts_into_chunks(rt: HostRuntime) -> Result<(), Fail> {
-    for row in CHUNKS {
-        cuts(&rt, rt.alloc(), row)?;
-    }
-    Ok(())
-}
-
-/// A file by its name says its length before it is read, and standard input doesn't.
+/// Chunks: a file by its name says its length before it is read, and standard input doesn't.
 const CHUNKS: &[Row<'static>] = &[
     (
         &["split", "-n", "3", "f"],
@@ -229,12 +228,8 @@ const ONE: &[OneRow<'static>] = &[
     (&["split", "-n", "1/2"], b"", b""),
 ];
 
-#[test]
-fn chunks_end_at_a_fault(rt: HostRuntime) -> Result<(), Fail> {
-    check_runs(&rt, rt.alloc(), CHUNK_FAULTS)
-}
-
-const CHUNK_FAULTS: &[Run<'static>] = &[
+/// Chunks end at a fault.
+pub(crate) const CHUNK_FAULTS: &[Run<'static>] = &[
     Run {
         words: &["split", "-n", "2"],
         files: LAID,
@@ -310,14 +305,6 @@ const TEN: &[File<'static>] = &[
     ("x9", b"j"),
 ];
 
-#[test]
-fn tells_that_the_names_ran_out(rt: HostRuntime) -> Result<(), Fail> {
-    for row in NAMES {
-        check_twice(&rt, rt.alloc(), row)?;
-    }
-    Ok(())
-}
-
 const SHORT: Left<'static> = Left {
     files: TEN,
     messages: b"split: output file suffixes exhausted\n",
@@ -325,7 +312,8 @@ const SHORT: Left<'static> = Left {
     ..NOTHING
 };
 
-const NAMES: &[Run<'static>] = &[
+/// The names run out, or just don't.
+pub(crate) const NAMES: &[Run<'static>] = &[
     Run {
         words: &["split", "-d", "-a", "1", "-b", "1"],
         files: LAID,
@@ -352,12 +340,8 @@ const NAMES: &[Run<'static>] = &[
     },
 ];
 
-#[test]
-fn tells_of_its_input(rt: HostRuntime) -> Result<(), Fail> {
-    check_runs(&rt, rt.alloc(), INPUTS)
-}
-
-const INPUTS: &[Run<'static>] = &[
+/// An input breaks off or is missing.
+pub(crate) const INPUTS: &[Run<'static>] = &[
     Run {
         words: &["split", "-n", "r/2", "g"],
         files: LAID,
@@ -426,12 +410,8 @@ const INPUTS: &[Run<'static>] = &[
     },
 ];
 
-#[test]
-fn an_output_that_fails_ends_the_run(rt: HostRuntime) -> Result<(), Fail> {
-    check_runs(&rt, rt.alloc(), OUTPUTS)
-}
-
-const OUTPUTS: &[Run<'static>] = &[
+/// An output that fails ends the run.
+pub(crate) const OUTPUTS: &[Run<'static>] = &[
     Run {
         words: &["split", "-l", "1"],
         files: &[],

@@ -42,15 +42,8 @@ const COPIES: &[Row<'static>] = &[
     (&["tee", "--append", "--", "-a"], &[("-a", b"abcdef")]),
 ];
 
-#[test]
-fn goes_on_where_an_output_breaks(rt: HostRuntime) -> Result<(), Fail> {
-    for row in BREAKS {
-        check_twice(&rt, rt.alloc(), row)?;
-    }
-    Ok(())
-}
-
-const BREAKS: &[Run<'static>] = &[
+/// It goes on where an output breaks.
+pub(crate) const BREAKS: &[Run<'static>] = &[
     Run {
         words: &["tee", "s", "t"],
         files: LAID,

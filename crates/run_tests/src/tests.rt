@@ -1,6 +1,7 @@
 //! Whole runs of `head` and `tail` over standard input in memory, and words that are refused: words and bytes in, standard
 //! output, messages and status out.
-use crate::left::{Left, NOTHING, Plan, Run, check_runs, check_twice};
+use crate::example_tests;
+use crate::left::{Left, NOTHING, Plan, Run, check_twice};
 use ports_core::Fault;
 use std::alloc::Global;
 use std::process::Abort;
@@ -32,7 +33,7 @@ fn puts_out(rt: &impl Abort, alloc: Global, row: &Row<'_>) -> Result<(), Fault> 
 }
 
 /// Words that are refused, and the message.
-type Refused<'a> = (&'a [&'a str], &'a [u8]);
+pub(crate) type Refused<'a> = (&'a [&'a str], &'a [u8]);
 
 /// Runs the words of each row, which are refused, with an input that is not read.
 fn refuse(rt: &impl Abort, alloc: Global, rows: &[Refused<'_>]) -> Result<(), Fail> {
@@ -66,8 +67,11 @@ const LAST_TEN: &[u8] = b"2\n3\n4\n5\n6\n7\n8\n9\n10\n11\n";
 const FOUR: &[u8] = b"a\nb\nc\nd\n";
 
 #[test]
-fn puts_out_the_first_lines(rt: HostRuntime) -> Result<(), Fail> {
-    put_out(&rt, rt.alloc(), FIRST)
+fn puts_out_lines(rt: HostRuntime) -> Result<(), Fail> {
+    for rows in [FIRST, LAST, SPELLED, SUFFIXES] {
+        put_out(&rt, rt.alloc(), rows)?;
+    }
+    Ok(())
 }
 
 const FIRST: &[Row<'static>] = &[
@@ -92,11 +96,6 @@ const FIRST: &[Row<'static>] = &[
     (&["head", "-c", "-5"], b"abcde", b""),
     (&["head", "-n", "9223372036854775807"], b"a\n", b"a\n"),
 ];
-
-#[test]
-fn puts_out_the_last_lines(rt: HostRuntime) -> Result<(), Fail> {
-    put_out(&rt, rt.alloc(), LAST)
-}
 
 const LAST: &[Row<'static>] = &[
     (&["tail", "-n", "2"], b"a\nb\nc", b"b\nc"),
@@ -130,7 +129,10 @@ const LAST: &[Row<'static>] = &[
 
 #[test]
 fn refuses_words(rt: HostRuntime) -> Result<(), Fail> {
-    refuse(&rt, rt.alloc(), REFUSED)
+    for rows in [REFUSED, FIRST_FAULTS, example_tests::REFUSED] {
+        refuse(&rt, rt.alloc(), rows)?;
+    }
+    Ok(())
 }
 
 const REFUSED: &[Refused<'static>] = &[
@@ -163,13 +165,8 @@ const REFUSED: &[Refused<'static>] = &[
     (&["tee", "-i"], b"tee: unknown option '-i'\n"),
 ];
 
-#[test]
-fn tells_what_failed(rt: HostRuntime) -> Result<(), Fail> {
-    check_runs(&rt, rt.alloc(), FAILING)
-}
-
 /// An output that takes no more, an input that breaks off, and one that would where nothing is needed of it.
-const FAILING: &[Run<'static>] = &[
+pub(crate) const FAILING: &[Run<'static>] = &[
     Run {
         words: &["head", "-n", "2"],
         files: &[],
@@ -205,11 +202,6 @@ const FAILING: &[Run<'static>] = &[
         },
     },
 ];
-
-#[test]
-fn spells_options(rt: HostRuntime) -> Result<(), Fail> {
-    put_out(&rt, rt.alloc(), SPELLED)
-}
 
 const SPELLED: &[Row<'static>] = &[
     (&["head", "-3"], FOUR, b"a\nb\nc\n"),
@@ -247,11 +239,6 @@ const SPELLED: &[Row<'static>] = &[
     (&["tail", "-c", "4", "-n", "1"], FOUR, b"d\n"),
 ];
 
-#[test]
-fn counts_with_suffixes(rt: HostRuntime) -> Result<(), Fail> {
-    put_out(&rt, rt.alloc(), SUFFIXES)
-}
-
 const SUFFIXES: &[Row<'static>] = &[
     (&["head", "-c", "1K"], &[b'a'; 2000], &[b'a'; 1024]),
     (&["head", "-c", "2kB"], &[b'a'; 3000], &[b'a'; 2000]),
@@ -260,11 +247,7 @@ const SUFFIXES: &[Row<'static>] = &[
     (&["tail", "-c", "+1K"], &[b'a'; 2000], &[b'a'; 977]),
 ];
 
-#[test]
-fn tells_the_first_fault(rt: HostRuntime) -> Result<(), Fail> {
-    refuse(&rt, rt.alloc(), FIRST_FAULTS)
-}
-
+/// The first fault is told.
 const FIRST_FAULTS: &[Refused<'static>] = &[
     (&["head", "--bytes="], b"head: invalid number '--bytes='\n"),
     (&["head", "-c2x"], b"head: invalid number '-c2x'\n"),
