@@ -28,7 +28,7 @@ fn examples()
         ≡ record { out = codes "b\ncz\nwq\n"; messages = found Truncated (codes "f") ∷ found Replaced (codes "f") ∷ []; has_failed = false } }
     // `tail -F f`, where the file comes after the first look.
     ensures that_appears { followed (record { first = 0; by_name = true; start = tail_of 10 Unit.Lines false 10; seeks = true }) false (codes "f" ∷ []) (looks_after false ([] ∷ (replace (codes "f") (codes "x\n") ∷ []) ∷ []))
-        ≡ record { out = codes "x\n"; messages = failed (record { fault = Fault.Open 0; why = Reason.Other }) (codes "f") ∷ found Appeared (codes "f") ∷ []; has_failed = true } }
+        ≡ record { out = codes "x\n"; messages = failed (record { fault = Fault.Open 0; why = Reason.Missing }) (codes "f") ∷ found Appeared (codes "f") ∷ []; has_failed = true } }
     // `tail -F f`, where the file is removed and another one comes.
     ensures that_comes_again { followed (record { first = 0; by_name = true; start = tail_of 10 Unit.Lines false 10; seeks = true }) false (codes "f" ∷ []) (looks_after false ((replace (codes "f") (codes "a\n") ∷ []) ∷ (remove (codes "f") ∷ []) ∷ (replace (codes "f") (codes "b\n") ∷ []) ∷ []))
         ≡ record { out = codes "a\nb\n"; messages = found Inaccessible (codes "f") ∷ found Appeared (codes "f") ∷ []; has_failed = false } }
@@ -37,7 +37,7 @@ fn examples()
         ≡ record { out = codes "a\n"; messages = []; has_failed = false } }
     // `tail -f g`, where there is no such file.
     ensures that_is_missing { followed (record { first = 0; by_name = false; start = tail_of 10 Unit.Lines false 10; seeks = true }) false (codes "g" ∷ []) (looks_after false ([] ∷ []))
-        ≡ record { out = []; messages = failed (record { fault = Fault.Open 0; why = Reason.Other }) (codes "g") ∷ []; has_failed = true } }
+        ≡ record { out = []; messages = failed (record { fault = Fault.Open 0; why = Reason.Missing }) (codes "g") ∷ []; has_failed = true } }
     // `tail -f -c 2 f`, where the file is truncated.
     ensures that_is_truncated { followed (record { first = 0; by_name = false; start = tail_of 10 Unit.Bytes false 2; seeks = false }) false (codes "f" ∷ []) (looks_after false ((replace (codes "f") (codes "abc") ∷ []) ∷ (truncate (codes "f") 1 ∷ []) ∷ (append (codes "f") (codes "d") ∷ []) ∷ []))
         ≡ record { out = codes "bcad"; messages = found Truncated (codes "f") ∷ []; has_failed = false } }

@@ -542,8 +542,10 @@ const TAKEN: &[Taking<'static>] = &[
     ),
     (&["head", "-n", "-1"], SHOWN, b"a\nb\nc\n", b"d\n", b""),
     (&["head", "-n", "-9"], SHOWN, b"", SHOWN, b""),
-    // The other ways read on: a tail to the end, and a head of one line to where that ends.
+    // The other ways read on: a tail to the end of what was shown, and a head of one line to where that ends.
     (&["tail", "-c", "3"], SHOWN, b"\nd\n", b"", b""),
+    // What comes after that is left.
+    (&["tail", "-c", "3"], b"0123456789", b"567", b"89", b""),
     (&["head", "-n", "1"], SHOWN, b"a\n", b"b\nc\nd\n", b""),
     // One chunk ends with its last byte.
     (&["split", "-n", "2/3"], SHOWN, b"\nc\n", b"d\n", b""),
