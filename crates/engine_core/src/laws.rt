@@ -10,7 +10,8 @@ ghost use Rattle.engine_core.specs.{
 /// most one stretch of bytes is undecided, once it is given to which spots bytes go, however lists name these. Where
 /// bytes are equal, other spots can be right, too, and let more bytes wait. But there is at most one stretch than which
 /// no right spots let fewer bytes wait. So a tool that writes less or more than is settled, or keeps back more than it
-/// must, can't prove its law `agreed_is_settled`.
+/// must, can't prove its law `agreed_is_settled`. `csplit` and the chunks of `split` have definitions of their own, of
+/// which nothing is said here.
 pub fn one_is_agreed()
     ensures outputs { (work : Work) (x : List ℕ) (one other : Written) → IsAgreed work x one → IsAgreed work x other
         → outputs_of one ≡ outputs_of other }
