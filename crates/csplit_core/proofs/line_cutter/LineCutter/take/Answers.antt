@@ -1,42 +1,55 @@
-use Rattle.csplit_core.proofs.TakeLemmas.{found_first}
-use Rattle.std.proofs.lemmas.Grind.{common_steps}
+use Rattle.std.proofs.{lemmas.Grind.common_steps, Common.{inr, arith}}
 use Rattle.ports_core.proofs.HandedOn.{handed_on}
-use Rattle.std.proofs.Common.{◌∙◌, [], inl, inr, refl, sym, take, arith, length-take-le}
-use Rattle.csplit_core.proofs.{TakeLemmas.{takes_none, takes_more, takes_stopped}, LineLemmas.{ends_by, whole_drop}}
+use Rattle.csplit_core.proofs.{
+  StretchLemmas.{found_next, settles_all, taken_past, taken_short, taking_next, taking_none, waits_fit},
+  TakeLemmas.took_past,
+  LineLemmas.{ends_by, rest_all, whole_drop},
+}
 use Rattle.csplit_core.proofs.line_cutter.LineCutter.take.Goals as goal
 
+pub returns-then-is_past : goal.returns-then-is_past
+returns-then-is_past g c = took_past (c.is_past.ensures.past c.if-is_past.true) c.requires.sound c.requires.ready
+
 pub stretches-init : goal.stretches-init
-stretches-init g c =
-    (record { front = []; whole = refl; complete = inl refl; rest = c.requires.whole; took = takes_none c.requires.sound c.requires.ready }, tt)
+stretches-init g c = taking_none c.start-stretch.ensures c.requires.sound c.requires.ready (c.is_past.ensures.live c.if-is_past.false) c.requires.whole
 
-pub stretch-requires : goal.stretch-requires
-stretch-requires g c = let so_far = c.stretches.invariant.0 in record {
-  start = record {
-    within = c.first_size-size.ensures.within;
-    line = c.first_size-size.ensures.line;
-    rest = whole_drop c.first_size-size.result so_far.rest;
-    complete = inr (ends_by (take c.first_size-size.result c.stretches.left.now) c.first_size-size.ensures.whole
-        (omega (arith, length-take-le c.first_size-size.result c.stretches.left.now c.first_size-size.ensures.within)));
-  };
-  found = λ given. found_first c.stretches.left.now c.stretches.found c.stretches.invariant.1 c.first_size-size.ensures.known
-      (sym c.is_some.ensures ∙ given);
-  fits = grind (arith, common_steps);
-  sound = so_far.took.went.sound;
-  ready = so_far.took.keeps.writer.ready;
-}
+pub take_next-requires : goal.take_next-requires
+take_next-requires g c =
+    let so_far = c.stretches.invariant in
+    let size = c.first_size-size.result in
+    let left = rest_all c.stretches.stretch.end c.args.text.now in record {
+      within = so_far.within;
+      start = record {
+        within = grind (arith, common_steps);
+        line = rw left at c.first_size-size.ensures.line;
+        rest = whole_drop size so_far.rest;
+        complete = inr (ends_by _ (rw left at c.first_size-size.ensures.whole) (grind (arith, common_steps)));
+      };
+      found = found_next _ _ c.stretches.stretch.found so_far.found c.first_size-size.ensures.known;
+      lines = grind (arith, common_steps);
+      fits = grind (arith, common_steps);
+      sound = so_far.waits.sound;
+      live = so_far.live;
+      ready = so_far.waits.keeps.writer.ready;
+    }
 
-pub returns-in_err-passed : goal.returns-in_err-passed
-returns-in_err-passed g c = rw (handed_on _ _ c.from_residual.ensures.1)
-    (takes_stopped c.stretches.invariant.0 c.first_size-size.ensures.whole c.in_err-passed.ensures)
+pub returns-in_err-stretch : goal.returns-in_err-stretch
+returns-in_err-stretch g c = rw (handed_on _ _ c.from_residual.ensures.1) (taken_short c.stretches.invariant c.in_err-stretch.ensures)
 
 pub stretches-smaller : goal.stretches-smaller
-stretches-smaller g c = grind (arith, common_steps)
+stretches-smaller g c = let on = c.in_ok-stretch.ensures.on in omega (arith, on.more, on.within)
+
+pub hold-requires : goal.hold-requires
+hold-requires g c = let next = c.in_ok-stretch.ensures in let waits = next.waits _ _ c.stretches.invariant.waits in
+    record { fits = waits_fit c.args.text.now _ next.on.within waits c.requires.fits; fit = waits.sound.fit; ready = waits.keeps.writer.ready }
+
+pub returns-then-is_past-2 : goal.returns-then-is_past-2
+returns-then-is_past-2 g c = taken_past c.stretches.invariant c.in_ok-stretch.stretch c.in_ok-stretch.ensures
+    (c.is_past-in-stretches.ensures.past c.if-is_past-2.true) c.hold.ensures
 
 pub stretches-preserved : goal.stretches-preserved
-stretches-preserved g c = (
-  takes_more c.stretches.invariant.0 c.in_ok-passed.passed c.first_size-size.ensures.whole c.in_ok-passed.ensures,
-  grind (arith, common_steps),
-)
+stretches-preserved g c = taking_next c.stretches.invariant c.in_ok-stretch.stretch c.requires.whole c.in_ok-stretch.ensures
+    (c.is_past-in-stretches.ensures.live c.if-is_past-2.false)
 
 pub returns : goal.returns
-returns g c = grind (arith, common_steps)
+returns g c = settles_all c.stretches.stretch c.stretches.invariant.waits (omega arith) c.hold-2.ensures
