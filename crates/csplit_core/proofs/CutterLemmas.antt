@@ -291,6 +291,13 @@ pub goes_held : {visible : Bool} {writer next : WriterState} {held : List ℕ} {
     → Goes writer next (with_bytes held) (effect visible old new) fault
 goes_held {held = held} is went = goes_as (ap (λ k. take k held) is ∙ take_all (length held) held (omega arith)) went
 
+pub goes_both : {visible : Bool} {one two three : WriterState} (held : List ℕ) {before : List ℕ} {n : ℕ}
+    {old mid new : List Slot} {fault : Option Fault} → n ≡ length held
+    → Goes one two (with_bytes (take n held)) (effect visible old mid) None
+    → Goes two three (with_bytes before) (effect visible mid new) fault
+    → Goes one three (with_bytes (held ++ before)) (effect visible old new) fault
+goes_both held {before} is first second = goes_more held before (goes_held is first) second
+
 -- What goes of the lines that wait and of a text after them, and what stays. Of the text something goes only if all
 -- that waited goes.
 pub record Parted (delim most over front : ℕ) (held text : List ℕ) : Type 0 where

@@ -1,10 +1,5 @@
 -- Taking lines in, and cutting them as often as operands cut.
-use Rattle.std.proofs.{
-  Common.{◌≡◌, ◌≢◌, ◌⊎◌, inl, inr, ℕ, zero, suc, ◌+◌, ◌-◌, ◌≤◌, Bool, true, false, Option, Some, None, List, []},
-  Common.{◌∷◌, ◌++◌, length, refl, sym, ◌∙◌, ap, subst, arith, append_assoc, length-append, take, drop, eqb},
-  Common.{append-nil, take-append-drop, length-take-le, rules},
-  lemmas.{Grind.common_steps, Bool.{false≢true, cases_lt}, List.append_cancel_left},
-}
+use Rattle.std.proofs.{Common.{◌≡◌, ◌≢◌, ◌⊎◌, inl, inr, ℕ, ◌+◌, ◌-◌, ◌≤◌, Bool, true, false, Option, Some, None, List, []}, Common.{◌∷◌, ◌++◌, length, refl, sym, ◌∙◌, ap, subst, arith, append_assoc, length-append, take, drop, eqb}, Common.{append-nil, take-append-drop, length-take-le, rules}, lemmas.{Grind.common_steps, Bool.{false≢true, cases_lt}, List.append_cancel_left}, Math.Seq.take-nil}
 use Rattle.seg_core.{
   specs.{Line.{line_count, first_lines, after_lines, but_last_lines}, inner.Lines.last_lines, Window.Window},
   proofs.FirstLines.first_lines_then_rest,
@@ -185,6 +180,10 @@ comes_on {now = now} {low} {x} come t those waiting some joins count left_is wai
       reaches = reaches_as refl (sym same) come.reaches;
     }
 
+comes_as : {visible : Bool} {cutter next : CutterState} {low : Written} {x y pending : List ℕ} {old new : List Slot}
+    → x ≡ y → Comes visible cutter low old new next x pending → Comes visible cutter low old new next y pending
+comes_as is come = rw (← is) come
+
 line_has : (line : List ℕ) → IsLine line → 1 ≤ length line
 line_has line one = grind (arith, common_steps)
 
@@ -214,20 +213,23 @@ pub waits_line : {visible : Bool} {cutter now : CutterState} {done pending line 
     → (now.aim ≡ Below → ⊥) → IsLine line → IsSound (more_lines now (now.lines + 1) aim)
     → TriesNext now line (more_lines now (now.lines + 1) aim) None
     → (WillSkip now → waiting ≡ []) → ((WillSkip now → ⊥) → waiting ≡ pending ++ line)
-    → length waiting ≤ length pending + length line
     → Waits visible cutter (done ++ line) old slots (more_lines now (now.lines + 1) aim) waiting
-waits_line {visible} {cutter} {now} {done} {pending} {line} {aim} {old} {slots} waiting waits complete differs one sound tries skips keeps short = record {
+waits_line {visible} {cutter} {now} {done} {pending} {line} {aim} {old} {slots} waiting waits complete differs one sound tries skips keeps = record {
   keeps = record { operands = waits.keeps.operands; style = waits.keeps.style; writer = waits.keeps.writer };
   sound = sound;
   lines = omega (arith, waits.lines, length-append done line, line_has line one);
-  size = omega (arith, waits.size, length-append done line);
+  size = elim (cases_lt (now.lines + 1) now.progress.current) [
+    | inl skipped ↦ omega (arith, waits.size, length-append done line, ap length (skips skipped))
+    | inr near ↦
+        let kept = keeps (λ skipped. absurd (omega arith)) in
+        omega (arith, waits.size, length-append done line, ap length kept, length-append pending line)
+  ];
   comes = λ x front stands.
       let come = waits.comes x front stands in
       let whole = whole-append done front complete in
       let ends = tries (x ++ done) whole come.at.counted come.arrives.ends in
       let fit = waits.sound.fit in
-      subst (λ those. Comes visible cutter (settled_part cutter x) old slots (more_lines now (now.lines + 1) aim) those waiting)
-      (append_assoc x done line)
+      comes_as (append_assoc x done line)
       (comes_on come line (now.window.held ++ waiting) waiting fit.fits.some (inl whole)
       (ap (λ n. n + 1) come.at.counted ∙ sym (count-line line whole one))
       (line_left line pending waiting fit one whole come.at (come.left_is differs) skips keeps) (λ other. refl) ends
@@ -241,12 +243,13 @@ final_still : {style : Style} {lines more : List Line} {state : State} {aim : At
 final_still one two final = search rules
 
 -- the first line is the whole text, or it is complete
-joins_by : {E : Type 0} {x rest : List ℕ} (n : ℕ) → (rest ≡ []) ⊎ E → (E → IsWhole x) → Joins x (take n rest)
-joins_by n fact ends = search rules
+joins_by : {text x rest : List ℕ} (n : ℕ) → Joins text rest → (IsWhole text → IsWhole x) → Joins x (take n rest)
+joins_by n (inl whole) ends = inl (ends whole)
+joins_by n (inr none) ends = inr (ap (take n) none ∙ take-nil n)
 
 -- Lines were passed over.
 pub waits_over : {visible : Bool} {cutter mid next : CutterState} {text pending rest : List ℕ} {n : ℕ}
-    {old slots : List Slot} → Waits visible cutter text old slots mid pending → (rest ≡ []) ⊎ IsWhole text
+    {old slots : List Slot} → Waits visible cutter text old slots mid pending → Joins text rest
     → PassesOver mid rest next n
     → Waits visible cutter (text ++ take n rest) old slots next (pending ++ take n rest)
 waits_over {visible} {cutter} {mid} {next} {text} {pending} {rest} {n} {old} {slots} waits joins over =
@@ -262,8 +265,7 @@ waits_over {visible} {cutter} {mid} {next} {text} {pending} {rest} {n} {old} {sl
           let ends : EndsNow (more_lines mid next.lines mid.aim) ((x ++ text) ++ more) =
           subst (λ those. EndsNow those ((x ++ text) ++ more)) over.same both.1 in
           let some = waits.sound.fit.fits.some in
-          subst (λ those. Comes visible cutter (settled_part cutter x) old slots (more_lines mid next.lines mid.aim) those (pending ++ more))
-          (append_assoc x text more)
+          comes_as (append_assoc x text more)
           (comes_on come more (come.left ++ more) (pending ++ more) some here both.0
           (all_left more here some come.at (λ skips. ap (λ k. take k rest) (over.none skips)))
           (λ other. ap (λ those. those ++ more) (come.left_is other) ∙ append_assoc mid.window.held pending more) ends
@@ -512,7 +514,7 @@ module _ {visible : Bool} {cutter now mid : CutterState} {done pending before re
             let at_cut = due_at front stands in
             let made' = cuts.comes ((x ++ done) ++ line) at_cut.at at_cut.here in
             let low = subst (Begins (settled_part cutter x)) at_cut.same come.grows in
-            subst (λ those. Comes visible cutter (settled_part cutter x) old new next those left) (append_assoc x done line) (record {
+            comes_as (append_assoc x done line) (record {
               left = made'.left;
               left_is = made'.left_is;
               at = made'.at;
@@ -553,9 +555,7 @@ module _ {visible : Bool} {cutter now mid : CutterState} {done pending before re
 pub spread_fit : {now mid : CutterState} → mid ≡ record now { aim = mid.aim } → IsFit now → IsFit mid
 spread_fit is fit = search rules
 
--- the next operand cuts, too
-
--- the cut that is due after a cut
+-- the next operand cuts, too; a cut that is due then
 abbrev pub due_on : CutterState → CutPoint → (before rest line : List ℕ) → Due
 due_on cutter cut before rest line = due cutter cut before rest line
 
@@ -756,23 +756,15 @@ cut_by (held_well made) = held_well (record {
 })
 
 pub cut_drained : {visible : Bool} {cutter next : CutterState} {window : Window} {cut : CutPoint} {n : ℕ}
-    (place : ℕ) {all : List ℕ} (text : List ℕ) {before rest line : List ℕ} {old new : List Slot}
-    {fault : Option Fault} → window.held ≡ []
-    → all ≡ cutter.window.held ++ text → n ≡ after_cut cutter cut → before ≡ take place all → rest ≡ drop place all
-    → take place all ≡ but_last_lines newline n all
-    → CutsHeld visible
+    (place : ℕ) {all same : List ℕ} (text : List ℕ) {before rest line : List ℕ} {old new : List Slot}
+    {fault : Option Fault} → window ≡ record cutter.window { held = [] }
+    → all ≡ cutter.window.held ++ text → same ≡ cutter.window.held ++ text → n ≡ after_cut cutter cut
+    → before ≡ take place all → rest ≡ drop place all
+    → take place same ≡ but_last_lines newline n same → CutsHeld visible
     (due (record cutter { window = window }) cut (window.held ++ before) rest line) old new next fault
     → CutsHeld visible (last_due cutter cut (cutter.window.held ++ text) line) old new next fault
-cut_drained {visible} {cutter} {next} {window} {cut} {n} place {all} text {before} {rest} {line} {old} {new} {fault} none all_is n_is before_is rest_is place_is made =
+cut_drained {visible} {cutter} {next} {window} {cut} {n} place {all} {same} text {before} {rest} {line} {old} {new} {fault} none all_is same_is n_is before_is rest_is place_is made =
+    let first = subst (λ those. take place those ≡ but_last_lines newline n those) (same_is ∙ sym all_is) place_is in
     subst (λ left. CutsHeld visible (last_due cutter cut left line) old new next fault) all_is
     (subst (λ k. CutsHeld visible (due cutter cut (but_last_lines newline k all) (last_lines newline k all) line) old new next fault) n_is
-    (subst (λ those. CutsHeld visible (due cutter cut (but_last_lines newline n all) those line) old new next fault) rest_last
-    (subst (λ those. CutsHeld visible (due cutter cut those rest line) old new next fault) (before_is ∙ place_is)
-    (cut_by (subst (λ those. CutsHeld visible (due (record cutter { window = window }) cut those rest line) old new next fault)
-    (ap (λ those. those ++ before) none) made))))) where
-      rest_last : rest ≡ last_lines newline n all
-      rest_last = rest_is ∙ last_by n place all place_is
-
-pub take_some : (size : ℕ) (text : List ℕ) → IsLine (take size text) → 1 ≤ size
-take_some zero text one = absurd (omega (arith, line_has [] one))
-take_some (suc size) text one = omega arith
+    (rw (← first, ← last_by n place all first, ← before_is, ← rest_is) (cut_by (rw none at made))))

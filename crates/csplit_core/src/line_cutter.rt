@@ -11,8 +11,9 @@ ghost use Rattle.csplit_core.specs.{
   Plan.{above, missed, CutPoint},
   Cutter.{IsFit, IsSound, load, seen},
   inner.Cutter.{Advances, AreClear, Clears, CutAt, CutsHeld, CutsShort, EndsAll, Extends, Judges, Opens, IsAimed},
-  inner.Cutter.{IsFound, IsLine, IsNoCut, IsWhole, IsWithin, Lacks, PassesClear, PassesCut, PassesOver, Spread, Starts, StopsAt},
-  inner.Cutter.{Settles, Takes, Tries, TriesNext, WillCut, WillSkip, due, equipped, last_due, past_in},
+  inner.Cutter.{IsFound, IsLine, IsNextFound, IsNextKnown, IsNoCut, IsWhole, IsWithin, Lacks, MayGoOn, PassesClear},
+  inner.Cutter.{PassesCut, PassesOver, Settles, Spread, Starts, StopsAt, Takes, Tries, TriesNext, WillCut, WillSkip},
+  inner.Cutter.{due, equipped, last_due, past_in},
   Input.{newline, without_newline},
 };
 ghost use Rattle.csplit_core.specs.declared.progress.Attempt.TheVariants as attempt_is;
@@ -48,21 +49,10 @@ pub struct Stretch {
     pub from: usize,
     /// Where they end: all of the text before this place came in.
     pub end: usize,
-    /// How many bytes the next line is, with its newline, if the pattern that is searched for was found in it.
-    pub found: Option<usize>,
-}
-
-impl Stretch {
-    /// Nothing of a text came in.
-    fn start() -> Stretch
-        ensures { result ≡ record { from = 0; end = 0; found = None } }
-    {
-        Stretch {
-            from: 0,
-            end: 0,
-            found: None,
-        }
-    }
+    /// How many bytes the next line has. 0 if no line is left, or if lines go nowhere any more.
+    pub next: usize,
+    /// Whether the pattern that is searched for was found in the next line.
+    pub is_found: bool,
 }
 
 /// The sections of the lines that came in, and where the run stands.
@@ -174,7 +164,7 @@ impl<'o> LineCutter<'o> {
         self.writer.clear(outs);
     }
 
-    /// Takes in a text of complete lines. Lines of the text wait in the text itself until it ends.
+    /// Takes in a text of complete lines.
     ///
     /// # Errors
     ///
@@ -188,18 +178,8 @@ impl<'o> LineCutter<'o> {
         ensures { Takes O.visible (seen self.old) text.now (O.slots outs.old) (O.slots outs.new) (seen self.new)
             (fault_in result) }
     {
-        if self.is_past() {
-            return Ok(());
-        }
-        let mut stretch = Stretch::start();
-        'stretches: while stretch.end < text.len() {
-            let size = first_size(&text[stretch.end..], stretch.found);
-            stretch = self.take_next(text, stretch, size, outs)?;
-            if self.is_past() {
-                return self.hold(&text[stretch.from..stretch.end], outs);
-            }
-        }
-        self.hold(&text[stretch.from..stretch.end], outs)
+        let next = self.next_size(text, None);
+        self.take_lines(text, next, outs)
     }
 
     /// Takes in one line, which may lack its newline.
@@ -215,11 +195,33 @@ impl<'o> LineCutter<'o> {
         ensures { Takes O.visible (seen self.old) line.now (O.slots outs.old) (O.slots outs.new) (seen self.new)
             (fault_in result) }
     {
+        self.take_lines(line, line.len(), outs)
+    }
+
+    /// Takes in a text, whose first line has `next` bytes. `next` is 0 if the text has no line, or if lines go nowhere
+    /// any more. Lines of the text wait in the text itself until it ends.
+    fn take_lines<O: Outs>(&mut self, text: &[u8], next: usize, outs: &mut O) -> Result<(), Fault>
+        requires start { 0 < next → Starts text.now next }
+        requires none { next ≡ 0 → (self.old.aim ≡ attempt_is.Below) ⊎ (text.now ≡ []) }
+        requires fits { load (seen self.old) + length text.now < 2 ^ 63 }
+        requires sound { IsSound (seen self.old) }
+        requires ready { IsReady (seen self.old).writer (O.slots outs.old) }
+        ensures { Takes O.visible (seen self.old) text.now (O.slots outs.old) (O.slots outs.new) (seen self.new)
+            (fault_in result) }
+    {
         if self.is_past() {
             return Ok(());
         }
-        let stretch = self.take_next(line, Stretch::start(), line.len(), outs)?;
-        self.hold(&line[stretch.from..stretch.end], outs)
+        let mut stretch = Stretch {
+            from: 0,
+            end: 0,
+            next,
+            is_found: false,
+        };
+        'stretches: while stretch.next > 0 {
+            stretch = self.take_next(text, stretch, outs)?;
+        }
+        self.hold(&text[stretch.from..stretch.end], outs)
     }
 
     /// Whether no line goes anywhere any more, since the last cut is below the current line.
@@ -246,20 +248,17 @@ impl<'o> LineCutter<'o> {
         hold_last(&mut self.window, text, &mut self.writer, outs)
     }
 
-    /// Takes in the next line of a text, which has `size` bytes, and the lines after it that the next operand doesn't
-    /// cut. The line may lack its newline if it is the only line of the text. Returns the stretch of the text whose
-    /// lines wait then.
+    /// Takes in the next line of a text and the lines after it that the next operand doesn't cut. The next line may
+    /// lack its newline if it is the last. Returns the stretch of the text whose lines wait then.
     fn take_next<O: Outs>(
         &mut self,
         text: &[u8],
         stretch: Stretch,
-        size: usize,
         outs: &mut O,
     ) -> Result<Stretch, Fault>
         requires within { IsWithin text.now stretch }
-        requires start { Starts (drop stretch.end text.now) size }
-        requires found { IfSome stretch.found (λ found. IsFound (seen self.old)
-            (without_newline (take size (drop stretch.end text.now))) (self.old.lines + 1) true) }
+        requires start { Starts (drop stretch.end text.now) stretch.next }
+        requires found { IsNextKnown (seen self.old) text.now stretch }
         requires lines { self.old.lines + (length text.now - stretch.end) < 2 ^ 63 }
         requires fits { size_of self.old.writer.current + length self.old.window.held
             + (length text.now - stretch.from) < 2 ^ 63 }
@@ -267,13 +266,12 @@ impl<'o> LineCutter<'o> {
         requires live { self.old.aim ≢ attempt_is.Below }
         requires ready { IsReady (seen self.old).writer (O.slots outs.old) }
         ensures { Advances O.visible (seen self.old) text.now stretch (O.slots outs.old) (O.slots outs.new)
-            (seen self.new)
-            result }
+            (seen self.new) result }
     {
-        let end = stretch.end + size;
+        let end = stretch.end + stretch.next;
         let from = self.first_waiting(stretch.from, end);
         let line = &text[stretch.end..end];
-        let Some(cut) = self.try_line(line, stretch.found.is_some()) else {
+        let Some(cut) = self.try_line(line, stretch.is_found) else {
             return Ok(self.pass_on(text, from, end));
         };
         let waiting = &text[stretch.from..end];
@@ -290,17 +288,40 @@ impl<'o> LineCutter<'o> {
     /// Passes over the lines of a text from `end` on, as far as the next operand stands as it does now. The lines
     /// before them wait from `from` on.
     fn pass_on(&mut self, text: &[u8], from: usize, end: usize) -> Stretch
-        requires within { end ≤ length text.now }
-        requires rest { IsWhole (drop end text.now) }
+        requires place { MayGoOn text.now from end }
         requires lines { self.old.lines + (length text.now - end) < 2 ^ 63 }
         requires sound { IsSound (seen self.old) }
-        ensures { Extends (seen self.old) (drop end text.now) from end (seen self.new) result }
+        ensures { Extends (seen self.old) text.now from end (seen self.new) result }
     {
         let passed = self.pass_over(&text[end..]);
+        let end = end + passed.size;
+        let next = self.next_size(&text[end..], passed.found);
         Stretch {
             from,
-            end: end + passed.size,
-            found: passed.found,
+            end,
+            next,
+            is_found: passed.found.is_some(),
+        }
+    }
+
+    /// How many bytes the first line has, of a text of complete lines. It is `found`, if that is known. 0 if the text
+    /// is empty, or if lines go nowhere any more.
+    fn next_size(&self, text: &[u8], found: Option<usize>) -> usize
+        requires whole { IsWhole text.now }
+        requires found { IfSome found (IsNextFound (seen self.now) text.now) }
+        ensures some { 0 < result → (self.now.aim ≢ attempt_is.Below) × Starts text.now result }
+        ensures none { result ≡ 0 → (self.now.aim ≡ attempt_is.Below) ⊎ (text.now ≡ []) }
+        ensures known { (size : ℕ) → found ≡ Some size → result ≡ size }
+    {
+        if self.is_past() {
+            return 0;
+        }
+        match found {
+            Some(size) => size,
+            None => {
+                let (line, _) = next_line(text, NEWLINE);
+                line.len()
+            }
         }
     }
 
@@ -310,7 +331,7 @@ impl<'o> LineCutter<'o> {
         requires { self.now.lines < 2 ^ 64 - 1 }
         ensures all { WillSkip (seen self.now) → result ≡ end }
         ensures none { (WillSkip (seen self.now) → ⊥) → result ≡ from }
-        ensures either { (result ≡ end) ⊎ (result ≡ from) }
+        ensures within { from ≤ end → result ≤ end }
     {
         if self.will_skip() { end } else { from }
     }
@@ -639,27 +660,6 @@ impl<'o> LineCutter<'o> {
         self.matcher = find_matcher(self.alloc, next)?;
         self.window = find_window(self.alloc, next)?;
         Ok(())
-    }
-}
-
-/// How many bytes the first line has, of a text of complete lines that isn't empty. It is `found`, if that is known.
-fn first_size(text: &[u8], found: Option<usize>) -> usize
-    requires some { 0 < length text.now }
-    requires whole { IsWhole text.now }
-    requires found { IfSome found
-        (λ size. (0 < size) × (size ≤ length text.now) × IsLine (take size text.now) × IsWhole (take size text.now)) }
-    ensures some { 0 < result }
-    ensures within { result ≤ length text.now }
-    ensures line { IsLine (take result text.now) }
-    ensures whole { IsWhole (take result text.now) }
-    ensures known { (size : ℕ) → found ≡ Some size → result ≡ size }
-{
-    match found {
-        Some(size) => size,
-        None => {
-            let (line, _) = next_line(text, NEWLINE);
-            line.len()
-        }
     }
 }
 

@@ -444,7 +444,14 @@ pub record Starts (text : List ℕ) (size : ℕ) : Type 0 where
 
 -- the lines of the text that wait
 abbrev pub pending_in : List ℕ → Stretch → List ℕ
-pending_in text stretch = take (stretch.end - stretch.from) (drop stretch.from text)
+pending_in text stretch = drop stretch.from (take stretch.end text)
+
+-- the next line of the text, and where it ends
+abbrev pub next_in : List ℕ → Stretch → List ℕ
+next_in text stretch = take stretch.next (drop stretch.end text)
+
+abbrev pub next_end : Stretch → ℕ
+next_end stretch = stretch.end + stretch.next
 
 -- the stretch lies in the text, and complete lines stand before its end
 pub record IsWithin (text : List ℕ) (stretch : Stretch) : Type 0 where
@@ -452,38 +459,50 @@ pub record IsWithin (text : List ℕ) (stretch : Stretch) : Type 0 where
   pub within : stretch.end ≤ length text
   pub before : IsWhole (take stretch.end text)
 
--- After the stretch of a text that ends at `end` the first n bytes of the rest were passed over.
-pub record Extends (cutter : CutterState) (rest : List ℕ) (from end : ℕ) (next : CutterState) (stretch : Stretch) :
-    Type 0 where
-  pub n : ℕ
-  pub over : PassesOver cutter rest next n
-  pub from_is : stretch.from ≡ from
-  pub end_is : stretch.end ≡ end + n
-  pub found : IfSome stretch.found (IsNextFound next (drop n rest))
+-- complete lines may follow in the text after `end`, and lines before `end` wait from `from` on
+pub record MayGoOn (text : List ℕ) (from end : ℕ) : Type 0 where
+  pub low : from ≤ end
+  pub within : end ≤ length text
+  pub rest : IsWhole (drop end text)
+  pub joins : Joins (take end text) (drop end text)
 
--- more of the text came in
-pub record Advanced (text : List ℕ) (stretch : Stretch) (next : CutterState) (on : Stretch) : Type 0 where
-  pub more : stretch.end < on.end
-  pub from : on.from ≤ on.end
-  pub within : on.end ≤ length text
-  pub joins : Joins (take on.end text) (drop on.end text)
-  pub rest : IsWhole (drop on.end text)
-  pub found : IfSome on.found (IsNextFound next (drop on.end text))
+-- the pattern that is searched for was found in the next line, if the stretch says so
+abbrev pub IsNextKnown : CutterState → List ℕ → Stretch → Type 0
+IsNextKnown cutter text stretch = stretch.is_found ≡ true
+    → IsFound cutter (without_newline (next_in text stretch)) (cutter.lines + 1) true
+
+-- The lines of a text before the end of a stretch came in, and those of the stretch wait.
+pub record Taking (visible : Bool) (first now : CutterState) (text : List ℕ) (stretch : Stretch) (old new : List Slot) :
+    Type 0 where
+  pub waits : Waits visible first (take stretch.end text) old new now (pending_in text stretch)
+  pub from : stretch.from ≤ stretch.end
+  pub within : stretch.end ≤ length text
+  pub joins : Joins (take stretch.end text) (drop stretch.end text)
+  pub next : 0 < stretch.next → (now.aim ≢ Below) × Starts (drop stretch.end text) stretch.next
+  pub none : stretch.next ≡ 0 → (now.aim ≡ Below) ⊎ (drop stretch.end text ≡ [])
+  pub found : IsNextKnown now text stretch
+
+-- The lines of a text after `end` were passed over. Those before `end` wait from `from` on.
+pub record Extends (cutter : CutterState) (text : List ℕ) (from end : ℕ) (next : CutterState) (on : Stretch) :
+    Type 0 where
+  pub more : end ≤ on.end
+  pub taking : (visible : Bool) (first : CutterState) (old new : List Slot)
+      → Waits visible first (take end text) old new cutter (drop from (take end text))
+      → Taking visible first next text on old new
 
 -- The text came in up to the end of a stretch that waits, or a fault came among its bytes.
-abbrev pub IsOn : Bool → CutterState → (text : List ℕ) → (old new : List Slot) → CutterState → Result Stretch Fault
-    → Type 0
-IsOn visible cutter text old new next (Ok on) =
-    Waits visible cutter (take on.end text) old new next (pending_in text on)
-IsOn visible cutter text old new next (Err fault) = Takes visible cutter text old new next (Some fault)
+abbrev pub IsTaken : Bool → (first : CutterState) → (text : List ℕ) → (old new : List Slot) → CutterState
+    → Result Stretch Fault → Type 0
+IsTaken visible first text old new next (Ok on) = Taking visible first next text on old new
+IsTaken visible first text old new next (Err fault) = Takes visible first text old new next (Some fault)
 
 -- More of the text came in, whatever came before it, or a fault came.
 pub record Advances (visible : Bool) (cutter : CutterState) (text : List ℕ) (stretch : Stretch) (old new : List Slot)
     (next : CutterState) (result : Result Stretch Fault) : Type 0 where
-  pub on : IfOk result (Advanced text stretch next)
-  pub waits : (first : CutterState) (slots : List Slot)
+  pub more : IfOk result (λ on. stretch.end < on.end)
+  pub taken : (first : CutterState) (slots : List Slot)
       → Waits visible first (take stretch.end text) slots old cutter (pending_in text stretch)
-      → IsOn visible first text slots new next result
+      → IsTaken visible first text slots new next result
 
 -- what is written if the input ends after these lines
 abbrev pub whole_part : CutterState → List ℕ → Written
