@@ -107,10 +107,8 @@ extended {cutter} {next} {text} {from} {end} passed on place stops from_is end_i
 last_parts : (n : ℕ) (left : List ℕ) → but_last_lines newline n left ++ last_lines newline n left ≡ left
 last_parts n left = first_lines_then_rest newline (line_count newline left - n) left
 
-last_before : (n : ℕ) (left : List ℕ)
-    → but_last_lines newline n left
-    ≡ but_last_lines newline n (but_last_lines newline n left ++ last_lines newline n left)
-last_before n left = ap (but_last_lines newline n) (sym (last_parts n left))
+pub some_next : {text : List ℕ} {size : ℕ} → Starts text size → 0 < size
+some_next start = grind (arith, common_steps, start.line)
 
 -- the next line of a text as a slice, and the lines that wait with it
 abbrev pub line_in : List ℕ → Stretch → List ℕ
@@ -187,7 +185,7 @@ module _ {text : List ℕ} {stretch : Stretch} (within : IsWithin text stretch)
         (is : mid ≡ more_lines now (now.lines + 1) mid.aim)
         (tries : TriesNext now (line_in text stretch) mid (Some cut))
         (parts : before ++ rest ≡ waits_now mid text stretch)
-        (before_is : before ≡ but_last_lines newline (after_cut mid cut) (before ++ rest)) where
+        (before_is : before ≡ but_last_lines newline (after_cut mid cut) (waits_now mid text stretch)) where
       pub line_cut : {end next : CutterState} {from : ℕ} {left : List ℕ} {on : Stretch} {new : List Slot}
           → Cut visible (due mid cut before rest (line_in text stretch)) old new end left
           → drop from (take (next_end stretch) text) ≡ left
@@ -196,7 +194,8 @@ module _ {text : List ℕ} {stretch : Stretch} (within : IsWithin text stretch)
       line_cut {new = new} made left_is extends some = record {
         more = omega (arith, extends.more, some);
         taken = λ first slots waits. extends.taking visible first slots new (rw (left_is, done_next)
-            (waits_cut waits within.before differs start.line is (rw line_is at tries) (parts_now now is parts) before_is (rw line_is at made)));
+            (waits_cut waits within.before differs start.line is (rw line_is at tries) (parts_now now is parts)
+            (before_is ∙ ap (but_last_lines newline (after_cut mid cut)) (sym parts)) (rw line_is at made)));
       }
 
       pub line_fails : {next : CutterState} {new : List Slot} {fault : Fault}
@@ -205,7 +204,8 @@ module _ {text : List ℕ} {stretch : Stretch} (within : IsWithin text stretch)
       line_fails {next} {new} {fault} stops = record {
         more = tt;
         taken = λ first slots waits. subst (λ those. Takes visible first those slots new next (Some fault)) all
-            (cut_stops waits within.before differs start.line is (rw line_is at tries) (parts_now now is parts) before_is (drop stretch.next (drop stretch.end text))
+            (cut_stops waits within.before differs start.line is (rw line_is at tries) (parts_now now is parts)
+            (before_is ∙ ap (but_last_lines newline (after_cut mid cut)) (sym parts)) (drop stretch.next (drop stretch.end text))
             (elim start.complete [ inl none ↦ inr none | inr ends ↦ inl (inr ends) ]) (rw line_is at stops));
       } where
         all : (take stretch.end text ++ next_in text stretch) ++ drop stretch.next (drop stretch.end text) ≡ text
@@ -219,14 +219,14 @@ module _ {text : List ℕ} {stretch : Stretch} (within : IsWithin text stretch)
       pub held_fails : {next : CutterState} {new : List Slot} {fault : Fault}
           → CutsShort visible (last_due mid cut (waits_now mid text stretch)
           (line_in text stretch)) old new next fault → Advances visible now text stretch old new next (Err fault)
-      held_fails stops = line_fails is tries (last_parts (after_cut mid cut) (waits_now mid text stretch)) (last_before (after_cut mid cut) (waits_now mid text stretch)) stops
+      held_fails stops = line_fails is tries (last_parts (after_cut mid cut) (waits_now mid text stretch)) refl stops
 
       pub held_cuts : {end next : CutterState} {on : Stretch} {new : List Slot}
           → Cut visible (last_due mid cut (waits_now mid text stretch)
           (line_in text stretch)) old new end []
           → Extends end text (next_end stretch) (next_end stretch) next on → 0 < stretch.next
           → Advances visible now text stretch old new next (Ok on)
-      held_cuts made extends some = line_cut is tries (last_parts (after_cut mid cut) (waits_now mid text stretch)) (last_before (after_cut mid cut) (waits_now mid text stretch))
+      held_cuts made extends some = line_cut is tries (last_parts (after_cut mid cut) (waits_now mid text stretch)) refl
           made (none_from text (next_end stretch) end_within) extends some
 
   -- What is left after a cut stands at the end of the text that was cut.
@@ -254,15 +254,11 @@ parts_in held waiting place before_is rest_is = rw (before_is, rest_is)
     (append_assoc held (take place waiting) (drop place waiting)
     ∙ ap (λ those. held ++ those) (take-append-drop place waiting))
 
-pub before_in : (held waiting : List ℕ) (place : ℕ) {n k : ℕ} {before rest : List ℕ} → before ≡ take place waiting
-    → rest ≡ drop place waiting → n ≡ k → held ++ take place waiting ≡ but_last_lines newline n (held ++ waiting)
-    → held ++ before ≡ but_last_lines newline k ((held ++ before) ++ rest)
-before_in held waiting place {n} {k} before_is rest_is same is =
+pub before_in : (held waiting : List ℕ) (place : ℕ) {n k : ℕ} {before : List ℕ} → before ≡ take place waiting → n ≡ k
+    → held ++ take place waiting ≡ but_last_lines newline n (held ++ waiting)
+    → held ++ before ≡ but_last_lines newline k (held ++ waiting)
+before_in held waiting place before_is same is =
     ap (λ those. held ++ those) before_is ∙ is ∙ ap (λ j. but_last_lines newline j (held ++ waiting)) same
-    ∙ ap (but_last_lines newline k) (sym (parts_in held waiting place before_is rest_is))
-
-pub some_next : {text : List ℕ} {size : ℕ} → Starts text size → 0 < size
-some_next start = grind (arith, common_steps, start.line)
 
 -- Taking a text in, stretch by stretch.
 

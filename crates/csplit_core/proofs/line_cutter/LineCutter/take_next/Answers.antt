@@ -51,8 +51,7 @@ returns-in_err-left g c = rw (handed_on _ _ c.from_residual-in_err-left.ensures.
     (line_fails c.requires.within c.requires.start c.requires.live c.try_line.ensures.same
     c.in-Some.ensures.tries
     (parts_in c.try_line.new.self.window.held _ c.before_last-place.result c.split_at.ensures.front c.split_at.ensures.back)
-    (before_in c.try_line.new.self.window.held _ c.before_last-place.result c.split_at.ensures.front c.split_at.ensures.back
-    c.saturating_sub.ensures (c.before_last-place.ensures.after (omega (arith, c.if-place-eq0.false)) c.try_line.new.self.window.held))
+    (before_in c.try_line.new.self.window.held _ c.before_last-place.result c.split_at.ensures.front c.saturating_sub.ensures (c.before_last-place.ensures.after (omega (arith, c.if-place-eq0.false)) c.try_line.new.self.window.held))
     c.in_err-left.ensures.err)
 
 pub pass_on-requires-2-clause-place : goal.pass_on-requires-2-clause-place
@@ -62,8 +61,7 @@ pub returns : goal.returns
 returns g c = line_cut c.requires.within c.requires.start c.requires.live c.try_line.ensures.same
     c.in-Some.ensures.tries
     (parts_in c.try_line.new.self.window.held _ c.before_last-place.result c.split_at.ensures.front c.split_at.ensures.back)
-    (before_in c.try_line.new.self.window.held _ c.before_last-place.result c.split_at.ensures.front c.split_at.ensures.back
-    c.saturating_sub.ensures (c.before_last-place.ensures.after (omega (arith, c.if-place-eq0.false)) c.try_line.new.self.window.held))
+    (before_in c.try_line.new.self.window.held _ c.before_last-place.result c.split_at.ensures.front c.saturating_sub.ensures (c.before_last-place.ensures.after (omega (arith, c.if-place-eq0.false)) c.try_line.new.self.window.held))
     (spread_all c.in_ok-left.ensures.ok)
     (left_is c.requires.within c.requires.start c.before_last-place.result c.split_at.ensures.back c.in_ok-left.ensures.ok.so_far.end)
     c.pass_on-2.ensures (some_next c.requires.start)
