@@ -4,12 +4,12 @@ use Rattle.std.{
   proofs.lemmas.{
     Grind.{common_steps, flat_map-append},
     Bool.cases_lt,
-    List.{append-nil, length-take-le, length-drop, take-append-le, drop-append-le, take_all, drop_all, drop-drop},
-    List.map-append,
+    List.{append_cancel_left, append-nil, length-take-le, length-drop, take-append-le, drop-append-le, take_all},
+    List.{drop_all, drop-drop, map-append},
   },
   proofs.Common.{◌≡◌, ℕ, ◌+◌, ◌-◌, ◌≤◌, Bool, true, false, List, [], ◌++◌, length, refl, sym, ◌∙◌, ap, arith, inl},
   proofs.Common.{inr, Option, None, subst, ◌<◌, min, Some, Result, OnOk, take, drop, IfNone, rules, suc, ◌∷◌, ◌⊎◌},
-  proofs.Common.{map, append_assoc},
+  proofs.Common.{map, append_assoc, length-append},
   proofs.Math.Seq.{take-add, take-append-add, drop-append-add},
   specs.List.flat_map,
 }
@@ -42,11 +42,11 @@ use Rattle.csplit_core.specs.{
   },
   inner.{
     PlanLaws.EndsAs,
-    Cutter.{Joins, settled_part, Keeps, KeepsBy, part_at, draft_at, bare, Puts, CutsIn, Arrives, HoldsLines},
-    Cutter.{suppress_in, search_after, Due, CutsNow, WentOn, IsAfter, CutAt, CutsAll, WillCut, WillSkip, IsEnd},
+    Cutter.{Joins, settled_part, Keeps, KeepsBy, part_at, draft_at, bare, Puts, CutsIn, Arrives, emptied, left_in},
+    Cutter.{suppress_in, search_after, Due, CutsNow, WentOn, IsAfter, CutAt, CutsShort, WillCut, WillSkip, IsEnd},
   },
   Cutter.{kept_by, most_by, text_from, draft_by, settled_draft, CutterState, state_in, IsAt, EndsNow, IsLive, IsFit},
-  Cutter.Leads,
+  Cutter.{Leads, IsPast, Stands},
 }
 use Rattle.csplit_core.proofs.{
   LineLemmas.{all_lines-append, bytes_between, length-all_lines, count-append, count_from, first_still, rest_more},
@@ -61,8 +61,7 @@ use Rattle.engine_core.specs.{
 use Rattle.ports_core.specs.{Slot.{effect, Slot}, declared.{fault.Fault.Fault, slot.State.TheVariants.Closed}}
 use Rattle.engine_core.proofs.{
   ShareLemmas.{next_shares, bytes_begin, next_begins},
-  FileWriterLemmas.{leaves_again, leaves_still, keeps_files, reaches_again, reaches_as, reaches_still, where_three},
-  FileWriterLemmas.{stops_wider, put_nothing},
+  FileWriterLemmas.{leaves_again, reaches_again, reaches_as, where_three, stops_wider, put_nothing},
   WriterSteps.{goes_again, goes_as, goes_more, stops_among},
   WrittenLemmas.part_trans,
 }
@@ -168,13 +167,13 @@ pub runs_to : {cutter : CutterState} {x left : List ℕ} (at : IsAt cutter x lef
     (record { steps = at.steps; last = state_in cutter; ending = ends.ending })
 runs_to at ends = rw (append-nil at.steps) at (at.leads _ ends.runs)
 
--- more lines came in, and nothing was done with them yet: they are left, except a line that is left out
-unfoldable pub at_more : {cutter : CutterState} {lines : ℕ} {x : List ℕ} (t more : List ℕ) {left : List ℕ} → Joins x t
+-- more lines came in, and nothing was done with them yet: `those` are left
+unfoldable pub at_more : {cutter : CutterState} {lines : ℕ} {x : List ℕ} (t those : List ℕ) {left : List ℕ} → Joins x t
     → 1 ≤ cutter.progress.current → (at : IsAt cutter x left) {aim : Attempt}
     → EndsNow (record cutter { aim = aim }) x → lines ≡ line_count newline (x ++ t)
-    → left ++ more ≡ text_from (cutter.progress.current + at.taken) (x ++ t)
-    → IsAt (bare (record cutter { lines = lines })) (x ++ t) (left ++ more)
-at_more {cutter} t more whole some at ends count left_is =
+    → those ≡ text_from (cutter.progress.current + at.taken) (x ++ t)
+    → IsAt (bare (record cutter { lines = lines })) (x ++ t) those
+at_more {cutter} t those whole some at ends count left_is =
     let e = all_lines-append t whole in record {
       steps = at.steps;
       leads = λ rest run. rw e (goes_on (all_lines t) (runs_to at ends) (rw e at run));
@@ -187,14 +186,14 @@ at_more {cutter} t more whole some at ends count left_is =
       writes = subst (Writes (manner_of cutter.style) cutter.writer) (ended_still cutter.style cutter.operands t _ at.written whole (runs_to at ends)) at.writes;
     }
 
-pub part_more : {cutter : CutterState} {lines : ℕ} {x : List ℕ} (t more : List ℕ) {left : List ℕ} (whole : Joins x t)
+pub part_more : {cutter : CutterState} {lines : ℕ} {x : List ℕ} (t those : List ℕ) {left : List ℕ} (whole : Joins x t)
     (some : 1 ≤ cutter.progress.current) (at : IsAt cutter x left) {aim : Attempt}
     (ends : EndsNow (record cutter { aim = aim }) x)
     (count : lines ≡ line_count newline (x ++ t))
-    (left_is : left ++ more ≡ text_from (cutter.progress.current + at.taken) (x ++ t))
-    → part_at at ≡ part_at (at_more t more whole some at ends count left_is)
+    (left_is : those ≡ text_from (cutter.progress.current + at.taken) (x ++ t))
+    → part_at at ≡ part_at (at_more t those whole some at ends count left_is)
 unfolding at_more
-part_more {cutter} t more whole some at ends count left_is = ap (draft_part (manner_of cutter.style))
+part_more {cutter} t those whole some at ends count left_is = ap (draft_part (manner_of cutter.style))
     (ended_still cutter.style cutter.operands t _ at.written whole (runs_to at ends))
 
 -- all further lines are left, unless the first of them is left out
@@ -285,6 +284,20 @@ module _ {visible : Bool} {writer now : WriterState} {window left_in : Window} {
       (stops_among (take (n - left) window.held ++ take bytes front) (take (left - bytes) (drop (n - left + bytes) window.held))
       (search (rules, goes_more)))
 
+-- all lines that waited go
+pub goes_held : {visible : Bool} {writer next : WriterState} {held : List ℕ} {n : ℕ} {old new : List Slot}
+    {fault : Option Fault} → n ≡ length held
+    → Goes writer next (with_bytes (take n held)) (effect visible old new) fault
+    → Goes writer next (with_bytes held) (effect visible old new) fault
+goes_held {held = held} is went = goes_as (ap (λ k. take k held) is ∙ take_all (length held) held (omega arith)) went
+
+pub goes_both : {visible : Bool} {one two three : WriterState} (held : List ℕ) {before : List ℕ} {n : ℕ}
+    {old mid new : List Slot} {fault : Option Fault} → n ≡ length held
+    → Goes one two (with_bytes (take n held)) (effect visible old mid) None
+    → Goes two three (with_bytes before) (effect visible mid new) fault
+    → Goes one three (with_bytes (held ++ before)) (effect visible old new) fault
+goes_both held {before} is first second = goes_more held before (goes_held is first) second
+
 -- What goes of the lines that wait and of a text after them, and what stays. Of the text something goes only if all
 -- that waited goes.
 pub record Parted (delim most over front : ℕ) (held text : List ℕ) : Type 0 where
@@ -330,7 +343,24 @@ pub kept_window : {window mid : Window} (new : Window) {over front : ℕ} {text 
     → OnOk result (new ≡ record window { held = last_lines window.delim window.most (window.held ++ text) })
 kept_window new result parts dropped put = search rules
 
--- What `hold` leaves: all that is settled of the lines that came in is written, and the others wait.
+-- What holding lines leaves: all that is settled of the lines that came in is written, and the others wait.
+
+-- the lines of `left` that are to wait are held
+pub record Held (cutter : CutterState) (left : List ℕ) (next : CutterState) : Type 0 where
+  pub same : next ≡ record cutter { writer = next.writer; window = next.window }
+  pub window : next.window ≡ record cutter.window { held = next.window.held }
+  pub stands : (x : List ℕ) (at : IsAt (bare cutter) x left) → Arrives cutter at → Stands next x
+  pub size : size_of next.writer.current + length next.window.held ≤ size_of cutter.writer.current + length left
+
+-- The lines up to x came in, and the lines `left` were left.
+pub record HoldsLines (visible : Bool) (cutter : CutterState) (left : List ℕ) (old new : List Slot) (next : CutterState)
+    (fault : Option Fault) : Type 0 where
+  pub keeps : Keeps cutter next old new fault
+  pub begins : (x : List ℕ) (at : IsAt (bare cutter) x left) → Arrives cutter at
+      → Begins (part_at at) (settled_part cutter x)
+  pub reaches : (x : List ℕ) (at : IsAt (bare cutter) x left) → Arrives cutter at
+      → Puts cutter next (part_at at) (settled_part cutter x) (effect visible old new) fault
+  pub went : IfNone fault (Held cutter left next)
 
 -- the cutter once `hold` has written what goes and kept what stays
 abbrev pub holding : CutterState → WriterState → List ℕ → CutterState
@@ -391,6 +421,8 @@ pub hold_goes : {visible : Bool} {cutter : CutterState} {writer : WriterState} {
     → HoldsLines visible cutter left old new (record cutter { writer = writer; window = window }) fault
 hold_goes {cutter = cutter} {writer} {window} {left} {fault = fault} fit differs goes waits fewer = record {
   keeps = search rules;
+  begins = λ x at arrives. subst (Begins (part_at at)) (held_part arrives fit differs bytes_is)
+      (bytes_begin (manner_of cutter.style) _ (draft_at at));
   reaches = λ x at arrives. reaches_as refl (sym (held_part arrives fit differs bytes_is))
       (goes.reaches (manner_of cutter.style) (draft_at at) at.writes);
   went = where_three fault goes.writes waits fewer (λ writes kept size.
@@ -407,34 +439,22 @@ hold_goes {cutter = cutter} {writer} {window} {left} {fault = fault} fit differs
   bytes_is : but_last_lines cutter.window.delim cutter.window.most left ≡ first_lines newline (over_of cutter left) left
   bytes_is = ap (λ d. but_last_lines d cutter.window.most left) fit.delim
 
--- if the cut is below the current line, no line waits
+-- If the cut is below the current line, no line waits.
 
-pub hold_past : {visible : Bool} {cutter : CutterState} {window : Window} {left : List ℕ} {slots : List Slot} {n : ℕ}
-    → cutter.aim ≡ Below → IsReady cutter.writer slots → n ≡ length cutter.window.held
-    → length cutter.window.held ≤ length left
-    → window ≡ without_first cutter.window n
-    → HoldsLines visible cutter left slots slots (record cutter { window = window }) None
-hold_past {cutter = cutter} {window} {left} {n = n} aim ready all less dropped = record {
-  keeps = search (rules, leaves_still);
-  reaches = λ x at arrives. reaches_still keeps_files (search (rules, settled_part_is, drafts));
-  went = record {
-    same = refl;
-    window = search rules;
-    stands = λ x at arrives. let is = plan_once (runs_to at arrives.ends) in inr (search (rules, past, none, drafts));
-    size = omega (arith, ap length none);
-  };
-} where
-  none : window.held ≡ []
-  none = ap (λ (w : Window). w.held) dropped ∙ drop_all n cutter.window.held (omega arith)
+module _ {cutter : CutterState} (aim : cutter.aim ≡ Below) {x left : List ℕ} (at : IsAt (bare cutter) x left)
+    (arrives : Arrives cutter at) where
+  past_final : is_final arrives.ends.ending ≡ true
+  past_final = search rules
 
-  past : (x : List ℕ) (at : IsAt (bare cutter) x left) (arrives : Arrives cutter at)
-      → is_final arrives.ends.ending ≡ true
-  past x at arrives = search rules
-
-  drafts : (x : List ℕ) (at : IsAt (bare cutter) x left) (arrives : Arrives cutter at)
-      → draft_at at ≡ settled_draft cutter.style cutter.operands (all_lines x)
-  drafts x at arrives = let is = past x at arrives in draft_is settled_end cutter.style cutter.operands x at.taken
+  past_drafts : draft_at at ≡ settled_draft cutter.style cutter.operands (all_lines x)
+  past_drafts = draft_is settled_end cutter.style cutter.operands x at.taken
       (runs_to at arrives.ends) (search (rules, final_count)) at.written_is
+
+  pub past_now : IsPast (emptied cutter) x
+  past_now = let is = plan_once (runs_to at arrives.ends) in search (rules, past_final, past_drafts)
+
+  pub past_settled : part_at at ≡ settled_part cutter x
+  past_settled = search (rules, settled_part_is, past_drafts)
 
 -- What is settled begins with what is written when a section has begun.
 
@@ -501,58 +521,59 @@ leads_on {cutter} at cut goes rest run =
 pub cut_stopped : {visible : Bool} {due : Due} {next : CutterState} {old new : List Slot} {fault : Fault}
     → next.operands ≡ due.cutter.operands → next.style ≡ due.cutter.style
     → Leaves due.cutter.writer next.writer old new (Some fault)
-    → ((x : List ℕ) (at : IsAt (bare due.cutter) x due.left) → CutsNow due x at
+    → ((x : List ℕ) (at : IsAt (bare due.cutter) x (left_in due)) → CutsNow due x at
     → Puts due.cutter next (part_at at) (settled_part due.cutter x) (effect visible old new) (Some fault))
-    → CutsAll visible due [] old new next (Some fault)
+    → CutsShort visible due old new next fault
 cut_stopped operands style leaves reaches = search rules
 
 -- where the run stands after the cut
-passed_state : (cutter : CutterState) {mid : CutterState} {writer : WriterState} {cut : CutPoint}
-    → WentOn (record cutter { writer = writer }) cut mid → {operand : Operand} {operands : List Operand}
+passed_state : (cutter : CutterState) {mid : CutterState} {writer : WriterState} {window : Window} {cut : CutPoint}
+    → WentOn (record cutter { writer = writer; window = window }) cut mid
+    → {operand : Operand} {operands : List Operand}
     → (state_in cutter).operands ≡ operand ∷ operands → state_of cutter.operands mid.progress
     ≡ state_after (suppress_in cutter) operand operands cutter.progress.repetition cut
 passed_state cutter passed are = rw passed.same at (passed.state _ _ are)
 
 -- the lines before the cut are written, and then the next section begins
-next_goes : {visible : Bool} {cutter mid : CutterState} {writer next : WriterState} {cut : CutPoint} {before : List ℕ}
-    {opening : Opening} {old between new : List Slot} {fault : Option Fault}
-    → WentOn (record cutter { writer = writer }) cut mid
+next_goes : {visible : Bool} (cutter : CutterState) {mid : CutterState} {writer next : WriterState} {window : Window}
+    {cut : CutPoint}
+    {before : List ℕ} {opening : Opening} {old between new : List Slot} {fault : Option Fault}
+    → WentOn (record cutter { writer = writer; window = window }) cut mid
     → Goes cutter.writer writer (with_bytes before) (effect visible old between) None
     → opening ≡ opening_of mid.style (kept_by (state_in mid).operands)
     → Goes mid.writer next (with_next opening) (effect visible between new) fault
     → Goes cutter.writer next (λ draft. with_next (opening_of cutter.style
     (kept_by (drop mid.progress.done cutter.operands))) (with_bytes before draft)) (effect visible old new) fault
-next_goes {before = before} passed went opening_is began = goes_again _ (λ draft. refl)
+next_goes cutter {before = before} passed went opening_is began = goes_again _ (λ draft. refl)
     (λ manner. bytes_begin manner before) went (rw passed.same at (rw opening_is at began))
 
--- `before` are the lines that are left and stand before the cut
-module _ {due : Due} {n : ℕ} {before : List ℕ} (fit : IsFit due.cutter) (will : WillCut due.cutter due.cut)
-    (n_is : n ≡ due.cut.line - due.place) (first : before ≡ first_lines newline n due.left) where
+-- the lines `before` of a cut are written
+module _ {due : Due} (fit : IsFit due.cutter) (will : WillCut due.cutter due.cut) where
   -- the sections up to the cut, and the next section
-  cut_draft : {x : List ℕ} {at : IsAt (bare due.cutter) x due.left} (now : CutsNow due x at) (kept : Bool)
-      → with_next (opening_of due.cutter.style kept) (with_bytes before (draft_at at))
+  cut_draft : {x : List ℕ} {at : IsAt (bare due.cutter) x (left_in due)} (now : CutsNow due x at) (kept : Bool)
+      → with_next (opening_of due.cutter.style kept) (with_bytes due.before (draft_at at))
       ≡ draft_by due.cutter.style (all_lines x) (at.steps ++ step_at due.cutter now.goes.its.operand due.cut ∷ []) kept
       []
   cut_draft {x} {at = at} now kept =
       let cutter = due.cutter in
-      let count : at.taken + n ≡ due.cut.line - cutter.progress.current =
-      (search rules) in
+      let n = due.cut.line - (cutter.progress.current + at.taken) in
+      let count : at.taken + n ≡ due.cut.line - cutter.progress.current = omega (arith, now.low) in
       let are = now.goes.its.are in
-      let bytes : at.written ++ before ≡ bytes_of (lines_between cutter.progress.current due.cut.line (all_lines x)) =
-      written_on n fit.fits.some at first ∙ ap (λ n. first_lines newline n (text_from cutter.progress.current x)) count
+      let bytes : at.written ++ due.before ≡ bytes_of (lines_between cutter.progress.current due.cut.line (all_lines x)) =
+      written_on n fit.fits.some at now.before_is ∙ ap (λ n. first_lines newline n (text_from cutter.progress.current x)) count
       ∙ sym (bytes_between cutter.progress.current due.cut.line x) in
       let ended = flat_map (file_in cutter.style) (map (section_of (all_lines x)) at.steps) in
-      let one : made_of (opening_of cutter.style (kept_by (state_in cutter).operands)) (at.written ++ before)
+      let one : made_of (opening_of cutter.style (kept_by (state_in cutter).operands)) (at.written ++ due.before)
       ≡ file_in cutter.style (section_of (all_lines x) (step_at cutter now.goes.its.operand due.cut)) = search rules in
       ap (λ one. record { ended = ended ++ one; opening = opening_of cutter.style kept; bytes = [] }) one
       ∙ ap (λ those. record { ended = those; opening = opening_of cutter.style kept; bytes = [] })
       (search (rules, map-append, flat_map-append, append-nil))
 
   -- what is settled begins with the sections up to the cut
-  cut_begins : {x : List ℕ} {at : IsAt (bare due.cutter) x due.left} (now : CutsNow due x at)
+  cut_begins : {x : List ℕ} {at : IsAt (bare due.cutter) x (left_in due)} (now : CutsNow due x at)
       → Begins (draft_part (manner_of due.cutter.style) (with_next (opening_of due.cutter.style (kept_by (state_after
       (suppress_in due.cutter) now.goes.its.operand now.goes.its.operands due.cutter.progress.repetition
-      due.cut).operands)) (with_bytes before (draft_at at)))) (settled_part due.cutter x)
+      due.cut).operands)) (with_bytes due.before (draft_at at)))) (settled_part due.cutter x)
   cut_begins {x} {at = at} now =
       let cutter = due.cutter in
       let state = state_after (suppress_in cutter) now.goes.its.operand now.goes.its.operands cutter.progress.repetition due.cut in
@@ -564,21 +585,22 @@ module _ {due : Due} {n : ℕ} {before : List ℕ} (fit : IsFit due.cutter) (wil
 
   pub cut_put_stopped : {visible : Bool} {next : CutterState} {old new : List Slot} {fault : Fault}
       → next.operands ≡ due.cutter.operands → next.style ≡ due.cutter.style
-      → Goes due.cutter.writer next.writer (with_bytes before) (effect visible old new) (Some fault)
-      → CutsAll visible due [] old new next (Some fault)
+      → Goes due.cutter.writer next.writer (with_bytes due.before) (effect visible old new) (Some fault)
+      → CutsShort visible due old new next fault
   cut_put_stopped operands style goes = cut_stopped operands style goes.leaves
       (λ x at now. stops_wider (goes.reaches (manner_of due.cutter.style) (draft_at at) at.writes)
       (part_trans _ _ _ (search (rules, next_begins)) (cut_begins now)))
 
-  pub cut_next_stopped : {visible : Bool} {mid : CutterState} {writer next : WriterState} {opening : Opening}
+  pub cut_next_stopped : {visible : Bool} {mid : CutterState} {writer next : WriterState} {window : Window}
+      {opening : Opening}
       {old between new : List Slot} {fault : Fault}
-      → Goes due.cutter.writer writer (with_bytes before) (effect visible old between) None
-      → WentOn (record due.cutter { writer = writer }) due.cut mid
+      → Goes due.cutter.writer writer (with_bytes due.before) (effect visible old between) None
+      → WentOn (record due.cutter { writer = writer; window = window }) due.cut mid
       → opening ≡ opening_of mid.style (kept_by (state_in mid).operands)
       → Goes mid.writer next (with_next opening) (effect visible between new) (Some fault)
-      → CutsAll visible due [] old new (record mid { writer = next }) (Some fault)
+      → CutsShort visible due old new (record mid { writer = next }) fault
   cut_next_stopped went passed opening_is stops =
-      let stopped = next_goes passed went opening_is stops in
+      let stopped = next_goes due.cutter passed went opening_is stops in
       cut_stopped (ap (λ (c : CutterState). c.operands) passed.same) (ap (λ (c : CutterState). c.style) passed.same)
       stopped.leaves (λ x at now. stops_wider (stopped.reaches (manner_of due.cutter.style) (draft_at at) at.writes)
       (rw (← (ap (λ (s : State). kept_by s.operands) (passed_state due.cutter passed now.goes.its.are))) at (cut_begins now)))
@@ -593,40 +615,46 @@ rest_from true all cut x some is skipped whole = skipped refl ∙ ap (after_line
 rest_from false all cut x some is skipped whole = whole refl ∙ is
 
 -- What is left is the end of the lines.
-end_of : (suppress : Bool) (left : List ℕ) {rest : List ℕ} (all : List ℕ) (n : ℕ) → all ≡ after_lines newline n left
-    → (suppress ≡ true → rest ≡ after_lines newline 1 all) → (suppress ≡ false → rest ≡ all) → IsEnd rest left
-end_of true left {rest} all n all_is skipped whole = (
-  first_lines newline n left ++ first_lines newline 1 all,
-  sym (first_lines_then_rest newline n left)
-      ∙ ap (λ those. first_lines newline n left ++ those)
-      (sym all_is ∙ sym (first_lines_then_rest newline 1 all) ∙ ap (λ those. first_lines newline 1 all ++ those) (sym (skipped refl)))
-      ∙ sym (search (rules, append_assoc)),
+end_of : (suppress : Bool) {left : List ℕ} (rest : List ℕ) → (suppress ≡ true → left ≡ after_lines newline 1 rest)
+    → (suppress ≡ false → left ≡ rest) → IsEnd left rest
+end_of true rest skipped whole = (
+  first_lines newline 1 rest,
+  sym (first_lines_then_rest newline 1 rest)
+      ∙ ap (λ those. first_lines newline 1 rest ++ those) (sym (skipped refl)),
 )
-end_of false left all n all_is skipped whole = (first_lines newline n left, rw (whole refl, all_is) (sym (first_lines_then_rest newline n left)))
+end_of false rest skipped whole = ([], sym (whole refl))
 
-module _ {visible : Bool} {due : Due} {mid : CutterState} {writer next : WriterState} {n : ℕ} {before rest : List ℕ}
-    (all : List ℕ) {opening : Opening} {old between new : List Slot} (fit : IsFit due.cutter)
-    (will : WillCut due.cutter due.cut) (n_is : n ≡ due.cut.line - due.place)
-    (first : before ≡ first_lines newline n due.left) (all_is : all ≡ after_lines newline n due.left)
-    (skipped : suppress_in due.cutter ≡ true → rest ≡ after_lines newline 1 all)
-    (whole : suppress_in due.cutter ≡ false → rest ≡ all)
-    (went : Goes due.cutter.writer writer (with_bytes before) (effect visible old between) None)
-    (passed : WentOn (record due.cutter { writer = writer }) due.cut mid)
+-- what follows the first lines
+rest_after : (n : ℕ) (before rest : List ℕ) → before ≡ first_lines newline n (before ++ rest)
+    → rest ≡ after_lines newline n (before ++ rest)
+rest_after n before rest is = append_cancel_left before rest (after_lines newline n (before ++ rest))
+    (sym (first_lines_then_rest newline n (before ++ rest))
+    ∙ ap (λ those. those ++ after_lines newline n (before ++ rest)) (sym is))
+
+module _ {visible : Bool} {due : Due} {mid : CutterState} {writer next : WriterState} {window : Window} {left : List ℕ}
+    {opening : Opening} {old between new : List Slot} (fit : IsFit due.cutter) (will : WillCut due.cutter due.cut)
+    (skipped : suppress_in due.cutter ≡ true → left ≡ after_lines newline 1 due.rest)
+    (whole : suppress_in due.cutter ≡ false → left ≡ due.rest)
+    (went : Goes due.cutter.writer writer (with_bytes due.before) (effect visible old between) None)
+    (passed : WentOn (record due.cutter { writer = writer; window = window }) due.cut mid)
     (opening_is : opening ≡ opening_of mid.style (kept_by (state_in mid).operands))
     (began : Goes mid.writer next (with_next opening) (effect visible between new) None) where
-  after_at : {x : List ℕ} {at : IsAt (bare due.cutter) x due.left} (now : CutsNow due x at)
-      → IsAfter visible due x (part_at at) old new (record mid { writer = next }) rest
+  after_at : {x : List ℕ} {at : IsAt (bare due.cutter) x (left_in due)} (now : CutsNow due x at)
+      → IsAfter visible due x (part_at at) old new (record mid { writer = next }) left
   after_at {x} {at} now =
       let cutter = due.cutter in
       let cut = due.cut in
-      let both = next_goes passed went opening_is began in
+      let both = next_goes cutter passed went opening_is began in
       let manner = manner_of cutter.style in
       let draft = draft_at at in
       let kept = kept_by (drop mid.progress.done cutter.operands) in
       let state = passed_state cutter passed now.goes.its.are in
       let current : mid.progress.current ≡ line_after (suppress_in cutter) cut.line = ap (λ (s : State). s.current) state in
-      let left_after : all ≡ text_from cut.line x = grind (arith, common_steps, (left_on n fit.fits.some at), now.place_is, now.before) in
-      let drafts = cut_draft fit will n_is first now kept in
+      let n = cut.line - (cutter.progress.current + at.taken) in
+      let left_after : due.rest ≡ text_from cut.line x = rest_after n due.before due.rest now.before_is
+      ∙ left_on n fit.fits.some at
+      ∙ ap (λ k. text_from k x) (let e : cutter.progress.current + at.taken + n ≡ cut.line = omega (arith, now.low) in e) in
+      let drafts = cut_draft fit will now kept in
       let near : cutter.lines ≤ search_line (suppress_in cutter) (state_of cutter.operands mid.progress) =
       (let e : search_line (suppress_in cutter) (state_of cutter.operands mid.progress) ≡ search_after (suppress_in cutter) cut =
       (search rules) in let n = now.near in omega arith) in rw passed.same (record {
@@ -638,7 +666,7 @@ module _ {visible : Bool} {due : Due} {mid : CutterState} {writer next : WriterS
           written = [];
           few = omega arith;
           written_is = search (rules, first_lines-zero);
-          left_is = rest_from (suppress_in cutter) all cut.line x (omega arith) left_after skipped whole
+          left_is = rest_from (suppress_in cutter) due.rest cut.line x (omega (arith, now.low, fit.fits.some)) left_after skipped whole
               ∙ (search rules);
           writes = subst (Writes manner next) drafts (both.writes manner draft at.writes);
         };
@@ -646,25 +674,25 @@ module _ {visible : Bool} {due : Due} {mid : CutterState} {writer next : WriterS
         near = near;
         none = refl;
         grows = subst (Begins (part_at at)) (ap (draft_part manner) drafts)
-            (part_trans _ _ _ (bytes_begin manner before draft) (next_begins manner _ (with_bytes before draft)));
+            (part_trans _ _ _ (bytes_begin manner due.before draft) (next_begins manner _ (with_bytes due.before draft)));
         reaches = reaches_as refl (sym (ap (draft_part manner) drafts)) (both.reaches manner draft at.writes);
       })
 
-  pub cut_done : size_of next.current ≡ 0 → length rest ≤ length due.left
-      → CutAt visible due old new (record mid { writer = next }) rest
+  pub cut_done : size_of next.current ≡ 0 → length left ≤ length due.rest
+      → CutAt visible due old new (record mid { writer = next }) left
   cut_done empty shorter = record {
     fewer = passed.fewer;
     spreading = record {
       keeps = record {
         operands = search rules;
         style = search rules;
-        writer = (next_goes passed went opening_is began).leaves;
+        writer = (next_goes due.cutter passed went opening_is began).leaves;
       };
       lines = search rules;
       fit = search rules;
       held = passed.held;
       after = λ x at now. after_at now;
-      size = omega arith;
-      end = end_of (suppress_in due.cutter) due.left all n all_is skipped whole;
+      size = omega (arith, length-append due.before due.rest);
+      end = end_of (suppress_in due.cutter) due.rest skipped whole;
     };
   }

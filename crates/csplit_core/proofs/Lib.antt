@@ -4,4 +4,5 @@ pub mod CutterLemmas
 pub mod LineLemmas
 pub mod TryLemmas
 pub mod TakeLemmas
+pub mod StretchLemmas
 pub mod StageLemmas

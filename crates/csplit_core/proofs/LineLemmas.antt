@@ -1,15 +1,16 @@
 -- Lines of a text as operands see them, their bytes, and what follows the last newline, if more bytes come.
 use Rattle.std.proofs.{
-  Common.{◌≡◌, inl, inr, ℕ, zero, suc, ◌+◌, ◌-◌, ◌<◌, ◌≤◌, List, [], ◌∷◌, ◌++◌, length, map, take, drop, refl, sym},
-  Common.{◌∙◌, ap, arith, length-append, Bool, true, false, append_assoc, take-add, rules},
+  Common.{◌≡◌, inl, inr, ℕ, zero, suc, ◌+◌, ◌-◌, ◌<◌, ◌≤◌, List, [], ◌∷◌, ◌++◌, length, map, take, drop, refl},
+  Common.{sym, ◌∙◌, ap, arith, length-append, Bool, true, false, append_assoc, take-add, rules},
   lemmas.Bool.{cases_lt, cases_eq, eq-eqb, ne_eqb},
   lemmas.List.{take-append-drop, map-append, take-map, drop-map, length-map, length-drop, drop_all, drop-append-le},
-  lemmas.List.{take-append-le, drop-drop, append-nil, append_cancel_left, length-take-le},
+  lemmas.List.{take-append-le, drop-drop, append-nil, append_cancel_left, length-take-le, take_at},
+  Math.Seq.take-append-add,
   lemmas.Grind.common_steps,
 }
 use Rattle.seg_core.specs.{
   Line.{lines_of, line_count, delimiters, joined, first_lines, after_lines, ends_with, EndsAt, HasNone, AreLines},
-  Line.LastEndsAt,
+  Line.{LastEndsAt, BeginsAt, but_last_lines},
 }
 use Rattle.seg_core.proofs.{
   LinesOf.{lines_of-append, AreLines-lines_of, lines_of-joined},
@@ -18,7 +19,7 @@ use Rattle.seg_core.proofs.{
   FirstLines.{delimiters-first_lines, lines_of-first_lines},
   EndLines.after_lines-append,
   Delimiters.delimiters-append,
-  LastLines.first_lines-whole,
+  LastLines.{first_lines-whole, over_begins},
 }
 use Rattle.csplit_core.specs.{
   Section.{lines_between, bytes_of},
@@ -114,10 +115,6 @@ pub first_further : (first a b : ℕ) (x : List ℕ) → 1 ≤ first
     → first_lines newline (a + b) (text_from first x)
     ≡ first_lines newline a (text_from first x) ++ first_lines newline b (text_from (first + a) x)
 first_further first a b x some = search (rules, take-add, joined-append, lines_of-after_lines, from_further)
-
--- complete lines from a line on are complete
-pub whole_from : (first : ℕ) {x : List ℕ} → IsWhole x → IsWhole (text_from first x)
-whole_from first {x} whole = search (rules, after_lines-is_drop, whole_drop)
 
 -- what is left of a slice after its first n bytes
 pub rest_all : (n : ℕ) (left : List ℕ) → take (length left - n) (drop n left) ≡ drop n left
@@ -233,3 +230,16 @@ others_whole line rest joined whole = grind (arith, common_steps, ends_with-appe
 
 pub open_complete : (rest line : List ℕ) → ends_with newline line ≡ true → IsWhole (rest ++ line)
 open_complete rest line ends = inr (some_ends rest line ends)
+
+-- what stands before the last lines of a text, of which `front` lacks the last newline
+
+pub before_begins : (held text : List ℕ) {front : List ℕ} {n start : ℕ} → front ≡ take (length front) text
+    → line_count newline (held ++ text) ≡ delimiters newline held + delimiters newline front + 1
+    → BeginsAt newline n front start → held ++ take start text ≡ but_last_lines newline n (held ++ text)
+before_begins held text {front} {n} {start} is lines begins =
+    let all = but_last_lines newline n (held ++ text) in
+    let long : length held + start ≡ length all = over_begins held text front is lines begins in
+    let count = line_count newline (held ++ text) - n in
+    sym (take-append-add held text start) ∙ ap (λ k. take k (held ++ text)) long
+    ∙ ap (λ those. take (length all) those) (sym (first_lines_then_rest newline count (held ++ text)))
+    ∙ take_at all (after_lines newline count (held ++ text)) (length all) refl

@@ -1,200 +1,310 @@
--- Taking lines in, one by one and stretch by stretch, and cutting them as often as operands cut.
-use Rattle.std.proofs.{lemmas.{Grind.common_steps, Bool.{false≢true, cases_lt}}, Common.{◌≡◌, ◌⊎◌, inl, inr, ℕ, ◌+◌, ◌-◌, ◌≤◌, Bool, true, Option, Some, None, List, [], ◌∷◌, ◌++◌, length}, Common.{refl, sym, ◌∙◌, ap, subst, arith, append_assoc, length-append, IfSome, Ok, Err, take, drop, eqb, Result}, Common.{take_all, append-nil, take-append-drop, length-drop, length-take-le, drop_at, take_at, drop-drop, is_some}, Common.{IfOk, rules}}
-use Rattle.std.proofs.{lemmas.List.{drop-append-le, drop_all}, Math.Seq.take-append-add}
+-- Taking lines in, and cutting them as often as operands cut.
+use Rattle.std.proofs.{Common.{◌≡◌, ◌≢◌, ◌⊎◌, inl, inr, ℕ, ◌+◌, ◌-◌, ◌≤◌, Bool, true, false, Option, Some, None, List, []}, Common.{◌∷◌, ◌++◌, length, refl, sym, ◌∙◌, ap, subst, arith, append_assoc, length-append, take, drop, eqb}, Common.{append-nil, take-append-drop, length-take-le, rules}, lemmas.{Grind.common_steps, Bool.{false≢true, cases_lt}, List.append_cancel_left}, Math.Seq.take-nil}
 use Rattle.seg_core.{
-  specs.{Line.{line_count, delimiters, ends_with}, Window.Window},
-  proofs.EndLines.line_count-grows,
+  specs.{Line.{line_count, first_lines, after_lines, but_last_lines}, inner.Lines.last_lines, Window.Window},
+  proofs.FirstLines.first_lines_then_rest,
 }
 use Rattle.engine_core.{
-  specs.{Written.{Written, Begins}, FileWriter.IsReady, Draft.draft_part, InTurn.fault_in},
+  specs.{Written.{Written, Begins}, FileWriter.{IsReady, size_of}, Draft.draft_part},
   proofs.{
     FileWriterLemmas.{keeps_files, leaves_still, reaches_as, reaches_still, where_well, stops_wider},
-    WrittenLemmas.part_trans,
+    WrittenLemmas.{part_trans, part_begins_itself},
   },
 }
-use Rattle.ports_core.specs.{Slot.Slot, declared.fault.Fault.Fault}
+use Rattle.ports_core.specs.{Slot.{Slot, effect}, declared.fault.Fault.Fault}
 use Rattle.csplit_core.specs.{
-  Input.{newline, all_lines, without_newline},
+  Input.{newline, all_lines},
   Operand.{Line, Number, Operand, Search, Target},
   Plan.{State, Ending, used_up, missed, above, below, Plan, CutPoint, CutsAt, search_line, past_last},
   inner.PlanLaws.EndsAs,
   Output.{Style, manner_of},
   Planned.plan,
-  laws.{PlanLaws.plan_runs, SectionLaws.{ends_as, cuts_from, grows}},
-  inner.Cutter.{CutsIn, bare, IsFound, settled_part, part_at, IsWhole, IsLine, Joins, Arrives, Held, HoldsLines},
-  inner.Cutter.{Due, due, waits_with, CutsNow, CutsAll, WillCut, TriesNext, Takes, IsNextFound, IsEnd, Tries, IsAfter, CutAt},
-  inner.Cutter.{Spreading, Spread, WillSkip, PassesOver, Stretch, stretch_of, first_in, others_in, Starts, StopsAt, Stretches},
-  inner.Cutter.{CutsOn, PassesThenHolds},
+  Progress.EndsHere,
+  laws.{PlanLaws.{plan_runs, past_near}, SectionLaws.{ends_as, cuts_from, grows}},
+  inner.Cutter.{CutsIn, bare, settled_part, part_at, IsWhole, IsLine, Joins, Arrives, Keeps, Puts, Comes, Waits, Due},
+  inner.Cutter.{due, last_due, left_in, after_cut, CutsNow, CutsShort, Cut, CutsHeld, held_well, held_short, WillCut},
+  inner.Cutter.{TriesNext, Takes, Tries, IsAfter, CutAt, Spreading, Spread, WillSkip, PassesOver, emptied, IsAimed},
   Section.{is_final, most_waiting, settled_end},
-  declared.{line_cutter.Passed.Passed, progress.Attempt.{Attempt, TheVariants.Below}},
+  declared.{progress.Attempt.{Attempt, TheVariants.Below}},
   Cutter.{CutterState, state_in, text_from, settled_draft, draft_by, IsFit, IsSound, IsAt, IsLive, IsPast, Stands},
-  Cutter.{EndsNow, kept_by},
+  Cutter.{load, EndsNow, kept_by},
 }
 use Rattle.csplit_core.proofs.{
-  CutterLemmas.{at_more, part_more, all_left, live_part, left_count, few_taken, live_taken, settled_part_is, most_is, draft_is},
-  CutterLemmas.{final_count, ended_still, keeps_on, reaches_then, settled_same},
-  LineLemmas.{all_lines-append, all_lines-line, length-all_lines, count-line, whole_count, whole_from, whole-append},
-  LineLemmas.{whole_drop, rest_all, none_from, rest_more},
+  CutterLemmas.{at_more, part_more, all_left, live_part, left_count, settled_part_is, most_is, draft_is, Held},
+  CutterLemmas.{final_count, ended_still, keeps_on, reaches_then, settled_same, HoldsLines, past_now, past_settled},
+  LineLemmas.{all_lines-append, all_lines-line, length-all_lines, count-append, count-line, count_from, whole-append},
+  LineLemmas.none_from,
   TryLemmas.stays,
+  WholeLemmas.ends_after_all,
 }
 
 -- A cut doesn't stand before the lines that are left.
 
-live_before : {cutter : CutterState} {x : List ℕ} (t : List ℕ) (live : IsLive cutter x) {operand : Operand}
+live_before : (cutter : CutterState) (x t : List ℕ) (ends : EndsNow cutter x) {operand : Operand}
     {operands : List Operand} (cut : CutPoint) → (state_in cutter).operands ≡ operand ∷ operands
     → CutsAt cutter.style (all_lines x ++ all_lines t) (state_in cutter) operand operand.target cut
-    → settled_end (line_count newline x) live.ends.ending ≤ cut.line
-live_before {cutter} {x} t live cut are at =
-    let so = cuts_from cutter.style (all_lines x) (all_lines t) (state_in cutter) live.ends.ending (ends_as live.ends.runs) are in
+    → settled_end (line_count newline x) ends.ending ≤ cut.line
+live_before cutter x t ends cut are at =
+    let so = cuts_from cutter.style (all_lines x) (all_lines t) (state_in cutter) ends.ending (ends_as ends.runs) are in
     rw (length-all_lines x) at (so.1 cut at)
 
-place_before : {cutter : CutterState} {x : List ℕ} (t : List ℕ) (cut : CutPoint) (live : IsLive cutter x) → IsWhole x
-    → CutsIn cutter (x ++ t) cut → cutter.progress.current ≤ cut.line
-    → cutter.progress.current + live.at.taken ≤ cut.line
-place_before t cut live whole goes from = omega (
-  arith,
-  live_taken live,
-  live_before t live cut goes.its.are (rw (all_lines-append t (inl whole)) at goes.its.cuts),
-)
+-- lines of the open section are written only if they are settled
+module _ {cutter : CutterState} {x left : List ℕ} {at : IsAt (bare cutter) x left} (arrives : Arrives cutter at)
+    (fit : IsFit cutter) (differs : cutter.aim ≡ Below → ⊥) where
+  taken_low : (at.taken ≡ 0)
+      ⊎ (cutter.progress.current + at.taken ≤ settled_end (line_count newline x) arrives.ends.ending)
+  taken_low =
+      let live : is_final arrives.ends.ending ≡ false = search rules in
+      let most : cutter.window.most ≡ most_waiting arrives.ends.ending = search (rules, live, most_is, ends_as) in
+      let end = ends_after_all (line_count newline x) arrives.ends.ending live in
+      elim (cases_lt 0 at.taken) [
+        | inl some ↦ elim arrives.enough [
+          | inl none ↦ inl none
+          | inr enough ↦ inr (let count = at.counted in omega (arith, left_count at, at.few, fit.fits.some))
+        ]
+        | inr none ↦ inl (omega arith)
+      ]
 
--- the same cutter after more lines came
-abbrev pub more_lines : CutterState → ℕ → Attempt → CutterState
-more_lines cutter lines aim = record cutter { lines = lines; aim = aim }
+  place_before : (t : List ℕ) (cut : CutPoint) → IsWhole x → CutsIn cutter (x ++ t) cut
+      → cutter.progress.current ≤ cut.line → cutter.progress.current + at.taken ≤ cut.line
+  place_before t cut whole goes from = elim taken_low [
+    | inl none ↦ omega arith
+    | inr low ↦ omega (
+      arith,
+      live_before cutter x t arrives.ends cut goes.its.are (rw (all_lines-append t (inl whole)) at goes.its.cuts),
+    )
+  ]
 
--- More lines came: what is settled of them is written, and the others are held.
+  low_taken : (t : List ℕ) → IsWhole x → (ending : Ending)
+      → EndsAs cutter.style (all_lines (x ++ t)) (state_in cutter) ending → is_final ending ≡ true → at.taken ≡ 0
+  low_taken t whole used_up ends final = absurd (false≢true final)
+  low_taken t whole (missed operand repetition) ends final = absurd (false≢true final)
+  low_taken t whole (above operand repetition cut) ends final = absurd (false≢true final)
+  low_taken t whole (below operand repetition) (operands, cut, are, at, low, often) final = elim taken_low [
+    | inl none ↦ none
+    | inr high ↦ absurd (omega (arith, live_before cutter x t arrives.ends cut are (rw (all_lines-append t (inl whole)) at at)))
+  ]
+
+none_before : (a b : List ℕ) → a ++ b ≡ [] → a ≡ []
+none_before [] b none = refl
+none_before (byte ∷ a) b none = absurd (cc)
 
 -- the cutter is live if its aim isn't below the current line
 live_of : {cutter : CutterState} {x : List ℕ} → (cutter.aim ≡ Below → ⊥) → Stands cutter x → IsLive cutter x
 live_of differs (inl live) = live
 live_of differs (inr past) = absurd (differs past.aim)
 
-pub sound_held : {mid next : CutterState} {left : List ℕ} → Held mid left next → IsSound mid → IsSound next
-sound_held held sound = search rules
+-- Lines came in, and only those are left that are held.
 
--- the outputs have the part `low`, and the lines `left` are left
-pub record Reached (low : Written) (cutter : CutterState) (x left : List ℕ) : Type 0 where
-  pub at : IsAt (bare cutter) x left
-  pub arrives : Arrives cutter at
-  pub same : low ≡ part_at at
-
-low_taken : {cutter : CutterState} {x : List ℕ} (t : List ℕ) (live : IsLive cutter x) → IsWhole x → (ending : Ending)
-    → EndsAs cutter.style (all_lines (x ++ t)) (state_in cutter) ending → is_final ending ≡ true → live.at.taken ≡ 0
-low_taken t live whole used_up ends final = absurd (false≢true final)
-low_taken t live whole (missed operand repetition) ends final = absurd (false≢true final)
-low_taken t live whole (above operand repetition cut) ends final = absurd (false≢true final)
-low_taken t live whole (below operand repetition) (operands, cut, are, at, low, often) final =
-    omega (arith, live_taken live, live_before t live cut are (rw (all_lines-append t (inl whole)) at at))
-
-pub took_held : {visible : Bool} {cutter next : CutterState} {lines : ℕ} {aim : Attempt} {t : List ℕ} (more : List ℕ)
-    {old new : List Slot} {fault : Option Fault} → IsSound (more_lines cutter lines aim) → IsFit cutter
-    → (cutter.aim ≡ Below → ⊥)
-    → lines ≤ cutter.lines + length t → length more ≤ length t
-    → ((x : List ℕ) → IsWhole x → (live : IsLive cutter x)
-    → cutter.window.held ++ more ≡ text_from (cutter.progress.current + live.at.taken) (x ++ t))
-    → ((x : List ℕ) → IsWhole x → IsLive cutter x
-    → (lines ≡ line_count newline (x ++ t)) × EndsNow (more_lines cutter lines aim) (x ++ t))
-    → HoldsLines visible (more_lines cutter lines aim) (cutter.window.held ++ more) old new next fault
-    → Takes visible cutter t old new next fault
-unfolding at_more
-took_held {cutter = cutter} {next} {lines} {aim} {t} more {fault = fault} sound fit differs few short left ends held = record {
-  keeps = held.keeps;
-  reaches = λ x whole stands. let there = reached x whole stands in reaches_as there.same refl (held.reaches (x ++ t) there.at there.arrives);
-  went = where_well fault held.went (λ went. record {
-    stands = λ x whole stands. let there = reached x whole stands in went.stands (x ++ t) there.at there.arrives;
-    sound = sound_held went sound;
-    size = grind (arith, common_steps, length-append);
-  });
+live_comes : {visible : Bool} {cutter next : CutterState} {low : Written} {x : List ℕ} {old new : List Slot}
+    → IsFit next
+    → (live : IsLive next x) → Begins low (settled_part next x)
+    → Puts cutter next low (settled_part next x) (effect visible old new) None
+    → Comes visible cutter low old new next x []
+live_comes {next = next} {low} {x} fit live begins puts = record {
+  left = next.window.held;
+  left_is = λ differs. sym (append-nil next.window.held);
+  at = record {
+    steps = live.at.steps;
+    leads = live.at.leads;
+    counted = live.at.counted;
+    taken = live.at.taken;
+    written = live.at.written;
+    few = live.at.few;
+    written_is = live.at.written_is;
+    left_is = live.at.left_is;
+    writes = live.at.writes;
+  };
+  arrives = record { ends = live.ends; low = λ final. absurd (false≢true (sym live.live ∙ final)); enough = either };
+  grows = subst (Begins low) (sym (live_part live)) begins;
+  reaches = reaches_as refl (live_part live) puts;
 } where
-  reached : (x : List ℕ) → IsWhole x → Stands cutter x
-      → Reached (settled_part cutter x) (more_lines cutter lines aim) (x ++ t) (cutter.window.held ++ more)
-  reached x whole stands =
-      let live = live_of differs stands in
-      let there = ends x whole live in
-      let few = few_taken live.at in
-      let most : cutter.window.most ≡ most_waiting live.ends.ending = search (rules, most_is, ends_as) in
-      let either : (live.at.taken ≡ 0) ⊎ (most_waiting live.ends.ending ≤ line_count newline cutter.window.held) =
-      (let settled = live.settled in let some = fit.fits.some in
-      elim (cases_lt (most_waiting live.ends.ending) (cutter.lines + 1 - cutter.progress.current)) [
-        | inl some' ↦ inr (omega (arith, left_count live.at))
+  most : next.window.most ≡ most_waiting live.ends.ending
+  most = search (rules, most_is, ends_as)
+
+  either : (live.at.taken ≡ 0) ⊎ (next.window.most ≤ line_count newline next.window.held)
+  either = let settled = live.settled in let some = fit.fits.some in
+      elim (cases_lt (most_waiting live.ends.ending) (next.lines + 1 - next.progress.current)) [
+        | inl more ↦ inr (omega (arith, left_count live.at, most))
         | inr none ↦ inl (omega arith)
-      ]) in record {
-        at = at_more t more (inl whole) fit.fits.some live.at live.ends there.0 (left x whole live);
-        arrives = record {
-          ends = there.1;
-          low = low_taken t live whole there.1.ending (ends_as there.1.runs);
-          enough = search (rules, either, most, line_count-grows);
-        };
-        same = sym (live_part live) ∙ part_more t more (inl whole) fit.fits.some live.at live.ends there.0 (left x whole live);
-      }
+      ]
 
--- A line came that is cut.
+pub waits_none : {visible : Bool} {cutter : CutterState} {slots : List Slot} → IsSound cutter
+    → IsReady cutter.writer slots
+    → (cutter.aim ≡ Below → ⊥) → Waits visible cutter [] slots slots cutter []
+waits_none {cutter = cutter} sound ready differs = record {
+  keeps = record { operands = refl; style = refl; writer = leaves_still ready };
+  sound = sound;
+  lines = omega arith;
+  size = omega arith;
+  comes = λ x whole stands. rw (append-nil x) (live_comes sound.fit (live_of differs stands) (part_begins_itself _)
+      (reaches_still keeps_files refl));
+}
 
--- a line that is cut isn't left out; a search begins no earlier than at the current line
-search_from : (suppress : Bool) (state : State) → state.current ≤ search_line suppress state
-search_from suppress state = search rules
+-- Lines came in, and nothing was done with them yet.
 
-cut_near : (style : Style) (lines : List Line) (state : State) (operand : Operand) (target : Target) (cut : CutPoint)
-    → CutsAt style lines state operand target cut
-    → (state.current ≤ cut.line) × (cut.line ≤ length lines + past_last style target) → state.current ≤ length lines
-cut_near style lines state operand (Number n) cut at within = omega (arith, within.0, within.1)
-cut_near style lines state operand (Search pattern kept offset) cut at within =
-    let first = at.0 in omega (arith, first.not_before, first.within, search_from style.suppress state)
+-- the same cutter after more lines came
+abbrev pub more_lines : CutterState → ℕ → Attempt → CutterState
+more_lines cutter lines aim = record cutter { lines = lines; aim = aim }
+
+comes_on : {visible : Bool} {cutter now : CutterState} {low : Written} {x pending : List ℕ} {old new : List Slot}
+    (come : Comes visible cutter low old new now x pending) (t those waiting : List ℕ) {lines : ℕ} {aim : Attempt}
+    → 1 ≤ now.progress.current → Joins x t → lines ≡ line_count newline (x ++ t)
+    → those ≡ text_from (now.progress.current + come.at.taken) (x ++ t)
+    → (aim ≢ Below → those ≡ now.window.held ++ waiting)
+    → (ends : EndsNow (more_lines now lines aim) (x ++ t)) → (is_final ends.ending ≡ true → come.at.taken ≡ 0)
+    → Comes visible cutter low old new (more_lines now lines aim) (x ++ t) waiting
+unfolding at_more
+comes_on {now = now} {low} {x} come t those waiting some joins count left_is waits ends final =
+    let first = now.progress.current + come.at.taken in
+    let same = part_more t those joins some come.at come.arrives.ends count left_is in record {
+      left = those;
+      left_is = waits;
+      at = at_more t those joins some come.at come.arrives.ends count left_is;
+      arrives = record {
+        ends = ends;
+        low = final;
+        enough = elim come.arrives.enough [
+          | inl none ↦ inl none
+          | inr enough ↦ inr (omega (
+            arith,
+            ap (line_count newline) left_is,
+            ap (line_count newline) come.at.left_is,
+            count_from first (x ++ t),
+            count_from first x,
+            count-append t joins,
+          ))
+        ];
+      };
+      grows = subst (Begins low) same come.grows;
+      reaches = reaches_as refl (sym same) come.reaches;
+    }
+
+comes_as : {visible : Bool} {cutter next : CutterState} {low : Written} {x y pending : List ℕ} {old new : List Slot}
+    → x ≡ y → Comes visible cutter low old new next x pending → Comes visible cutter low old new next y pending
+comes_as is come = rw (← is) come
 
 line_has : (line : List ℕ) → IsLine line → 1 ≤ length line
 line_has line one = grind (arith, common_steps)
 
--- more lines came after the line that is cut
-take_cut : {visible : Bool} {cutter mid next : CutterState} (line more : List ℕ) {cut : CutPoint} {old new : List Slot}
-    {fault : Option Fault} → IsFit cutter → (cutter.aim ≡ Below → ⊥) → IsLine line
-    → mid ≡ more_lines cutter (cutter.lines + 1) mid.aim → WillCut mid cut → TriesNext cutter line mid (Some cut)
-    → CutsAll visible (waits_with mid cut line) more old new next fault
-    → Takes visible cutter (line ++ more) old new next fault
-unfolding at_more
-take_cut {visible} {cutter} {mid} {next} line more {cut} {old} {new} {fault} fit differs one is will tries cuts = record {
-  keeps = all.keeps;
-  reaches = λ x whole stands. let there = reached x whole stands in reaches_as there.2
-      (search (rules, append_assoc)) (all.reaches (x ++ line) there.0 there.1);
-  went = where_well fault all.went (λ went. record {
-    stands = λ x whole stands. let there = reached x whole stands in subst (Stands next) (append_assoc x line more) (went.stands (x ++ line) there.0 there.1);
-    sound = went.sound;
-    size = grind (arith, common_steps, length-append, line_has);
+-- what is left with a line that isn't cut
+line_left : {cutter : CutterState} {x left : List ℕ} (line pending waiting : List ℕ) → IsFit cutter
+    → IsLine line → IsWhole x → (at : IsAt (bare cutter) x left) → left ≡ cutter.window.held ++ pending
+    → (WillSkip cutter → waiting ≡ []) → ((WillSkip cutter → ⊥) → waiting ≡ pending ++ line)
+    → cutter.window.held ++ waiting ≡ text_from (cutter.progress.current + at.taken) (x ++ line)
+line_left {cutter} {x} line pending waiting fit one whole at left_is skips keeps =
+    let first = cutter.progress.current + at.taken in
+    elim (cases_lt (cutter.lines + 1) cutter.progress.current) [
+      | inl skipped ↦
+          let counted = at.counted in
+          let none : cutter.window.held ++ pending ≡ [] = sym left_is ∙ at.left_is ∙ none_from first x (omega arith) in
+          let held : cutter.window.held ≡ [] = none_before cutter.window.held pending none in
+          rw (skips skipped, held) (sym (none_from first (x ++ line)
+          (omega (arith, skipped, fit.fits.current, count-line line whole one))))
+      | inr near ↦
+          let not : WillSkip cutter → ⊥ = λ skipped. absurd (omega arith) in
+          rw (keeps not) (sym (append_assoc cutter.window.held pending line) ∙ ap (λ those. those ++ line) (sym left_is)
+          ∙ all_left line (inl whole) fit.fits.some at (λ skipped. absurd (not skipped)))
+    ]
+
+-- One more line came, and it isn't cut.
+pub waits_line : {visible : Bool} {cutter now : CutterState} {done pending line : List ℕ} {aim : Attempt}
+    {old slots : List Slot} (waiting : List ℕ) → Waits visible cutter done old slots now pending → IsWhole done
+    → (now.aim ≡ Below → ⊥) → IsLine line → IsSound (more_lines now (now.lines + 1) aim)
+    → TriesNext now line (more_lines now (now.lines + 1) aim) None
+    → (WillSkip now → waiting ≡ []) → ((WillSkip now → ⊥) → waiting ≡ pending ++ line)
+    → Waits visible cutter (done ++ line) old slots (more_lines now (now.lines + 1) aim) waiting
+waits_line {visible} {cutter} {now} {done} {pending} {line} {aim} {old} {slots} waiting waits complete differs one sound tries skips keeps = record {
+  keeps = record { operands = waits.keeps.operands; style = waits.keeps.style; writer = waits.keeps.writer };
+  sound = sound;
+  lines = omega (arith, waits.lines, length-append done line, line_has line one);
+  size = elim (cases_lt (now.lines + 1) now.progress.current) [
+    | inl skipped ↦ omega (arith, waits.size, length-append done line, ap length (skips skipped))
+    | inr near ↦
+        let kept = keeps (λ skipped. absurd (omega arith)) in
+        omega (arith, waits.size, length-append done line, ap length kept, length-append pending line)
+  ];
+  comes = λ x front stands.
+      let come = waits.comes x front stands in
+      let whole = whole-append done front complete in
+      let ends = tries (x ++ done) whole come.at.counted come.arrives.ends in
+      let fit = waits.sound.fit in
+      comes_as (append_assoc x done line)
+      (comes_on come line (now.window.held ++ waiting) waiting fit.fits.some (inl whole)
+      (ap (λ n. n + 1) come.at.counted ∙ sym (count-line line whole one))
+      (line_left line pending waiting fit one whole come.at (come.left_is differs) skips keeps) (λ other. refl) ends
+      (low_taken come.arrives fit differs line whole ends.ending (ends_as ends.runs)));
+}
+
+-- the next operand stands as it did: it cuts below the current line only if it did before
+final_still : {style : Style} {lines more : List Line} {state : State} {aim : Attempt}
+    (one : EndsHere style lines state aim) (two : EndsHere style more state aim) → is_final two.ending ≡ true
+    → is_final one.ending ≡ true
+final_still one two final = search rules
+
+-- the first line is the whole text, or it is complete
+joins_by : {text x rest : List ℕ} (n : ℕ) → Joins text rest → (IsWhole text → IsWhole x) → Joins x (take n rest)
+joins_by n (inl whole) ends = inl (ends whole)
+joins_by n (inr none) ends = inr (ap (take n) none ∙ take-nil n)
+
+-- Lines were passed over.
+pub waits_over : {visible : Bool} {cutter mid next : CutterState} {text pending rest : List ℕ} {n : ℕ}
+    {old slots : List Slot} → Waits visible cutter text old slots mid pending → Joins text rest
+    → PassesOver mid rest next n
+    → Waits visible cutter (text ++ take n rest) old slots next (pending ++ take n rest)
+waits_over {visible} {cutter} {mid} {next} {text} {pending} {rest} {n} {old} {slots} waits joins over =
+    subst (λ those. Waits visible cutter (text ++ more) old slots those (pending ++ more)) (sym over.same) (record {
+      keeps = record { operands = waits.keeps.operands; style = waits.keeps.style; writer = waits.keeps.writer };
+      sound = subst IsSound over.same over.sound;
+      lines = omega (arith, waits.lines, over.few, length-append text more, long);
+      size = omega (arith, waits.size, length-append text more, length-append pending more);
+      comes = λ x front stands.
+          let come = waits.comes x front stands in
+          let here = joins_by n joins (λ whole. whole-append text front whole) in
+          let both = over.ends (x ++ text) here come.at.counted come.arrives.ends in
+          let ends : EndsNow (more_lines mid next.lines mid.aim) ((x ++ text) ++ more) =
+          subst (λ those. EndsNow those ((x ++ text) ++ more)) over.same both.1 in
+          let some = waits.sound.fit.fits.some in
+          comes_as (append_assoc x text more)
+          (comes_on come more (come.left ++ more) (pending ++ more) some here both.0
+          (all_left more here some come.at (λ skips. ap (λ k. take k rest) (over.none skips)))
+          (λ other. ap (λ those. those ++ more) (come.left_is other) ∙ append_assoc mid.window.held pending more) ends
+          (λ final. come.arrives.low (final_still come.arrives.ends ends final)));
+    }) where
+      more : List ℕ
+      more = take n rest
+
+      long : length more ≡ n
+      long = length-take-le n rest over.within
+
+-- What is settled of the lines that came in is written, and the others are held.
+
+pub sound_held : {mid next : CutterState} {left : List ℕ} → Held mid left next → IsSound mid → IsSound next
+sound_held held sound = search rules
+
+pub held_takes : {visible : Bool} {cutter now next : CutterState} {text pending : List ℕ} {old mid new : List Slot}
+    {fault : Option Fault} → Waits visible cutter text old mid now pending → (now.aim ≡ Below → ⊥)
+    → HoldsLines visible now (now.window.held ++ pending) mid new next fault
+    → Takes visible cutter text old new next fault
+held_takes {visible} {cutter} {now} {next} {text} {pending} {old} {mid} {new} {fault} waits differs held = record {
+  keeps = keeps_on waits.keeps held.keeps;
+  reaches = λ x front stands. let come = waits.comes x front stands in
+      reaches_then waits.keeps.style come.grows come.reaches
+      (reaches_as refl (sym (settled_same (x ++ text) waits.keeps))
+      ((held_at come.left (come.left_is differs)).reaches (x ++ text) come.at come.arrives));
+  went = where_well fault held.went (λ went. record {
+    stands = λ x front stands. let come = waits.comes x front stands in
+        (subst (λ those. Held now those next) (sym (come.left_is differs)) went).stands (x ++ text) come.at come.arrives;
+    sound = sound_held went waits.sound;
+    size = held_load went waits;
   });
 } where
-  now : Due
-  now = waits_with (more_lines cutter (cutter.lines + 1) mid.aim) cut line
+  held_at : (left : List ℕ) → left ≡ now.window.held ++ pending → HoldsLines visible now left mid new next fault
+  held_at left is = subst (λ those. HoldsLines visible now those mid new next fault) (sym is) held
 
-  all : CutsAll visible now more old new next fault
-  all = rw is at cuts
-
-  reached : (x : List ℕ) → IsWhole x → Stands cutter x
-      → (at : IsAt (bare (more_lines cutter (cutter.lines + 1) mid.aim)) (x ++ line) (cutter.window.held ++ line))
-      × CutsNow now (x ++ line) at × (settled_part cutter x ≡ part_at at)
-  reached x whole stands =
-      let live = live_of differs stands in
-      let cuts = tries x whole live in
-      let count : cutter.lines + 1 ≡ line_count newline (x ++ line) = search (rules, count-line) in
-      let near : cutter.progress.current ≤ cutter.lines + 1 =
-      (let e = cut_near cutter.style (all_lines (x ++ line)) (state_in cutter) cuts.0.its.operand cuts.0.its.operand.target cut cuts.0.its.cuts (cuts.0.from, cuts.0.within) in
-      omega (arith, length-all_lines (x ++ line))) in
-      let left_is = all_left line (inl whole) fit.fits.some live.at (λ skips. absurd (omega arith)) in
-      let place : cutter.lines + 1 - delimiters newline cutter.window.held ≡ cutter.progress.current + live.at.taken =
-      (let s = fit.fits.some in omega (
-        arith,
-        left_count live.at,
-        whole_count
-            (subst IsWhole (sym live.at.left_is) (search (rules, whole_from))),
-        few_taken live.at,
-      )) in (
-        at_more line line (inl whole) fit.fits.some live.at live.ends count left_is,
-        record {
-          last = (search (rules, all_lines-line, whole-append));
-          near = search rules;
-          place_is = place;
-          before = omega (arith, place_before line cut live whole cuts.0 (rw is at will).from);
-          goes = cuts.0;
-        },
-        sym (live_part live) ∙ part_more line line (inl whole) fit.fits.some live.at live.ends count left_is,
-      )
+  held_load : Held now (now.window.held ++ pending) next → Waits visible cutter text old mid now pending
+      → load next ≤ load cutter + length text
+  held_load went waits = grind (arith, common_steps, length-append, went.size, went.same, waits.lines, waits.size)
 
 -- If the cut is below the current line, later lines go nowhere.
 
@@ -236,13 +346,7 @@ pub took_past : {visible : Bool} {cutter : CutterState} {t : List ℕ} {slots : 
     → IsSound cutter → IsReady cutter.writer slots → Takes visible cutter t slots slots cutter None
 took_past aim sound ready = search (rules, keeps_files, leaves_still, reaches_still, past_part, is_past, still_past)
 
--- the pattern was found in the first line
-pub found_first : {cutter : CutterState} (left : List ℕ) {size : ℕ} (found : Option ℕ)
-    → IfSome found (IsNextFound cutter left) → ((k : ℕ) → found ≡ Some k → size ≡ k) → is_some found ≡ true
-    → IsFound cutter (without_newline (take size left)) (cutter.lines + 1) true
-found_first left found is known sure = search rules
-
--- Taking a text of complete lines in, stretch by stretch.
+-- Taking texts in, one after another.
 
 pub more_settled : (cutter : CutterState) {x : List ℕ} (t : List ℕ) → IsWhole x
     → Begins (settled_part cutter x) (settled_part cutter (x ++ t))
@@ -275,43 +379,174 @@ takes_wider {cutter = cutter} {a = a} b whole stopped = record {
   went = tt;
 }
 
--- Some stretches of a text were taken in, and `left` is left.
-pub record Taking (visible : Bool) (cutter now : CutterState) (text left : List ℕ) (old new : List Slot) : Type 0 where
-  pub front : List ℕ
-  pub whole : text ≡ front ++ left
-  pub complete : IsWhole front
-  pub rest : IsWhole left
-  pub took : Takes visible cutter front old new now None
-
 pub takes_none : {visible : Bool} {cutter : CutterState} {slots : List Slot} → IsSound cutter
     → IsReady cutter.writer slots
     → Takes visible cutter [] slots slots cutter None
 takes_none sound ready = search rules
 
-module _ {visible : Bool} {cutter now : CutterState} {text left : List ℕ} {old mid : List Slot}
-    (so_far : Taking visible cutter now text left old mid) where
-  pub takes_more : {next : CutterState} {size : ℕ} (passed : Passed) {new : List Slot} → IsWhole (take size left)
-      → Stretches visible now (stretch_of left size) mid new next (Ok passed)
-      → Taking visible cutter next text (take (length left - passed.size) (drop passed.size left)) old new
-  takes_more {size = size} passed first more =
-      let front = take size left ++ take more.on.n (drop size left) in
-      let rest : take (length left - passed.size) (drop passed.size left) ≡ drop more.on.n (drop size left) =
-      search (rules, rest_all, drop-drop) in
-      record {
-        front = so_far.front ++ front;
-        whole = grind (arith, common_steps, so_far.whole, rest);
-        complete = search (rules, whole-append);
-        rest = rw rest (whole_drop more.on.n (whole_drop size so_far.rest));
-        took = takes_again so_far.complete so_far.took more.took;
+pub none_there : {held : List ℕ} {empty : Bool} → empty ≡ eqb (length held) 0 → empty ≡ true → held ≡ []
+none_there is true_is = grind (arith, common_steps)
+
+-- Later lines go nowhere.
+
+past_on : {cutter : CutterState} {x : List ℕ} (t : List ℕ) → Joins x t → IsPast cutter x
+    → IsPast cutter (x ++ t) × (settled_part cutter x ≡ settled_part cutter (x ++ t))
+past_on t (inl whole) past = (still_past t whole past, past_part t whole past)
+past_on {x = x} t (inr none) past = rw (none, append-nil x) (past, refl)
+
+pub past_takes : {visible : Bool} {cutter now : CutterState} {done pending : List ℕ} (rest : List ℕ)
+    {old new : List Slot}
+    → Waits visible cutter done old new now pending → now.aim ≡ Below → Joins done rest
+    → Takes visible cutter (done ++ rest) old new (emptied now) None
+past_takes {cutter = cutter} {now} {done} rest {old} {new} waits aim joins = record {
+  keeps = keeps;
+  reaches = λ x front stands. let come = waits.comes x front stands in
+      reaches_as refl (sym (past_settled aim come.at come.arrives ∙ (past x front stands).1
+      ∙ settled_same ((x ++ done) ++ rest) keeps ∙ ap (settled_part cutter) (append_assoc x done rest))) come.reaches;
+  went = record {
+    stands = λ x front stands. inr (subst (IsPast (emptied now)) (append_assoc x done rest) (past x front stands).0);
+    sound = record { fit = search rules; aim = waits.sound.aim };
+    size = grind (arith, common_steps, length-append, waits.size, waits.lines);
+  };
+} where
+  keeps : Keeps cutter (emptied now) old new None
+  keeps = record { operands = waits.keeps.operands; style = waits.keeps.style; writer = waits.keeps.writer }
+
+  past : (x : List ℕ) → IsWhole x → Stands cutter x → IsPast (emptied now) ((x ++ done) ++ rest)
+      × (settled_part now (x ++ done) ≡ settled_part now ((x ++ done) ++ rest))
+  past x front stands = let come = waits.comes x front stands in
+      past_on rest (elim joins [ inl whole ↦ inl (whole-append done front whole) | inr none ↦ inr none ])
+      (past_now aim come.at come.arrives)
+
+-- A line came that is cut.
+
+-- a line that is cut isn't left out; a search begins no earlier than at the current line
+search_from : (suppress : Bool) (state : State) → state.current ≤ search_line suppress state
+search_from suppress state = search rules
+
+cut_near : (style : Style) (lines : List Line) (state : State) (operand : Operand) (target : Target) (cut : CutPoint)
+    → CutsAt style lines state operand target cut
+    → (state.current ≤ cut.line) × (cut.line ≤ length lines + past_last style target) → state.current ≤ length lines
+cut_near style lines state operand (Number n) cut at within = omega (arith, within.0, within.1)
+cut_near style lines state operand (Search pattern kept offset) cut at within =
+    let first = at.0 in omega (arith, first.not_before, first.within, search_from style.suppress state)
+
+-- what is settled grows
+grows_by : (cutter : CutterState) {x : List ℕ} (t : List ℕ) → Joins x t
+    → Begins (settled_part cutter x) (settled_part cutter (x ++ t))
+grows_by cutter t (inl whole) = more_settled cutter t whole
+grows_by cutter {x} t (inr none) = rw (none, append-nil x) (part_begins_itself _)
+
+-- the cut is due over the lines that are left with the line
+record IsDue (cutter : CutterState) (cut : CutPoint) (before rest line x : List ℕ) (low : Written) : Type 0 where
+  pub at : IsAt (bare cutter) x (before ++ rest)
+  pub here : CutsNow (due cutter cut before rest line) x at
+  pub same : low ≡ part_at at
+
+module _ {visible : Bool} {cutter now mid : CutterState} {done pending before rest line : List ℕ} {cut : CutPoint}
+    {old slots : List Slot} (waits : Waits visible cutter done old slots now pending) (complete : IsWhole done)
+    (differs : now.aim ≡ Below → ⊥) (one : IsLine line) (mid_is : mid ≡ more_lines now (now.lines + 1) mid.aim)
+    (tries : TriesNext now line mid (Some cut)) (parts : before ++ rest ≡ now.window.held ++ (pending ++ line))
+    (before_is : before ≡ but_last_lines newline (after_cut mid cut) (before ++ rest)) where
+  due_at : {x : List ℕ} (front : IsWhole x) (stands : Stands cutter x)
+      → IsDue (more_lines now (now.lines + 1) mid.aim) cut before rest line ((x ++ done) ++ line)
+      (part_at (waits.comes x front stands).at)
+  unfolding at_more
+  due_at {x} front stands =
+      let come = waits.comes x front stands in
+      let whole = whole-append done front complete in
+      let some = waits.sound.fit.fits.some in
+      let cuts = tries (x ++ done) whole come.at.counted come.arrives.ends in
+      let goes = cuts.0 in
+      let lines : now.lines + 1 ≡ line_count newline ((x ++ done) ++ line) =
+      ap (λ n. n + 1) come.at.counted ∙ sym (count-line line whole one) in
+      let near : now.progress.current ≤ now.lines + 1 =
+      (let e = cut_near now.style (all_lines ((x ++ done) ++ line)) (state_in now) goes.its.operand goes.its.operand.target cut goes.its.cuts (goes.from, goes.within) in
+      omega (arith, length-all_lines ((x ++ done) ++ line))) in
+      let mid_lines : mid.lines ≡ now.lines + 1 = ap (λ (c : CutterState). c.lines) mid_is in
+      let left_is : before ++ rest ≡ text_from (now.progress.current + come.at.taken) ((x ++ done) ++ line) =
+      parts ∙ sym (append_assoc now.window.held pending line) ∙ ap (λ those. those ++ line) (sym (come.left_is differs))
+      ∙ all_left line (inl whole) some come.at (λ skips. absurd (omega arith)) in
+      let at = at_more line (before ++ rest) (inl whole) some come.at come.arrives.ends lines left_is in
+      let low = place_before come.arrives waits.sound.fit differs line cut whole goes goes.from in
+      let count : line_count newline (before ++ rest) - after_cut mid cut
+      ≡ cut.line - (now.progress.current + come.at.taken) =
+      omega (
+        arith,
+        mid_lines,
+        ap (line_count newline) left_is,
+        count_from (now.progress.current + come.at.taken) ((x ++ done) ++ line),
+        come.at.few,
+        goes.within,
+        past_near now.style goes.its.operand.target,
+        length-all_lines ((x ++ done) ++ line),
+      ) in record {
+        at = at;
+        here = record {
+          last = (all_lines (x ++ done), all_lines-line line whole one, λ ends. whole-append line whole (inr ends));
+          near = omega (arith, cuts.1, mid_lines);
+          low = low;
+          before_is = before_is ∙ ap (λ n. first_lines newline n (before ++ rest)) count;
+          goes = goes;
+        };
+        same = part_more line (before ++ rest) (inl whole) some come.at come.arrives.ends lines left_is;
       }
 
-  pub takes_stopped : {next : CutterState} {size : ℕ} {new : List Slot} {fault : Fault} → IsWhole (take size left)
-      → Stretches visible now (stretch_of left size) mid new next (Err fault)
-      → Takes visible cutter text old new next (Some fault)
-  takes_stopped {size = size} first more =
-      let all : (take size left ++ take more.on.n (drop size left)) ++ drop more.on.n (drop size left) ≡ left = (grind (arith, common_steps)) in
-      rw (← so_far.whole) at (takes_again so_far.complete so_far.took
-      (rw all at (takes_wider (drop more.on.n (drop size left)) (whole-append _ first more.on.whole) more.took)))
+  pub waits_cut : {next : CutterState} {left : List ℕ} {new : List Slot}
+      → Cut visible (due mid cut before rest line) slots new next left
+      → Waits visible cutter (done ++ line) old new next left
+  waits_cut {next} {left} {new} made =
+      let cuts = rw mid_is at made in record {
+        keeps = keeps_on waits.keeps cuts.keeps;
+        sound = cuts.sound;
+        lines = omega (arith, cuts.lines, waits.lines, length-append done line, line_has line one);
+        size = omega (
+          arith,
+          cuts.size,
+          waits.size,
+          ap length parts,
+          length-append now.window.held (pending ++ line),
+          length-append pending line,
+          length-append done line,
+        );
+        comes = λ x front stands.
+            let come = waits.comes x front stands in
+            let at_cut = due_at front stands in
+            let made' = cuts.comes ((x ++ done) ++ line) at_cut.at at_cut.here in
+            let low = subst (Begins (settled_part cutter x)) at_cut.same come.grows in
+            comes_as (append_assoc x done line) (record {
+              left = made'.left;
+              left_is = made'.left_is;
+              at = made'.at;
+              arrives = made'.arrives;
+              grows = part_trans _ _ _ low made'.grows;
+              reaches = reaches_then waits.keeps.style low (reaches_as refl (sym at_cut.same) come.reaches) made'.reaches;
+            });
+      }
+
+  pub cut_stops : {next : CutterState} (more : List ℕ) {new : List Slot} {fault : Fault} → Joins line more
+      → CutsShort visible (due mid cut before rest line) slots new next fault
+      → Takes visible cutter ((done ++ line) ++ more) old new next (Some fault)
+  cut_stops more joins stops =
+      let stopped = rw mid_is at stops in record {
+        keeps = keeps_on waits.keeps stopped.keeps;
+        reaches = λ x front stands.
+            let come = waits.comes x front stands in
+            let at_cut = due_at front stands in
+            let all = (x ++ done) ++ line in
+            let here : Joins all more = elim joins [
+              | inl ends ↦ inl (whole-append line (whole-append done front complete) ends)
+              | inr none ↦ inr none
+            ] in
+            let text : all ++ more ≡ x ++ ((done ++ line) ++ more) =
+            ap (λ those. those ++ more) (append_assoc x done line) ∙ append_assoc x (done ++ line) more in
+            reaches_then waits.keeps.style (subst (Begins (settled_part cutter x)) at_cut.same come.grows)
+            (reaches_as refl (sym at_cut.same) come.reaches)
+            (stops_wider (stopped.reaches all at_cut.at at_cut.here)
+            (subst (λ high. Begins high (settled_part cutter (x ++ ((done ++ line) ++ more)))) (sym (settled_same all waits.keeps))
+            (subst (λ those. Begins (settled_part cutter all) (settled_part cutter those)) text (grows_by cutter more here))));
+        went = tt;
+      }
 
 -- Cutting as often as operands cut the lines that are left.
 
@@ -320,318 +555,216 @@ module _ {visible : Bool} {cutter now : CutterState} {text left : List ℕ} {old
 pub spread_fit : {now mid : CutterState} → mid ≡ record now { aim = mid.aim } → IsFit now → IsFit mid
 spread_fit is fit = search rules
 
-pub spread_ready : (now : CutterState) {mid : CutterState} {slots : List Slot} → mid ≡ record now { aim = mid.aim }
-    → IsReady now.writer slots → IsReady mid.writer slots
-spread_ready now is ready = search rules
+-- the next operand cuts, too; a cut that is due then
+abbrev pub due_on : CutterState → CutPoint → (before rest line : List ℕ) → Due
+due_on cutter cut before rest line = due cutter cut before rest line
 
--- the next operand cuts, too
-
--- the cut that is due after a cut
-abbrev pub due_on : CutterState → CutPoint → (left line : List ℕ) → Due
-due_on cutter cut = due cutter cut cutter.progress.current
-
-cuts_again : {visible : Bool} {due : Due} {now : CutterState} (cut : CutPoint) {x left : List ℕ} {low : Written}
-    {old new : List Slot} (after : IsAfter visible due x low old new now left) → Tries now due.line now (Some cut)
-    → WillCut now cut → {aim : Attempt} → CutsNow (due_on (record now { aim = aim }) cut left due.line) x after.now
-cuts_again cut after tries will = let both = tries _ after.looked in record {
+cuts_again : {visible : Bool} {due : Due} {now : CutterState} (cut : CutPoint) {x before rest : List ℕ} {low : Written}
+    {old new : List Slot} (after : IsAfter visible due x low old new now (before ++ rest))
+    → Tries now due.line now (Some cut) → WillCut now cut
+    → before ≡ first_lines newline (cut.line - now.progress.current) (before ++ rest)
+    → {aim : Attempt} → CutsNow (due_on (record now { aim = aim }) cut before rest due.line) x after.now
+cuts_again cut {before = before} {rest} after tries will first = let both = tries _ after.looked in record {
   last = after.looked.last;
   near = both.1 (inl after.near);
-  place_is = omega (arith, after.none);
-  before = will.from;
+  low = omega (arith, after.none, will.from);
+  before_is = first ∙ ap (λ n. first_lines newline n (before ++ rest)) (omega (arith, after.none));
   goes = both.0;
 }
 
-module _ {visible : Bool} {due : Due} {now mid : CutterState} {cut : CutPoint} {left : List ℕ}
-    {old between : List Slot} (so_far : Spreading visible due old between now left)
-    (is : mid ≡ record now { aim = mid.aim }) (tries : Tries now due.line mid (Some cut)) (will : WillCut now cut) where
-  pub spread_more : {next : CutterState} {rest : List ℕ} {new : List Slot}
-      → CutAt visible (due_on mid cut left due.line) between new next rest → Spreading visible due old new next rest
-  spread_more {next} {rest} at_cut =
-      let once = (rw is at at_cut).spreading in record {
-        keeps = keeps_on so_far.keeps once.keeps;
-        lines = once.lines ∙ so_far.lines;
-        fit = once.fit;
-        held = once.held;
-        after = λ x at here.
-            let after = so_far.after x at here in
-            let again = once.after x after.now (cuts_again cut after tries will) in record {
-              now = again.now;
-              looked = again.looked;
-              near = again.near;
-              none = again.none;
-              grows = part_trans _ _ _ after.grows again.grows;
-              reaches = search (rules, reaches_then);
-            };
-        size = omega arith;
-        end = (
-          so_far.end.0 ++ once.end.0,
-          rw append_assoc (rw once.end.1 at so_far.end.1),
-        );
-      }
-
-  pub spread_stopped : {next : CutterState} {new : List Slot} {fault : Fault}
-      → CutsAll visible (due_on mid cut left due.line) [] between new next (Some fault)
-      → CutsAll visible due [] old new next (Some fault)
-  spread_stopped stops =
-      let stopped = rw is at stops in record {
-        keeps = keeps_on so_far.keeps stopped.keeps;
-        reaches = λ x at here. let after = so_far.after x at here in reaches_then so_far.keeps.style after.grows after.reaches
-            (reaches_as refl (sym (settled_same (x ++ []) so_far.keeps)) (stopped.reaches x after.now (cuts_again cut after tries will)));
-        went = tt;
-      }
-
--- Cutting the lines that wait and one more.
-
--- no line waits
-
-pub none_there : {held : List ℕ} {empty : Bool} → empty ≡ eqb (length held) 0 → empty ≡ true → held ≡ []
-none_there is true_is = grind (arith, common_steps)
-
-pub alone : (P : ℕ → List ℕ → Type 0) (cutter : CutterState) (line : List ℕ) → cutter.window.held ≡ []
-    → P cutter.lines line
-    → P (cutter.lines - delimiters newline cutter.window.held) (cutter.window.held ++ line)
-alone P cutter line none holds = search rules
-
--- some lines wait
-
-drained_place : (lines : ℕ) (held line : List ℕ) {items : List ℕ} {n count place : ℕ} → items ≡ held ++ line
-    → n ≡ length items → count ≡ delimiters newline (take (n - length line) items) → place ≡ lines - count
-    → place ≡ lines - delimiters newline held
-drained_place lines held line {n = n} items_is long count_is place_is = search (rules, length-append, take_at)
-
-pub cut_drained : {visible : Bool} {cutter next : CutterState} {window : Window} {cut : CutPoint} {n count place : ℕ}
-    {items waiting line : List ℕ} {old new : List Slot} {fault : Option Fault} → waiting ≡ cutter.window.held ++ line
-    → items ≡ cutter.window.held ++ line → n ≡ length items → count ≡ delimiters newline (take (n - length line) items)
-    → place ≡ cutter.lines - count
-    → CutsAll visible (due (record cutter { window = window }) cut place waiting line) [] old new next fault
-    → CutsAll visible (waits_with cutter cut line) [] old new next fault
-cut_drained {cutter = cutter} {window = window} {line = line} {fault = fault} waiting_is items_is long count_is place_is cuts =
-    let all = rw (waiting_is, drained_place cutter.lines cutter.window.held line items_is long count_is place_is) at cuts in record {
-      keeps = all.keeps;
-      reaches = λ x at here. all.reaches x at (search rules);
-      went = where_well fault all.went (λ went. record {
-        lines = went.lines;
-        sound = went.sound;
-        stands = λ x at here. went.stands x at (search rules);
-        size = went.size;
-      });
-    }
-
--- A line is cut, or it isn't; what is left of it is held with the lines after it that aren't cut.
-
--- What was found of the next line stays true as lines are held.
-
-found_by : {visible : Bool} {mid next : CutterState} {left : List ℕ} {old new : List Slot} (rest : List ℕ)
-    (found : Option ℕ) → HoldsLines visible mid left old new next None → IfSome found (IsNextFound mid rest)
-    → IfSome found (IsNextFound next rest)
-found_by rest (Some size) held is = search rules
-found_by rest None held is = is
-
-ok_as : {P Q : Passed → Type 0} (result : Result Passed Fault) → ((passed : Passed) → P passed → Q passed)
-    → IfOk result P → IfOk result Q
-ok_as result follows holds = search rules
-
--- The contract of `go_on`.
-
-found_held : {visible : Bool} {mid next : CutterState} {left : List ℕ} {old new : List Slot} (rest : List ℕ) (size : ℕ)
-    (found : Option ℕ) (result : Result Passed Fault) → HoldsLines visible mid left old new next (fault_in result)
-    → IfSome found (IsNextFound mid rest) → IfOk result (λ all. (all.size ≡ size) × (all.found ≡ found))
-    → IfOk result (λ all. IfSome all.found (IsNextFound next rest))
-found_held rest size found (Ok all) held is are = rw are.1 (found_by rest found held is)
-found_held rest size found (Err fault) held is are = tt
-
-piece_from : (text : List ℕ) (first size n : ℕ) → first ≤ size → size ≤ length text
-    → take (size + n - first) (drop first text) ≡ drop first (take size text) ++ take n (drop size text)
-piece_from text first size n low within =
-    let parts : drop first text ≡ drop first (take size text) ++ drop size text = ap (drop first)
-    (sym (take-append-drop size text)) ∙ drop-append-le first (take size text) (drop size text)
-    (let e = length-take-le size text within in omega arith) in
-    search (rules, parts, take-append-add (drop first (take size text)) (drop size text) n, length-drop, length-take-le)
-
-pub gone_on : {visible : Bool} {cutter mid next : CutterState} (text : List ℕ) {rest : List ℕ} (first size : ℕ)
-    {passed : Passed} {old new : List Slot} (result : Result Passed Fault) → first ≤ size → size ≤ length text
-    → rest ≡ drop size text → StopsAt cutter rest mid passed
-    → HoldsLines visible mid (mid.window.held ++ take (size + passed.size - first) (drop first text)) old new next
-    (fault_in result) → IfOk result (λ all. (all.size ≡ size + passed.size) × (all.found ≡ passed.found))
-    → PassesThenHolds visible cutter (drop first (take size text)) (stretch_of text size) old new next result
-gone_on text first size {passed} result low within rest_is stops held are =
-    let stops_there = rw rest_is at stops in
-    record {
-      on = record {
-        n = passed.size;
-        within = stops_there.over.within;
-        whole = stops_there.over.whole;
-        size_is = search (rules, ok_as);
-        found = search (rules, found_held);
-      };
-      mid = _;
-      over = stops_there.over;
-      held = search (rules, piece_from);
-    }
-
--- The lines after a cut, up to the line at which the next operand cuts. No line of the open section is written before
--- them.
-
--- the first line is the whole text, or it is complete
-joins_by : {E : Type 0} {x rest : List ℕ} (n : ℕ) → (rest ≡ []) ⊎ E → (E → IsWhole x) → Joins x (take n rest)
-joins_by n fact ends = search rules
-
--- No operand cuts any more, and the lines that are left are held, perhaps with further lines.
-
-pub spread_passes : {visible : Bool} {due : Due} {mid end next : CutterState} {left rest : List ℕ} {n : ℕ}
-    {old between new : List Slot} {fault : Option Fault} → Spread visible due old between mid left
-    → (rest ≡ []) ⊎ (ends_with newline due.line ≡ true) → PassesOver mid rest end n
-    → HoldsLines visible end (end.window.held ++ (left ++ take n rest)) between new next fault
-    → CutsAll visible due (take n rest) old new next fault
-unfolding at_more
-spread_passes {visible} {due} {mid} {end} {next} {left} {rest} {n} {between = between}
-    {new} {fault} spread complete over held = record {
-      keeps = keeps_on spread.so_far.keeps held_now.keeps;
-      reaches = λ x at here. let after = spread.so_far.after x at here in let there = reached x at here in
-          reaches_then spread.so_far.keeps.style after.grows after.reaches
-          (reaches_as there.same (search (rules, settled_same))
-          (held_now.reaches (x ++ take n rest) there.at there.arrives));
-      went = where_well fault held_now.went (λ went. record {
-        lines = search (rules, length-take-le);
-        sound = search (rules, sound_held);
-        stands = λ x at here. let there = reached x at here in went.stands (x ++ take n rest) there.at there.arrives;
-        size = omega (arith, length-append left (take n rest));
-      });
-    } where
-      over_now : PassesOver (record spread.now { aim = mid.aim }) rest end n
-      over_now = rw spread.is at over
-
-      held_now : HoldsLines visible (more_lines spread.now end.lines mid.aim)
-          (left ++ take n rest) between new next fault
-      held_now = search (rules, over_now)
-
-      reached : (x : List ℕ) (at : IsAt (bare due.cutter) x due.left) (here : CutsNow due x at)
-          → Reached (part_at (spread.so_far.after x at here).now) (more_lines spread.now end.lines mid.aim)
-          (x ++ take n rest) (left ++ take n rest)
-      reached x at here =
-          let after = spread.so_far.after x at here in
-          let whole = joins_by n complete here.last.2 in
-          let ends : EndsNow (record spread.now { aim = mid.aim }) x = search rules in
-          let both = over_now.ends x whole after.now.counted ends in
-          let left_is = all_left (take n rest) whole spread.so_far.fit.fits.some after.now
-          (λ skips. ap (λ k. take k rest) (over_now.none skips)) in record {
-            at = at_more (take n rest) (take n rest) whole spread.so_far.fit.fits.some after.now ends both.0 left_is;
-            arrives = search (rules, over_now);
-            same = search (rules, part_more);
-          }
-
--- the lines that are left are held alone
-pub spread_held : {visible : Bool} {due : Due} {mid next : CutterState} {left : List ℕ} {old between new : List Slot}
-    {fault : Option Fault} → Spread visible due old between mid left
-    → HoldsLines visible mid (mid.window.held ++ left) between new next fault
-    → CutsAll visible due [] old new next fault
-spread_held {left = left} spread held = spread_passes {rest = []} {n = 0} spread (inl refl) (record {
-  same = refl;
-  within = omega arith;
-  whole = inl refl;
-  few = omega arith;
-  none = λ skips. refl;
-  sound = record { fit = spread_fit spread.is spread.so_far.fit; aim = spread.aim };
-  ends = search (rules, append-nil);
-}) (rw (append-nil left) held)
-
--- The contract of `cut_on`.
-
--- what is left of the first line stands at the end of this line
-pub from_left : (text left : List ℕ) (size : ℕ) → size ≤ length text → IsEnd left (take size text)
-    → drop (size - length left) (take size text) ≡ left
-from_left text left size within (front, is) = grind (arith, common_steps, drop_at, length-append, length-take-le)
-
--- The first line isn't cut: this line and the lines after it are left, unless the first line is left out.
-
-left_after : {cutter : CutterState} {x : List ℕ} (first : ℕ) (line more : List ℕ) → IsFit cutter → IsLine line
-    → (WillSkip cutter → first ≡ length line) → ((WillSkip cutter → ⊥) → first ≡ 0)
-    → Joins (x ++ line) more → IsWhole x → (live : IsLive cutter x)
-    → cutter.window.held ++ (drop first line ++ more)
-    ≡ text_from (cutter.progress.current + live.at.taken) (x ++ (line ++ more))
-left_after {cutter} {x} first line more fit one skips keeps joins whole live = elim (cases_lt (cutter.lines + 1) cutter.progress.current) [
-  | inl skipped ↦
-      let current : cutter.progress.current ≡ cutter.lines + 2 = omega (arith, skipped, fit.fits.current) in
-      let taken : live.at.taken ≡ 0 = omega (arith, few_taken live.at) in
-      let n : cutter.progress.current + live.at.taken ≡ cutter.lines + 2 = omega arith in
-      let count : line_count newline (x ++ line) ≡ cutter.lines + 1 = search (rules, count-line) in
-      let counted = live.at.counted in
-      let held : cutter.window.held ≡ [] = live.at.left_is ∙ none_from (cutter.progress.current + live.at.taken) x (omega arith) in
-      let before : text_from (cutter.lines + 2) (x ++ line) ≡ [] = none_from (cutter.lines + 2) (x ++ line) (omega arith) in
-      let none : drop first line ≡ [] = drop_all first line (let e = skips skipped in omega arith) in
-      let rest : more ≡ text_from (cutter.lines + 2) ((x ++ line) ++ more) =
-      rw before at (rest_more (cutter.lines + 2) more joins (omega arith) (omega arith)) in
-      rw (held, none, n, ← append_assoc x line more) rest
-  | inr near ↦
-      let none : first ≡ 0 = keeps (λ skipped. absurd (omega arith)) in
-      rw none (all_left (line ++ more) (inl whole) fit.fits.some live.at (λ skipped. absurd (omega arith)))
-]
-
--- The contract of `stretch`, if the first line isn't cut.
-
-module _ {visible : Bool} {cutter mid next : CutterState} {stretch : Stretch} {old new : List Slot}
-    (result : Result Passed Fault) (fit : IsFit cutter) (differs : cutter.aim ≡ Below → ⊥) (start : Starts stretch)
-    (mid_is : mid ≡ record cutter { lines = cutter.lines + 1; aim = mid.aim }) where
-  pub stretch_on : (first : ℕ) → (WillSkip cutter → first ≡ stretch.size) → ((WillSkip cutter → ⊥) → first ≡ 0)
-      → TriesNext cutter (first_in stretch) mid None
-      → PassesThenHolds visible mid (drop first (first_in stretch)) stretch old new next result
-      → Stretches visible cutter stretch old new next result
-  stretch_on first skips keeps tries gone =
-      let end = gone.mid in
-      let line = first_in stretch in
-      let more = take gone.on.n (others_in stretch) in
-      let end_is : end ≡ more_lines cutter end.lines mid.aim = search rules in
-      record {
-        on = gone.on;
-        took = took_held (drop first line ++ more) (subst IsSound end_is gone.over.sound) fit differs
-            (search (rules, length-append, length-take-le, line_has))
-            (omega (arith, length-append (drop first line) more, length-append line more, length-drop first line))
-            (λ x whole live. left_after first line more fit start.line
-            (λ skipped. skips skipped ∙ sym (length-take-le stretch.size stretch.text start.within)) keeps
-            (joins_by gone.on.n start.complete (λ ends. whole-append line whole (inr ends))) whole live)
-            (λ x whole live.
-            let both = gone.over.ends (x ++ line)
-            (joins_by gone.on.n start.complete (λ ends. whole-append line whole (inr ends)))
-            (ap (λ (c : CutterState). c.lines) mid_is ∙ ap (λ k. k + 1) live.at.counted ∙ sym (count-line line whole start.line))
-            (tries x whole live) in
-            let is = append_assoc x line more in (search rules)) (rw end_is at gone.held);
-      }
-
-  -- The first line is cut, and no line waits.
-  pub stretch_cut : {cut : CutPoint} → mid.window.held ≡ [] → WillCut mid cut
-      → TriesNext cutter (first_in stretch) mid (Some cut) → CutsOn visible mid cut stretch old new next result
-      → Stretches visible cutter stretch old new next result
-  stretch_cut {cut} none will tries on =
-      let line = first_in stretch in let more = take on.on.n (others_in stretch) in record {
-        on = on.on;
-        took = take_cut line more fit differs start.line mid_is will tries
-            (alone (λ place those. CutsAll visible (due mid cut place those line) more old new next (fault_in result)) mid line
-            none on.all);
-      }
-
-  -- The first line is cut, and some lines wait.
-  pub stretch_first : {cut : CutPoint} → WillCut mid cut → TriesNext cutter (first_in stretch) mid (Some cut)
-      → CutsAll visible (waits_with mid cut (first_in stretch)) [] old new next (fault_in result)
-      → IfOk result (λ passed. (passed.size ≡ stretch.size) × (passed.found ≡ None))
-      → Stretches visible cutter stretch old new next result
-  stretch_first will tries all are = record {
-    on = search (rules, ok_as);
-    took = search (rules, take_cut);
+module _ {visible : Bool} {due : Due} {now : CutterState} {aim : Attempt} {cut : CutPoint} {before rest : List ℕ}
+    {old between : List Slot} (so_far : Spreading visible due old between now (before ++ rest))
+    (tries : Tries now due.line (record now { aim = aim }) (Some cut)) (will : WillCut now cut)
+    (first : before ≡ first_lines newline (cut.line - now.progress.current) (before ++ rest)) where
+  more_at : {next : CutterState} {end : List ℕ} {new : List Slot}
+      → Spreading visible (due_on (record now { aim = aim }) cut before rest due.line) between new next end
+      → Spreading visible due old new next end
+  more_at once = record {
+    keeps = keeps_on so_far.keeps once.keeps;
+    lines = once.lines ∙ so_far.lines;
+    fit = once.fit;
+    held = once.held;
+    after = λ x at here.
+        let after = so_far.after x at here in
+        let again = once.after x after.now (cuts_again cut after tries will first) in record {
+          now = again.now;
+          looked = again.looked;
+          near = again.near;
+          none = again.none;
+          grows = part_trans _ _ _ after.grows again.grows;
+          reaches = search (rules, reaches_then);
+        };
+    size = let a = once.size in let b = so_far.size in omega arith;
+    end = (
+      so_far.end.0 ++ (before ++ once.end.0),
+      so_far.end.1 ∙ ap (λ those. so_far.end.0 ++ (before ++ those)) once.end.1
+          ∙ ap (λ those. so_far.end.0 ++ those) (sym (append_assoc before once.end.0 _))
+          ∙ sym (append_assoc so_far.end.0 (before ++ once.end.0) _),
+    );
   }
 
--- All lines of the text go nowhere.
-pub stretch_past : {visible : Bool} {cutter next : CutterState} {text : List ℕ} {size : ℕ} {old new : List Slot}
-    (passed : Passed) → Starts (stretch_of text size) → Takes visible cutter text old new next None
-    → passed.size ≡ length text → passed.found ≡ None
-    → Stretches visible cutter (stretch_of text size) old new next (Ok passed)
-stretch_past {text = text} {size} passed start took size_is none =
-    let rest : take (length (drop size text)) (drop size text) ≡ drop size text = search (rules, take_all) in record {
-      on = search (rules, length-drop);
-      took = rw rest (rw take-append-drop took);
-    }
+  stopped_at : {next : CutterState} {new : List Slot} {fault : Fault}
+      → CutsShort visible (due_on (record now { aim = aim }) cut before rest due.line) between new next fault
+      → CutsShort visible due old new next fault
+  stopped_at stopped = record {
+    keeps = keeps_on so_far.keeps stopped.keeps;
+    reaches = λ x at here. let after = so_far.after x at here in reaches_then so_far.keeps.style after.grows after.reaches
+        (reaches_as refl (sym (settled_same x so_far.keeps)) (stopped.reaches x after.now (cuts_again cut after tries will first)));
+  }
 
--- The text is one line.
-pub stretched_line : {visible : Bool} {cutter next : CutterState} {line : List ℕ} {old new : List Slot}
-    {result : Result Passed Fault} → Stretches visible cutter (stretch_of line (length line)) old new next result
-    → Takes visible cutter line old new next (fault_in result)
-stretched_line stretch = grind (arith, common_steps)
+module _ {visible : Bool} {due : Due} {now mid : CutterState} {cut : CutPoint} {left before rest : List ℕ} {n : ℕ}
+    {old between : List Slot} (so_far : Spreading visible due old between now left)
+    (is : mid ≡ record now { aim = mid.aim }) (tries : Tries now due.line mid (Some cut)) (will : WillCut now cut)
+    (n_is : n ≡ cut.line - mid.progress.current) (first : before ≡ first_lines newline n left)
+    (after : rest ≡ after_lines newline n left) where
+  parts : left ≡ before ++ rest
+  parts = rw (first, after) (sym (first_lines_then_rest newline n left))
+
+  so : Spreading visible due old between now (before ++ rest)
+  so = subst (Spreading visible due old between now) parts so_far
+
+  begins : before ≡ first_lines newline (cut.line - now.progress.current) (before ++ rest)
+  begins = first ∙ ap (λ those. first_lines newline n those) parts
+      ∙ ap (λ k. first_lines newline k (before ++ rest)) (n_is ∙ ap (λ (c : CutterState). cut.line - c.progress.current) is)
+
+  none_held : mid.window.held ++ before ≡ before
+  none_held = ap (λ those. those ++ before) (ap (λ (c : CutterState). c.window.held) is ∙ so_far.held)
+
+  tries_now : Tries now due.line (record now { aim = mid.aim }) (Some cut)
+  tries_now = subst (λ (those : CutterState). Tries now due.line those (Some cut)) is tries
+
+  pub spread_sizes : size_of mid.writer.current + length mid.window.held + length before + length rest
+      ≤ size_of due.cutter.writer.current + length (left_in due)
+  spread_sizes = omega (
+    arith,
+    so_far.size,
+    ap (λ (c : CutterState). size_of c.writer.current) is,
+    ap (λ (c : CutterState). length c.window.held) is,
+    ap length so_far.held,
+    ap length parts,
+    length-append before rest,
+  )
+
+  pub spread_more : {next : CutterState} {end : List ℕ} {new : List Slot}
+      → CutAt visible (due_on mid cut (mid.window.held ++ before) rest due.line) between new next end
+      → Spreading visible due old new next end
+  spread_more {next} {end} {new} at_cut = more_at so tries_now will begins
+      (subst (λ (those : CutterState). Spreading visible (due_on those cut before rest due.line) between new next end) is
+      (subst (λ those. Spreading visible (due_on mid cut those rest due.line) between new next end) none_held at_cut.spreading))
+
+  pub spread_stopped : {next : CutterState} {new : List Slot} {fault : Fault}
+      → CutsShort visible (due_on mid cut (mid.window.held ++ before) rest due.line) between new next fault
+      → CutsShort visible due old new next fault
+  spread_stopped {next} {new} {fault} stops = stopped_at so tries_now will begins
+      (subst (λ (those : CutterState). CutsShort visible (due_on those cut before rest due.line) between new next fault) is
+      (subst (λ those. CutsShort visible (due_on mid cut those rest due.line) between new next fault) none_held stops))
+
+-- No operand cuts any more. The lines that are left go on waiting where they are.
+
+pub spread_cut : {visible : Bool} {due : Due} {mid : CutterState} {left : List ℕ} (pending : List ℕ)
+    {old new : List Slot}
+    → Spread visible due old new mid left → (mid.aim ≢ Below → left ≡ pending) → length pending ≤ length left
+    → Cut visible due old new mid pending
+spread_cut {visible} {due} {mid} {left} pending {old} {new} spread same short =
+    let so = spread.so_far in
+    subst (λ those. Cut visible due old new those pending) (sym spread.is) (record {
+      keeps = record { operands = so.keeps.operands; style = so.keeps.style; writer = so.keeps.writer };
+      lines = so.lines;
+      sound = record { fit = spread_fit refl so.fit; aim = subst IsAimed spread.is spread.aim };
+      size = let size = so.size in omega (arith, ap length so.held, short);
+      comes = λ x at here. let after = so.after x at here in record {
+        left = left;
+        left_is = λ other. same other ∙ ap (λ those. those ++ pending) (sym so.held);
+        at = after.now;
+        arrives = record {
+          ends = subst (λ (c : CutterState). EndsNow c x) spread.is (spread.tries x after.looked);
+          low = λ final. after.none;
+          enough = inl after.none;
+        };
+        grows = after.grows;
+        reaches = after.reaches;
+      };
+    })
+
+pub spread_all : {visible : Bool} {due : Due} {mid : CutterState} {left : List ℕ} {old new : List Slot}
+    → Spread visible due old new mid left → Cut visible due old new mid left
+spread_all {left = left} spread = spread_cut left spread (λ other. refl) (omega arith)
+
+-- Or they are held.
+
+held_as : {visible : Bool} {mid next : CutterState} {left those : List ℕ} {old new : List Slot} {fault : Option Fault}
+    → left ≡ those → HoldsLines visible mid those old new next fault → HoldsLines visible mid left old new next fault
+held_as {visible} {mid} {next} {old = old} {new} {fault} is held = subst (λ those. HoldsLines visible mid those old new next fault) (sym is) held
+
+pub held_cut : {visible : Bool} {due : Due} {mid next : CutterState} {left : List ℕ} {old between new : List Slot}
+    (fault : Option Fault) → Spread visible due old between mid left → (mid.aim ≡ Below → ⊥)
+    → HoldsLines visible mid (mid.window.held ++ left) between new next fault → CutsHeld visible due old new next fault
+held_cut {left = left} (Some fault) spread differs held =
+    let so = spread_cut left spread (λ other. refl) (omega arith) in held_short fault (record {
+      keeps = keeps_on so.keeps held.keeps;
+      reaches = λ x at here. let come = so.comes x at here in
+          reaches_then so.keeps.style come.grows come.reaches (reaches_as refl (sym (settled_same x so.keeps))
+          ((held_as (come.left_is differs) held).reaches x come.at come.arrives));
+    })
+held_cut {mid = mid} {next} {left} None spread differs held =
+    let so = spread_cut left spread (λ other. refl) (omega arith) in
+    let sound = sound_held held.went so.sound in held_well (record {
+      keeps = keeps_on so.keeps held.keeps;
+      lines = ap (λ (c : CutterState). c.lines) held.went.same ∙ so.lines;
+      sound = sound;
+      size = let a = held.went.size in let b = so.size in omega (arith, length-append mid.window.held left);
+      comes = λ x at here.
+          let come = so.comes x at here in
+          let holds = held_as (come.left_is differs) held in
+          let settled = settled_same x held.keeps in
+          live_comes sound.fit
+          (live_of (λ below. differs (sym (ap (λ (c : CutterState). c.aim) held.went.same) ∙ below)) (holds.went.stands x come.at come.arrives))
+          (subst (Begins _) (sym settled) (part_trans _ _ _ come.grows (holds.begins x come.at come.arrives)))
+          (reaches_as refl settled (reaches_then so.keeps.style come.grows come.reaches (holds.reaches x come.at come.arrives)));
+    })
+
+-- what stands after the lines before the last ones
+last_by : (n place : ℕ) (all : List ℕ) → take place all ≡ but_last_lines newline n all
+    → drop place all ≡ last_lines newline n all
+last_by n place all is = append_cancel_left (take place all) (drop place all) (last_lines newline n all)
+    (take-append-drop place all ∙ sym (first_lines_then_rest newline (line_count newline all - n) all)
+    ∙ ap (λ those. those ++ last_lines newline n all) (sym is))
+
+-- The lines that waited were taken out of the cutter before.
+
+cut_by : {visible : Bool} {cutter next : CutterState} {window : Window} {cut : CutPoint} {before rest line : List ℕ}
+    {old new : List Slot} {fault : Option Fault}
+    → CutsHeld visible (due (record cutter { window = window }) cut before rest line) old new next fault
+    → CutsHeld visible (due cutter cut before rest line) old new next fault
+cut_by (held_short fault stops) = held_short fault (record {
+  keeps = stops.keeps;
+  reaches = λ x at here. stops.reaches x at (search rules);
+})
+cut_by (held_well made) = held_well (record {
+  keeps = made.keeps;
+  lines = made.lines;
+  sound = made.sound;
+  size = made.size;
+  comes = λ x at here. let come = made.comes x at (search rules) in record {
+    left = come.left;
+    left_is = come.left_is;
+    at = come.at;
+    arrives = come.arrives;
+    grows = come.grows;
+    reaches = come.reaches;
+  };
+})
+
+pub cut_drained : {visible : Bool} {cutter next : CutterState} {window : Window} {cut : CutPoint} {n : ℕ}
+    (place : ℕ) {all same : List ℕ} (text : List ℕ) {before rest line : List ℕ} {old new : List Slot}
+    {fault : Option Fault} → window ≡ record cutter.window { held = [] }
+    → all ≡ cutter.window.held ++ text → same ≡ cutter.window.held ++ text → n ≡ after_cut cutter cut
+    → before ≡ take place all → rest ≡ drop place all
+    → take place same ≡ but_last_lines newline n same → CutsHeld visible
+    (due (record cutter { window = window }) cut (window.held ++ before) rest line) old new next fault
+    → CutsHeld visible (last_due cutter cut (cutter.window.held ++ text) line) old new next fault
+cut_drained {visible} {cutter} {next} {window} {cut} {n} place {all} {same} text {before} {rest} {line} {old} {new} {fault} none all_is same_is n_is before_is rest_is place_is made =
+    let first = subst (λ those. take place those ≡ but_last_lines newline n those) (same_is ∙ sym all_is) place_is in
+    subst (λ left. CutsHeld visible (last_due cutter cut left line) old new next fault) all_is
+    (subst (λ k. CutsHeld visible (due cutter cut (but_last_lines newline k all) (last_lines newline k all) line) old new next fault) n_is
+    (rw (← first, ← last_by n place all first, ← before_is, ← rest_is) (cut_by (rw none at made))))

@@ -31,7 +31,7 @@ use Rattle.csplit_core.specs.{
   },
   Measure.{IsRepeatedBy, Fits},
   Input.{newline, without_newline, marked, all_lines, is_match_of},
-  Cutter.{CutterState, state_in, IsFit, pattern_by, pattern_in, IsLive, EndsNow, IsSound},
+  Cutter.{CutterState, state_in, IsFit, pattern_by, pattern_in, EndsNow, IsSound},
 }
 use Rattle.csplit_core.proofs.{
   WholeLemmas.after_within,
@@ -291,16 +291,16 @@ ends_over {cutter} {lines} text fit count stays x before counted ends = (
 )
 
 pub next_stays : {cutter : CutterState} {x : List ℕ} (line : List ℕ) {attempt : Attempt} → IsFit cutter
-    → IsLive cutter x
-    → IsWhole x → IsLine line → cutter.aim ≡ attempt → StaysOver cutter line (cutter.lines + 1) attempt
+    → cutter.lines ≡ line_count newline x → EndsNow cutter x → IsWhole x → IsLine line → cutter.aim ≡ attempt
+    → StaysOver cutter line (cutter.lines + 1) attempt
     → EndsNow (record cutter { lines = cutter.lines + 1 }) (x ++ line)
-next_stays {cutter} {x} line fit live whole one aim stays =
+next_stays {cutter} {x} line fit counted ends whole one aim stays =
     (ends_over line fit (omega (arith, ap length one))
-    (subst (StaysOver cutter line (cutter.lines + 1)) (sym aim) stays) x (inl whole) live.at.counted live.ends).1
+    (subst (StaysOver cutter line (cutter.lines + 1)) (sym aim) stays) x (inl whole) counted ends).1
 
 -- the cutter's count of lines is right
-pub lines_are : {cutter : CutterState} {x : List ℕ} (live : IsLive cutter x) → length (all_lines x) ≡ cutter.lines
-lines_are live = grind (arith, common_steps)
+pub lines_are : {lines : ℕ} (x : List ℕ) → lines ≡ line_count newline x → length (all_lines x) ≡ lines
+lines_are x counted = length-all_lines x ∙ sym counted
 
 -- a cut that was above the last line can be made once its line came in
 pub above_cuts : {style : Style} (lines : List Line) (line : Line) {state : State} {total : ℕ} {at : CutPoint}
@@ -318,27 +318,30 @@ above_cuts lines line ending count ends aims near few = absurd aims
 
 -- a pattern matched no line so far
 
-pub next_looked : {cutter : CutterState} {x : List ℕ} (line : List ℕ) (live : IsLive cutter x) → IsWhole x → IsLine line
+pub next_looked : {cutter : CutterState} {x : List ℕ} (line : List ℕ) → cutter.lines ≡ line_count newline x
+    → (now : EndsNow cutter x) → IsWhole x → IsLine line
     → cutter.aim ≡ Missed → Looked (record cutter { lines = cutter.lines + 1 }) (x ++ line) line
-next_looked {x = x} line live whole one aim =
-    let ends = ends_as live.ends.runs in
-    let count = lines_are live in
-    let aims = rw aim at live.ends.aims in record {
+next_looked {x = x} line counted now whole one aim =
+    let ends = ends_as now.runs in
+    let count = lines_are x counted in
+    let aims = rw aim at now.aims in record {
       counted = search (rules, count-line);
       last = (all_lines x, all_lines-line line whole one, λ ends. whole-append line whole (inr ends));
       others = grind (arith, common_steps, are, all_lines-line);
     }
 
-pub next_sought : {cutter : CutterState} {x : List ℕ} (live : IsLive cutter x) → IsFit cutter → cutter.aim ≡ Missed
+pub next_sought : {cutter : CutterState} (x : List ℕ) (now : EndsNow cutter x) → IsFit cutter → cutter.aim ≡ Missed
     → cutter.sought ≡ None → ⊥
-next_sought live fit aim none = search rules
+next_sought x now fit aim none = search rules
 
 pub next_tries : {cutter : CutterState} (next : CutterState) (line : List ℕ) (result : Option CutPoint) → IsFit cutter
     → IsLine line → cutter.aim ≡ Missed → next.lines ≡ cutter.lines + 1
     → Tries (record cutter { lines = cutter.lines + 1 }) line next result → TriesNext cutter line next result
-next_tries next line None fit one aim counted tries = search (rules, next_looked)
-next_tries next line (Some cut) fit one aim counted tries = λ x whole live.
-    let both = tries (x ++ line) (next_looked line live whole one aim) in (both.0, omega (arith, both.1 (inr (next_sought live fit aim))))
+next_tries next line None fit one aim count tries = λ x whole counted now.
+    tries (x ++ line) (next_looked line counted now whole one aim)
+next_tries next line (Some cut) fit one aim count tries = λ x whole counted now.
+    let both = tries (x ++ line) (next_looked line counted now whole one aim) in
+    (both.0, omega (arith, both.1 (inr (next_sought x now fit aim))))
 
 -- What stays true of a state when more lines come
 

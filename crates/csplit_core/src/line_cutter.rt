@@ -1,26 +1,26 @@
 //! Cutting lines into sections as they come in: the lines that are settled go to the sections, and the others wait.
 ghost use Rattle.std.specs.{
-  Prelude.{◌≡◌, ◌≢◌, ◌+◌, ◌-◌, ◌<◌, ◌≤◌, ◌^◌, ◌++◌, List, ℕ, [], length, drop, take, Some, None, IfOk, IfErr, IfSome},
-  Prelude.{IfNone, OnOk, IsTrue, true, false},
+  Prelude.{◌≡◌, ◌≢◌, ◌⊎◌, ◌+◌, ◌-◌, ◌<◌, ◌≤◌, ◌^◌, ◌++◌, List, ℕ, [], length, drop, take, Some, None, IfOk, IfErr},
+  Prelude.{IfSome, IfNone, OnOk, IsTrue, true, false},
 };
 ghost use Rattle.bre_core.specs.Pattern.{Pattern};
-ghost use Rattle.seg_core.specs.Line.{delimiters};
 ghost use Rattle.ports_core.specs.Slot.{is_writable};
 ghost use Rattle.engine_core.specs.{Swept.AreThere, InTurn.fault_in, FileWriter.{IsReady, size_of}};
 ghost use Rattle.csplit_core.specs.{
   Csplit.verdict_of,
   Plan.{above, missed, CutPoint},
   Cutter.{IsFit, IsSound, load, seen},
-  inner.Cutter.{AreClear, Clears, CutAt, CutsAll, CutsOn, EndsAll, PassesThenHolds, Judges, Opens, HoldsLines, IsAimed, IsFound},
-  inner.Cutter.{IsLine, IsNoCut, IsWhole, Lacks, PassesClear, PassesCut, PassesOver, Spread, Starts, StopsAt},
-  inner.Cutter.{Stretches, Takes, Tries, TriesNext, WillCut, WillSkip, due, equipped, past_in, stretch_of, waits_with},
+  inner.Cutter.{Advances, AreClear, Clears, CutAt, CutsHeld, CutsShort, EndsAll, Extends, Judges, Opens, IsAimed},
+  inner.Cutter.{IsFound, IsLine, IsNextFound, IsNextKnown, IsNoCut, IsWhole, IsWithin, Lacks, MayGoOn, PassesClear},
+  inner.Cutter.{PassesCut, PassesOver, Settles, Spread, Starts, StopsAt, Takes, Tries, TriesNext, WillCut, WillSkip},
+  inner.Cutter.{due, equipped, last_due, past_in},
   Input.{newline, without_newline},
 };
 ghost use Rattle.csplit_core.specs.declared.progress.Attempt.TheVariants as attempt_is;
 
 use crate::files::{opening_of, writer_of};
 use crate::holding::{drain, hold_last, write_front};
-use crate::lines::{skip_line, split_lines};
+use crate::lines::{before_last, skip_line, split_lines};
 use crate::matcher::{Matcher, text_of};
 use crate::next_operand::{find_matcher, find_window, is_kept, next_operand, past_next};
 use crate::progress::{Attempt, CutPoint, Progress};
@@ -40,6 +40,19 @@ pub struct Passed {
     pub size: usize,
     /// How many bytes the next line is, with its newline, if the pattern that is searched for was found in it.
     pub found: Option<usize>,
+}
+
+/// The lines of a text that came in and wait, and what is known of the line after them.
+#[derive(Clone, Copy)]
+pub struct Stretch {
+    /// Where these lines begin.
+    pub from: usize,
+    /// Where they end: all of the text before this place came in.
+    pub end: usize,
+    /// How many bytes the next line has. 0 if no line is left, or if lines go nowhere any more.
+    pub next: usize,
+    /// Whether the pattern that is searched for was found in the next line.
+    pub is_found: bool,
 }
 
 /// The sections of the lines that came in, and where the run stands.
@@ -165,15 +178,50 @@ impl<'o> LineCutter<'o> {
         ensures { Takes O.visible (seen self.old) text.now (O.slots outs.old) (O.slots outs.new) (seen self.new)
             (fault_in result) }
     {
-        let mut left = text;
-        let mut found = None;
-        'stretches: while !left.is_empty() {
-            let size = first_size(left, found);
-            let passed = self.stretch(left, size, found.is_some(), outs)?;
-            left = &left[passed.size..];
-            found = passed.found;
+        let next = self.next_size(text, None);
+        self.take_lines(text, next, outs)
+    }
+
+    /// Takes in one line, which may lack its newline.
+    ///
+    /// # Errors
+    ///
+    /// Those of `take`.
+    pub(crate) fn take_line<O: Outs>(&mut self, line: &[u8], outs: &mut O) -> Result<(), Fault>
+        requires line { IsLine line.now }
+        requires fits { load (seen self.old) + length line.now < 2 ^ 63 }
+        requires sound { IsSound (seen self.old) }
+        requires ready { IsReady (seen self.old).writer (O.slots outs.old) }
+        ensures { Takes O.visible (seen self.old) line.now (O.slots outs.old) (O.slots outs.new) (seen self.new)
+            (fault_in result) }
+    {
+        self.take_lines(line, line.len(), outs)
+    }
+
+    /// Takes in a text, whose first line has `next` bytes. `next` is 0 if the text has no line, or if lines go nowhere
+    /// any more. Lines of the text wait in the text itself until it ends.
+    fn take_lines<O: Outs>(&mut self, text: &[u8], next: usize, outs: &mut O) -> Result<(), Fault>
+        requires start { 0 < next → Starts text.now next }
+        requires none { next ≡ 0 → (self.old.aim ≡ attempt_is.Below) ⊎ (text.now ≡ []) }
+        requires fits { load (seen self.old) + length text.now < 2 ^ 63 }
+        requires sound { IsSound (seen self.old) }
+        requires ready { IsReady (seen self.old).writer (O.slots outs.old) }
+        ensures { Takes O.visible (seen self.old) text.now (O.slots outs.old) (O.slots outs.new) (seen self.new)
+            (fault_in result) }
+    {
+        if self.is_past() {
+            return Ok(());
         }
-        Ok(())
+        let mut stretch = Stretch {
+            from: 0,
+            end: 0,
+            next,
+            is_found: false,
+        };
+        'stretches: while stretch.next > 0 {
+            stretch = self.take_next(text, stretch, outs)?;
+        }
+        self.hold(&text[stretch.from..stretch.end], outs)
     }
 
     /// Whether no line goes anywhere any more, since the last cut is below the current line.
@@ -184,105 +232,108 @@ impl<'o> LineCutter<'o> {
         matches!(self.aim, Attempt::Below)
     }
 
-    /// Takes in a beginning of a text: its first line, and the lines after it that the next operand doesn't cut. The
-    /// first line has `size` bytes; it may lack its newline if it is the only line. `is_found` says that the pattern
-    /// that is searched for was found in the first line. Returns how many bytes were taken in, and how long the next
-    /// line is if the pattern was found in that line. If lines go nowhere any more, all of the text is taken in.
-    fn stretch<O: Outs>(
-        &mut self,
-        text: &[u8],
-        size: usize,
-        is_found: bool,
-        outs: &mut O,
-    ) -> Result<Passed, Fault>
-        requires start { Starts (stretch_of text.now size) }
-        requires found { is_found ≡ true
-            → IsFound (seen self.old) (without_newline (take size text.now)) (self.old.lines + 1) true }
-        requires fits { load (seen self.old) + length text.now < 2 ^ 63 }
-        requires sound { IsSound (seen self.old) }
+    /// Writes what is settled of the lines that wait and of the lines after them, and keeps the others. Keeps none if
+    /// lines go nowhere any more.
+    fn hold<O: Outs>(&mut self, text: &[u8], outs: &mut O) -> Result<(), Fault>
+        requires fits { size_of self.old.writer.current + length self.old.window.held + length text.now < 2 ^ 63 }
+        requires fit { IsFit (seen self.old) }
         requires ready { IsReady (seen self.old).writer (O.slots outs.old) }
-        ensures { Stretches O.visible (seen self.old) (stretch_of text.now size) (O.slots outs.old) (O.slots outs.new)
-            (seen self.new) result }
+        ensures { Settles O.visible (seen self.old) text.now (O.slots outs.old) (O.slots outs.new) (seen self.new)
+            (fault_in result) }
     {
         if self.is_past() {
-            return Ok(unfound(text.len()));
+            self.window.drop_front(self.window.len());
+            return Ok(());
         }
-        let from = self.left_out(size);
-        let line = &text[..size];
-        let Some(cut) = self.try_line(line, is_found) else {
-            return self.go_on(text, from, size, outs);
-        };
-        if self.window.is_empty() {
-            return self.cut_on(cut, text, size, outs);
-        }
-        self.cut_line(cut, line, outs)?;
-        Ok(unfound(size))
+        hold_last(&mut self.window, text, &mut self.writer, outs)
     }
 
-    /// Cuts the first line of a text, which has `size` bytes. No line waits. Holds what is left of the first line
-    /// together with the lines after it that the next operand doesn't cut. Returns how many bytes were taken in, and
-    /// how long the next line is if the pattern that is searched for was found in that line.
-    fn cut_on<O: Outs>(
+    /// Takes in the next line of a text and the lines after it that the next operand doesn't cut. The next line may
+    /// lack its newline if it is the last. Returns the stretch of the text whose lines wait then.
+    fn take_next<O: Outs>(
         &mut self,
-        cut: CutPoint,
         text: &[u8],
-        size: usize,
+        stretch: Stretch,
         outs: &mut O,
-    ) -> Result<Passed, Fault>
-        requires start { Starts (stretch_of text.now size) }
-        requires lines { self.old.lines + (length text.now - size) < 2 ^ 63 }
-        requires fits { size_of self.old.writer.current + length text.now < 2 ^ 63 }
-        requires fit { IsFit (seen self.old) }
-        requires none { self.old.window.held ≡ [] }
-        requires cuts { WillCut (seen self.old) cut }
+    ) -> Result<Stretch, Fault>
+        requires within { IsWithin text.now stretch }
+        requires start { Starts (drop stretch.end text.now) stretch.next }
+        requires found { IsNextKnown (seen self.old) text.now stretch }
+        requires lines { self.old.lines + (length text.now - stretch.end) < 2 ^ 63 }
+        requires fits { size_of self.old.writer.current + length self.old.window.held
+            + (length text.now - stretch.from) < 2 ^ 63 }
+        requires sound { IsSound (seen self.old) }
+        requires live { self.old.aim ≢ attempt_is.Below }
         requires ready { IsReady (seen self.old).writer (O.slots outs.old) }
-        ensures { CutsOn O.visible (seen self.old) cut (stretch_of text.now size) (O.slots outs.old) (O.slots outs.new)
+        ensures { Advances O.visible (seen self.old) text.now stretch (O.slots outs.old) (O.slots outs.new)
             (seen self.new) result }
     {
-        let line = &text[..size];
-        let left = self.cut_often(cut, self.lines, line, line, outs)?;
-        self.go_on(text, size - left.len(), size, outs)
+        let end = stretch.end + stretch.next;
+        let from = self.first_waiting(stretch.from, end);
+        let line = &text[stretch.end..end];
+        let Some(cut) = self.try_line(line, stretch.is_found) else {
+            return Ok(self.pass_on(text, from, end));
+        };
+        let waiting = &text[stretch.from..end];
+        let place = before_last(waiting, (self.lines + 1).saturating_sub(cut.line));
+        if place == 0 {
+            self.cut_held(cut, waiting, line, outs)?;
+            return Ok(self.pass_on(text, end, end));
+        }
+        let (before, rest) = waiting.split_at(place);
+        let left = self.cut_often(cut, before, rest, line, outs)?;
+        Ok(self.pass_on(text, end - left.len(), end))
     }
 
-    /// Passes over the lines of a text after its first `size` bytes, as far as the next operand stands as it does now.
-    /// Holds these lines together with the first `size` bytes from `from` on, so that one write serves both. Returns
-    /// how many bytes were taken in, and how long the next line is if the pattern that is searched for was found in
-    /// that line.
-    fn go_on<O: Outs>(
-        &mut self,
-        text: &[u8],
-        from: usize,
-        size: usize,
-        outs: &mut O,
-    ) -> Result<Passed, Fault>
-        requires from { from ≤ size }
-        requires within { size ≤ length text.now }
-        requires rest { IsWhole (drop size text.now) }
-        requires lines { self.old.lines + (length text.now - size) < 2 ^ 63 }
-        requires fits { size_of self.old.writer.current + length self.old.window.held + (length text.now - from)
-            < 2 ^ 63 }
+    /// Passes over the lines of a text from `end` on, as far as the next operand stands as it does now. The lines
+    /// before them wait from `from` on.
+    fn pass_on(&mut self, text: &[u8], from: usize, end: usize) -> Stretch
+        requires place { MayGoOn text.now from end }
+        requires lines { self.old.lines + (length text.now - end) < 2 ^ 63 }
         requires sound { IsSound (seen self.old) }
-        requires ready { IsReady (seen self.old).writer (O.slots outs.old) }
-        ensures { PassesThenHolds O.visible (seen self.old) (drop from (take size text.now)) (stretch_of text.now size)
-            (O.slots outs.old) (O.slots outs.new) (seen self.new) result }
+        ensures { Extends (seen self.old) text.now from end (seen self.new) result }
     {
-        let passed = self.pass_over(&text[size..]);
-        let end = size + passed.size;
-        self.hold(&text[from..end], outs)?;
-        Ok(Passed {
-            size: end,
-            found: passed.found,
-        })
+        let passed = self.pass_over(&text[end..]);
+        let end = end + passed.size;
+        let next = self.next_size(&text[end..], passed.found);
+        Stretch {
+            from,
+            end,
+            next,
+            is_found: passed.found.is_some(),
+        }
     }
 
-    /// How many bytes of the next line, which has `size` bytes, are left out: all or none.
-    fn left_out(&self, size: usize) -> usize
-        requires { self.now.lines < 2 ^ 64 - 1 }
-        ensures all { WillSkip (seen self.now) → result ≡ size }
-        ensures none { (WillSkip (seen self.now) → ⊥) → result ≡ 0 }
-        ensures within { result ≤ size }
+    /// How many bytes the first line has, of a text of complete lines. It is `found`, if that is known. 0 if the text
+    /// is empty, or if lines go nowhere any more.
+    fn next_size(&self, text: &[u8], found: Option<usize>) -> usize
+        requires whole { IsWhole text.now }
+        requires found { IfSome found (IsNextFound (seen self.now) text.now) }
+        ensures some { 0 < result → (self.now.aim ≢ attempt_is.Below) × Starts text.now result }
+        ensures none { result ≡ 0 → (self.now.aim ≡ attempt_is.Below) ⊎ (text.now ≡ []) }
+        ensures known { (size : ℕ) → found ≡ Some size → result ≡ size }
     {
-        if self.will_skip() { size } else { 0 }
+        if self.is_past() {
+            return 0;
+        }
+        match found {
+            Some(size) => size,
+            None => {
+                let (line, _) = next_line(text, NEWLINE);
+                line.len()
+            }
+        }
+    }
+
+    /// Where the lines that wait begin once the next line came, which ends at `end`. Before, they began at `from`. If
+    /// the next line is left out, no line waits.
+    fn first_waiting(&self, from: usize, end: usize) -> usize
+        requires { self.now.lines < 2 ^ 64 - 1 }
+        ensures all { WillSkip (seen self.now) → result ≡ end }
+        ensures none { (WillSkip (seen self.now) → ⊥) → result ≡ from }
+        ensures within { from ≤ end → result ≤ end }
+    {
+        if self.will_skip() { end } else { from }
     }
 
     /// Whether the next line is left out, since the last cut stands there.
@@ -292,19 +343,6 @@ impl<'o> LineCutter<'o> {
         ensures no { result ≡ false → WillSkip (seen self.now) → ⊥ }
     {
         self.lines + 1 < self.progress.current
-    }
-
-    /// Takes in one line, which may lack its newline.
-    pub(crate) fn take_line<O: Outs>(&mut self, line: &[u8], outs: &mut O) -> Result<(), Fault>
-        requires line { IsLine line.now }
-        requires fits { load (seen self.old) + length line.now < 2 ^ 63 }
-        requires sound { IsSound (seen self.old) }
-        requires ready { IsReady (seen self.old).writer (O.slots outs.old) }
-        ensures { Takes O.visible (seen self.old) line.now (O.slots outs.old) (O.slots outs.new) (seen self.new)
-            (fault_in result) }
-    {
-        self.stretch(line, line.len(), false, outs)?;
-        Ok(())
     }
 
     /// Counts the lines at the beginning of a text of complete lines after which the next operand stands as it does
@@ -499,77 +537,93 @@ impl<'o> LineCutter<'o> {
         }
     }
 
-    /// Cuts the lines that wait and the last line, and then keeps of these lines those that still wait.
-    fn cut_line<O: Outs>(&mut self, cut: CutPoint, line: &[u8], outs: &mut O) -> Result<(), Fault>
+    /// Cuts the lines that wait and a text after them if the cut stands before the text's second line. The last line of
+    /// the text is `line`. Then of these lines those are held that still wait.
+    fn cut_held<O: Outs>(
+        &mut self,
+        cut: CutPoint,
+        text: &[u8],
+        line: &[u8],
+        outs: &mut O,
+    ) -> Result<(), Fault>
         requires line { IsLine line.now }
+        requires some { 0 < length text.now }
         requires few { self.old.lines ≤ 2 ^ 63 }
-        requires fits { size_of self.old.writer.current + length self.old.window.held + length line.now < 2 ^ 63 }
+        requires fits { size_of self.old.writer.current + length self.old.window.held + length text.now < 2 ^ 63 }
         requires fit { IsFit (seen self.old) }
         requires cuts { WillCut (seen self.old) cut }
         requires ready { IsReady (seen self.old).writer (O.slots outs.old) }
-        ensures { CutsAll O.visible (waits_with (seen self.old) cut line.now) [] (O.slots outs.old) (O.slots outs.new)
-            (seen self.new) (fault_in result) }
+        ensures { CutsHeld O.visible (last_due (seen self.old) cut (self.old.window.held ++ text.now) line.now)
+            (O.slots outs.old) (O.slots outs.new) (seen self.new) (fault_in result) }
     {
-        let waiting = drain(self.alloc, &mut self.window, line)?;
-        let lines = count_delimiters(&waiting[..waiting.len() - line.len()], NEWLINE);
-        let place = self.lines.saturating_sub(lines as u64);
-        let left = self.cut_often(cut, place, &waiting, line, outs)?;
-        self.hold(left, outs)
+        let all = drain(self.alloc, &mut self.window, text)?;
+        let place = before_last(&all, (self.lines + 1).saturating_sub(cut.line));
+        let (before, rest) = all.split_at(place);
+        let left = self.cut_often(cut, before, rest, line, outs)?;
+        if self.is_past() {
+            return Ok(());
+        }
+        hold_last(&mut self.window, left, &mut self.writer, outs)
     }
 
-    /// Cuts the last lines that came in as often as operands cut them. The first of these lines has the number `place`,
-    /// and no line waits. Returns the lines that are left, which aren't held yet.
+    /// Cuts the last lines that came in as often as operands cut them. The lines that wait and those of `before` stand
+    /// before the first cut, and those of `rest` after it. The last line is `line`. Returns the lines that are left,
+    /// which aren't held yet.
     fn cut_often<'l, O: Outs>(
         &mut self,
         cut: CutPoint,
-        place: u64,
-        waiting: &'l [u8],
+        before: &[u8],
+        rest: &'l [u8],
         line: &[u8],
         outs: &mut O,
     ) -> Result<&'l [u8], Fault>
         requires line { IsLine line.now }
         requires few { self.old.lines ≤ 2 ^ 63 }
-        requires fits { size_of self.old.writer.current + length waiting.now < 2 ^ 63 }
+        requires fits { size_of self.old.writer.current + length self.old.window.held + length before.now
+            + length rest.now < 2 ^ 63 }
         requires fit { IsFit (seen self.old) }
-        requires none { self.old.window.held ≡ [] }
         requires cuts { WillCut (seen self.old) cut }
         requires ready { IsReady (seen self.old).writer (O.slots outs.old) }
-        ensures ok { IfOk result (λ left. Spread O.visible (due (seen self.old) cut place waiting.now line.now)
+        ensures ok { IfOk result (λ left. Spread O.visible
+            (due (seen self.old) cut (self.old.window.held ++ before.now) rest.now line.now)
             (O.slots outs.old) (O.slots outs.new) (seen self.new) left.now) }
-        ensures err { IfErr result (λ fault. CutsAll O.visible (due (seen self.old) cut place waiting.now line.now) []
-            (O.slots outs.old) (O.slots outs.new) (seen self.new) (Some fault)) }
+        ensures err { IfErr result (λ fault. CutsShort O.visible
+            (due (seen self.old) cut (self.old.window.held ++ before.now) rest.now line.now)
+            (O.slots outs.old) (O.slots outs.new) (seen self.new) fault) }
     {
-        let mut left = self.cut_at(cut, place, waiting, outs)?;
+        let mut left = self.cut_at(cut, before, rest, outs)?;
         while let Some(cut) = self.try_last(line, false) {
-            left = self.cut_at(cut, self.progress.current, left, outs)?;
+            let current = self.progress.current;
+            let (before, rest) = split_lines(left, cut.line.saturating_sub(current));
+            left = self.cut_at(cut, before, rest, outs)?;
         }
         Ok(left)
     }
 
-    /// Ends the open section before the line of the cut, and begins the next section. No line waits. Returns the lines
-    /// that follow the cut.
+    /// Ends the open section with the lines that wait and those of `before`, and begins the next section. Returns what
+    /// is left of `rest`, the lines from the cut on.
     fn cut_at<'l, O: Outs>(
         &mut self,
         cut: CutPoint,
-        place: u64,
-        waiting: &'l [u8],
+        before: &[u8],
+        rest: &'l [u8],
         outs: &mut O,
     ) -> Result<&'l [u8], Fault>
         requires few { self.old.lines ≤ 2 ^ 63 }
-        requires fits { size_of self.old.writer.current + length waiting.now < 2 ^ 63 }
+        requires fits { size_of self.old.writer.current + length self.old.window.held + length before.now
+            + length rest.now < 2 ^ 63 }
         requires fit { IsFit (seen self.old) }
-        requires none { self.old.window.held ≡ [] }
         requires cuts { WillCut (seen self.old) cut }
         requires ready { IsReady (seen self.old).writer (O.slots outs.old) }
-        ensures ok { IfOk result (λ rest. (line : List ℕ)
-            → CutAt O.visible (due (seen self.old) cut place waiting.now line) (O.slots outs.old) (O.slots outs.new)
-            (seen self.new) rest.now) }
-        ensures err { IfErr result (λ fault. (line : List ℕ)
-            → CutsAll O.visible (due (seen self.old) cut place waiting.now line) [] (O.slots outs.old)
-            (O.slots outs.new)
-            (seen self.new) (Some fault)) }
+        ensures ok { IfOk result (λ left. (line : List ℕ) → CutAt O.visible
+            (due (seen self.old) cut (self.old.window.held ++ before.now) rest.now line)
+            (O.slots outs.old) (O.slots outs.new) (seen self.new) left.now) }
+        ensures err { IfErr result (λ fault. (line : List ℕ) → CutsShort O.visible
+            (due (seen self.old) cut (self.old.window.held ++ before.now) rest.now line)
+            (O.slots outs.old) (O.slots outs.new) (seen self.new) fault) }
     {
-        let (before, rest) = split_lines(waiting, cut.line.saturating_sub(place));
+        let waiting = self.window.len();
+        write_front(&mut self.window, waiting, &mut self.writer, outs)?;
         self.writer.put(before, outs)?;
         self.pass(cut)?;
         let is_kept = is_kept(next_operand(self.operands, self.progress.done));
@@ -606,42 +660,6 @@ impl<'o> LineCutter<'o> {
         self.matcher = find_matcher(self.alloc, next)?;
         self.window = find_window(self.alloc, next)?;
         Ok(())
-    }
-
-    /// Writes what is settled of the lines that wait and of the lines after them, and keeps the others.
-    fn hold<O: Outs>(&mut self, text: &[u8], outs: &mut O) -> Result<(), Fault>
-        requires fits { size_of self.old.writer.current + length self.old.window.held + length text.now < 2 ^ 63 }
-        requires fit { IsFit (seen self.old) }
-        requires ready { IsReady (seen self.old).writer (O.slots outs.old) }
-        ensures { HoldsLines O.visible (seen self.old) (self.old.window.held ++ text.now) (O.slots outs.old)
-            (O.slots outs.new) (seen self.new) (fault_in result) }
-    {
-        if self.is_past() {
-            self.window.drop_front(self.window.len());
-            return Ok(());
-        }
-        hold_last(&mut self.window, text, &mut self.writer, outs)
-    }
-}
-
-/// How many bytes the first line has, of a text of complete lines that isn't empty. It is `found`, if that is known.
-fn first_size(text: &[u8], found: Option<usize>) -> usize
-    requires some { 0 < length text.now }
-    requires whole { IsWhole text.now }
-    requires found { IfSome found
-        (λ size. (0 < size) × (size ≤ length text.now) × IsLine (take size text.now) × IsWhole (take size text.now)) }
-    ensures some { 0 < result }
-    ensures within { result ≤ length text.now }
-    ensures line { IsLine (take result text.now) }
-    ensures whole { IsWhole (take result text.now) }
-    ensures known { (size : ℕ) → found ≡ Some size → result ≡ size }
-{
-    match found {
-        Some(size) => size,
-        None => {
-            let (line, _) = next_line(text, NEWLINE);
-            line.len()
-        }
     }
 }
 

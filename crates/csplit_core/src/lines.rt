@@ -1,10 +1,11 @@
-//! The first lines of a text.
-ghost use Rattle.std.specs.Prelude.{◌≡◌, ◌≤◌, length, true, false};
-ghost use Rattle.seg_core.specs.Line.{after_lines, first_lines};
+//! The first lines of a text, and what stands before the last ones.
+ghost use Rattle.std.specs.Prelude.{◌≡◌, ◌<◌, ◌≤◌, ◌++◌, List, ℕ, length, take, true, false};
+ghost use Rattle.seg_core.specs.Line.{after_lines, but_last_lines, first_lines};
 ghost use Rattle.csplit_core.specs.Input.{newline};
 
 use seg_core::line::{NEWLINE, next_line, reach};
-use seg_core::line_reach::Reach;
+use seg_core::line_back::{last_delimiter_off, reach_back};
+use seg_core::line_reach::{Reach, ReachBack};
 
 /// The first `lines` lines of a text, and what follows them. The first part is all of the text if it has no more
 /// complete lines.
@@ -30,4 +31,21 @@ pub(crate) fn skip_line(skips: bool, text: &[u8]) -> &[u8]
     }
     let (_, rest) = next_line(text, NEWLINE);
     rest
+}
+
+/// How many bytes stand before the last `lines` lines of a text.
+pub(crate) fn before_last(text: &[u8], lines: u64) -> usize
+    requires { 0 < length text.now }
+    ensures within { result ≤ length text.now }
+    ensures before { take result text.now ≡ but_last_lines newline lines text.now }
+    ensures after { 0 < result → (held : List ℕ)
+        → held ++ take result text.now ≡ but_last_lines newline lines (held ++ text.now) }
+{
+    if lines == 0 {
+        return text.len();
+    }
+    match reach_back(last_delimiter_off(text, NEWLINE), lines, NEWLINE) {
+        ReachBack::Begins(start) => start,
+        ReachBack::Short(_) => 0,
+    }
 }

@@ -9,7 +9,7 @@ use Rattle.csplit_core.specs.{
   Measure.Moves,
   declared.{
     progress.{Progress.Progress, Attempt.{Attempt, TheVariants.{UsedUp, Missed, Above, Below, Cuts}}},
-    line_cutter.{LineCutter.LineCutter, Passed.Passed},
+    line_cutter.{LineCutter.LineCutter, Passed.Passed, Stretch.Stretch},
   },
   Progress.{state_of, WillMove, EndsHere, AimsAt},
   Csplit.{settled_of, whole_of, verdict_of},
@@ -19,11 +19,14 @@ use Rattle.csplit_core.specs.{
   inner.PlanLaws.needed,
   Section.is_final,
   Cutter.{CutterState, AimHolds, most_by, pattern_by, seen, state_in, next_of, kept_by, IsFit, IsSound, load},
-  Cutter.{draft_by, IsAt, EndsNow, IsLive, Stands},
+  Cutter.{draft_by, IsAt, EndsNow, Stands},
   CsplitState.{CsplitState, terms, whole_lines},
 }
 use Rattle.bre_core.specs.{Pattern.Pattern, Search.contains}
-use Rattle.seg_core.specs.Line.{lines_of, line_count, ends_with, delimiters}
+use Rattle.seg_core.specs.{
+  Line.{lines_of, line_count, ends_with, delimiters, first_lines, but_last_lines},
+  inner.Lines.last_lines,
+}
 use Rattle.engine_core.specs.{
   Written.{Written, Begins, nothing},
   Swept.{Removes, HasNoFiles},
@@ -173,20 +176,39 @@ pub record Arrives (cutter : CutterState) {x left : List ℕ} (at : IsAt (bare c
   pub low : is_final ends.ending ≡ true → at.taken ≡ 0
   pub enough : (at.taken ≡ 0) ⊎ (cutter.window.most ≤ line_count newline left)
 
--- the lines of `left` that are to wait are held
-pub record Held (cutter : CutterState) (left : List ℕ) (next : CutterState) : Type 0 where
-  pub same : next ≡ record cutter { writer = next.writer; window = next.window }
-  pub window : next.window ≡ record cutter.window { held = next.window.held }
-  pub stands : (x : List ℕ) (at : IsAt (bare cutter) x left) → Arrives cutter at → Stands next x
-  pub size : size_of next.writer.current + length next.window.held ≤ size_of cutter.writer.current + length left
+-- The lines up to x came in, and outputs have `low` and what came since. If later lines still go somewhere, the lines
+-- that wait and those of `pending` are left, and none of them is written.
+pub record Comes (visible : Bool) (cutter : CutterState) (low : Written) (old new : List Slot) (next : CutterState)
+    (x pending : List ℕ) : Type 0 where
+  pub left : List ℕ
+  pub left_is : next.aim ≢ Below → left ≡ next.window.held ++ pending
+  pub at : IsAt (bare next) x left
+  pub arrives : Arrives next at
+  pub grows : Begins low (part_at at)
+  pub reaches : Puts cutter next low (part_at at) (effect visible old new) None
 
--- What `hold` does. The lines up to x came in, and the lines `left` were left.
-pub record HoldsLines (visible : Bool) (cutter : CutterState) (left : List ℕ) (old new : List Slot) (next : CutterState)
-    (fault : Option Fault) : Type 0 where
-  pub keeps : Keeps cutter next old new fault
-  pub reaches : (x : List ℕ) (at : IsAt (bare cutter) x left) → Arrives cutter at
-      → Puts cutter next (part_at at) (settled_part cutter x) (effect visible old new) fault
-  pub went : IfNone fault (Held cutter left next)
+-- These bytes came in. The lines that wait are those that are held and, after them, those of `pending`.
+pub record Waits (visible : Bool) (cutter : CutterState) (text : List ℕ) (old new : List Slot) (next : CutterState)
+    (pending : List ℕ) : Type 0 where
+  pub keeps : Keeps cutter next old new None
+  pub sound : IsSound next
+  pub lines : next.lines ≤ cutter.lines + length text
+  pub size : size_of next.writer.current + length next.window.held + length pending
+      ≤ size_of cutter.writer.current + length cutter.window.held + length text
+  pub comes : (x : List ℕ) → IsWhole x → Stands cutter x
+      → Comes visible cutter (settled_part cutter x) old new next (x ++ text) pending
+
+-- What is settled is written, and the lines that still wait are held; or a fault came. If the last cut is below the
+-- current line, more lines may follow.
+abbrev pub Settles : Bool → CutterState → (pending : List ℕ) → (old new : List Slot) → CutterState → Option Fault
+    → Type 0
+Settles visible cutter pending old new next fault = (first : CutterState) (done rest : List ℕ) (slots : List Slot)
+    → Waits visible first done slots old cutter pending → (cutter.aim ≡ Below) ⊎ (rest ≡ []) → Joins done rest
+    → Takes visible first (done ++ rest) slots new next fault
+
+-- the cutter without the lines that wait
+abbrev pub emptied : CutterState → CutterState
+emptied cutter = record cutter { window = record cutter.window { held = [] } }
 
 -- this line is the last in x; if the line ends with its newline, x is complete lines
 abbrev pub IsLastLine : List ℕ → List ℕ → Type 0
@@ -231,32 +253,42 @@ Tries cutter line next (Some cut) = (x : List ℕ) → Looked cutter x line
 
 -- What `Tries` says, for a line that is counted first; the lines x came in before it.
 abbrev pub TriesNext : CutterState → List ℕ → CutterState → Option CutPoint → Type 0
-TriesNext cutter line next None = (x : List ℕ) → IsWhole x → IsLive cutter x → EndsNow next (x ++ line)
-TriesNext cutter line next (Some cut) = (x : List ℕ) → IsWhole x → IsLive cutter x
-    → CutsIn cutter (x ++ line) cut × (next.lines ≤ search_after (suppress_in cutter) cut)
+TriesNext cutter line next None = (x : List ℕ) → IsWhole x → cutter.lines ≡ line_count newline x → EndsNow cutter x
+    → EndsNow next (x ++ line)
+TriesNext cutter line next (Some cut) = (x : List ℕ) → IsWhole x → cutter.lines ≡ line_count newline x
+    → EndsNow cutter x → CutsIn cutter (x ++ line) cut × (next.lines ≤ search_after (suppress_in cutter) cut)
 
--- A cut that is due. The lines `left` are left: the first has the number `place`, and `line` is the last.
+-- A cut that is due. The lines `before` stand before it, and those of `rest` after it; `line` is the last.
 pub record Due : Type 0 where
   pub cutter : CutterState
   pub cut : CutPoint
-  pub place : ℕ
-  pub left : List ℕ
+  pub before : List ℕ
+  pub rest : List ℕ
   pub line : List ℕ
 
-abbrev pub due : CutterState → CutPoint → (place : ℕ) → (left line : List ℕ) → Due
-due cutter cut place left line = record { cutter = cutter; cut = cut; place = place; left = left; line = line }
+abbrev pub due : CutterState → CutPoint → (before rest line : List ℕ) → Due
+due cutter cut before rest line = record { cutter = cutter; cut = cut; before = before; rest = rest; line = line }
 
--- the lines that wait and one more are left
-abbrev pub waits_with : CutterState → CutPoint → (line : List ℕ) → Due
-waits_with cutter cut line =
-    due cutter cut (cutter.lines - delimiters newline cutter.window.held) (cutter.window.held ++ line) line
+-- the lines that are left
+abbrev pub left_in : Due → List ℕ
+left_in due = due.before ++ due.rest
+
+-- how many lines came in from the cut on
+abbrev pub after_cut : CutterState → CutPoint → ℕ
+after_cut cutter cut = cutter.lines + 1 - cut.line
+
+-- a cut before the last of these lines
+abbrev pub last_due : CutterState → CutPoint → (left line : List ℕ) → Due
+last_due cutter cut left line = let n = after_cut cutter cut in
+    due cutter cut (but_last_lines newline n left) (last_lines newline n left) line
 
 -- The lines x came in. The plan over them makes the cut, and no line of x before the last is to be looked at again.
-pub record CutsNow (due : Due) (x : List ℕ) (at : IsAt (bare due.cutter) x due.left) : Type 0 where
+pub record CutsNow (due : Due) (x : List ℕ) (at : IsAt (bare due.cutter) x (left_in due)) : Type 0 where
   pub last : IsLastLine x due.line
   pub near : due.cutter.lines ≤ search_after (suppress_in due.cutter) due.cut
-  pub place_is : due.place ≡ due.cutter.progress.current + at.taken
-  pub before : due.place ≤ due.cut.line
+  pub low : due.cutter.progress.current + at.taken ≤ due.cut.line
+  pub before_is : due.before
+      ≡ first_lines newline (due.cut.line - (due.cutter.progress.current + at.taken)) (left_in due)
   pub goes : CutsIn due.cutter x due.cut
 
 -- the attempt is no cut
@@ -315,10 +347,10 @@ pub record Spreading (visible : Bool) (due : Due) (old new : List Slot) (now : C
   pub lines : now.lines ≡ due.cutter.lines
   pub fit : IsFit now
   pub held : now.window.held ≡ []
-  pub after : (x : List ℕ) (at : IsAt (bare due.cutter) x due.left) → CutsNow due x at
+  pub after : (x : List ℕ) (at : IsAt (bare due.cutter) x (left_in due)) → CutsNow due x at
       → IsAfter visible due x (part_at at) old new now left
-  pub size : size_of now.writer.current + length left ≤ size_of due.cutter.writer.current + length due.left
-  pub end : IsEnd left due.left
+  pub size : size_of now.writer.current + length left ≤ size_of due.cutter.writer.current + length (left_in due)
+  pub end : IsEnd left due.rest
 
 -- The open section ended at a cut, and the next one began.
 pub record CutAt (visible : Bool) (due : Due) (old new : List Slot) (next : CutterState) (rest : List ℕ) : Type 0 where
@@ -333,22 +365,29 @@ pub record Spread (visible : Bool) (due : Due) (old new : List Slot) (next : Cut
   pub tries : Tries now due.line next None
   pub aim : IsAimed next
 
--- the lines that were left were cut as often as operands cut them, and more lines came in that aren't cut
-pub record CutAll (due : Due) (more : List ℕ) (next : CutterState) : Type 0 where
-  pub lines : next.lines ≤ due.cutter.lines + length more
-  pub sound : IsSound next
-  pub stands : (x : List ℕ) (at : IsAt (bare due.cutter) x due.left) → CutsNow due x at → Stands next (x ++ more)
-  pub size : size_of next.writer.current + length next.window.held
-      ≤ size_of due.cutter.writer.current + length due.left + length more
+-- A fault came while the lines that were left were cut.
+pub record CutsShort (visible : Bool) (due : Due) (old new : List Slot) (next : CutterState) (fault : Fault)
+    : Type 0 where
+  pub keeps : Keeps due.cutter next old new (Some fault)
+  pub reaches : (x : List ℕ) (at : IsAt (bare due.cutter) x (left_in due)) → CutsNow due x at
+      → Puts due.cutter next (part_at at) (settled_part due.cutter x) (effect visible old new) (Some fault)
 
--- What cutting does from the first cut on: it cuts as often as operands cut, and then takes in more lines that aren't
--- cut.
-pub record CutsAll (visible : Bool) (due : Due) (more : List ℕ) (old new : List Slot) (next : CutterState)
-    (fault : Option Fault) : Type 0 where
-  pub keeps : Keeps due.cutter next old new fault
-  pub reaches : (x : List ℕ) (at : IsAt (bare due.cutter) x due.left) → CutsNow due x at
-      → Puts due.cutter next (part_at at) (settled_part due.cutter (x ++ more)) (effect visible old new) fault
-  pub went : IfNone fault (CutAll due more next)
+-- The lines that were left were cut as often as operands cut them. Of these lines those that are held are left and,
+-- after them, those of `pending`.
+pub record Cut (visible : Bool) (due : Due) (old new : List Slot) (next : CutterState) (pending : List ℕ) : Type 0 where
+  pub keeps : Keeps due.cutter next old new None
+  pub lines : next.lines ≡ due.cutter.lines
+  pub sound : IsSound next
+  pub size : size_of next.writer.current + length next.window.held + length pending
+      ≤ size_of due.cutter.writer.current + length (left_in due)
+  pub comes : (x : List ℕ) (at : IsAt (bare due.cutter) x (left_in due)) → CutsNow due x at
+      → Comes visible due.cutter (part_at at) old new next x pending
+
+-- the lines that were left were cut, and those that still wait are held
+pub data CutsHeld (visible : Bool) (due : Due) (old new : List Slot) (next : CutterState) : Option Fault → Type 0 where
+  held_well : Cut visible due old new next [] → CutsHeld visible due old new next None
+  held_short : (fault : Fault) → CutsShort visible due old new next fault
+      → CutsHeld visible due old new next (Some fault)
 
 -- how many lines past the last one the next cut may stand
 abbrev pub past_in : CutterState → ℕ
@@ -396,58 +435,74 @@ pub record PassesClear (cutter : CutterState) (text : List ℕ) (next : CutterSt
   pub count : next.lines ≡ cutter.lines + line_count newline (take n text)
   pub clear : (pattern : Pattern) → cutter.sought ≡ Some pattern → AreClear pattern (take n text)
 
--- a text, and how many bytes its first line has
-pub record Stretch : Type 0 where
-  pub text : List ℕ
-  pub size : ℕ
+-- the first line, which has this many bytes, may lack its newline if it is the only line
+pub record Starts (text : List ℕ) (size : ℕ) : Type 0 where
+  pub within : size ≤ length text
+  pub line : IsLine (take size text)
+  pub rest : IsWhole (drop size text)
+  pub complete : (drop size text ≡ []) ⊎ (ends_with newline (take size text) ≡ true)
 
-abbrev pub stretch_of : List ℕ → ℕ → Stretch
-stretch_of text size = record { text = text; size = size }
+-- the lines of the text that wait
+abbrev pub pending_in : List ℕ → Stretch → List ℕ
+pending_in text stretch = drop stretch.from (take stretch.end text)
 
--- the first line, and the lines after it
-abbrev pub first_in : Stretch → List ℕ
-first_in stretch = take stretch.size stretch.text
+-- the next line of the text, and where it ends
+abbrev pub next_in : List ℕ → Stretch → List ℕ
+next_in text stretch = take stretch.next (drop stretch.end text)
 
-abbrev pub others_in : Stretch → List ℕ
-others_in stretch = drop stretch.size stretch.text
+abbrev pub next_end : Stretch → ℕ
+next_end stretch = stretch.end + stretch.next
 
--- the first line may lack its newline if it is the only line
-pub record Starts (stretch : Stretch) : Type 0 where
-  pub within : stretch.size ≤ length stretch.text
-  pub line : IsLine (first_in stretch)
-  pub rest : IsWhole (others_in stretch)
-  pub complete : (others_in stretch ≡ []) ⊎ (ends_with newline (first_in stretch) ≡ true)
+-- the stretch lies in the text, and complete lines stand before its end
+pub record IsWithin (text : List ℕ) (stretch : Stretch) : Type 0 where
+  pub from : stretch.from ≤ stretch.end
+  pub within : stretch.end ≤ length text
+  pub before : IsWhole (take stretch.end text)
 
--- After the first line n bytes of complete lines were taken in. The result has the size of both together, and how many
--- bytes the next line has if the pattern that is searched for was found in it.
-pub record Extends (stretch : Stretch) (next : CutterState) (result : Result Passed Fault) : Type 0 where
-  pub n : ℕ
-  pub within : n ≤ length (others_in stretch)
-  pub whole : IsWhole (take n (others_in stretch))
-  pub size_is : IfOk result (λ passed. passed.size ≡ stretch.size + n)
-  pub found : IfOk result (λ passed. IfSome passed.found (IsNextFound next (drop n (others_in stretch))))
+-- complete lines may follow in the text after `end`, and lines before `end` wait from `from` on
+pub record MayGoOn (text : List ℕ) (from end : ℕ) : Type 0 where
+  pub low : from ≤ end
+  pub within : end ≤ length text
+  pub rest : IsWhole (drop end text)
+  pub joins : Joins (take end text) (drop end text)
 
--- A stretch of the text was taken in, with its first line at least; or a fault came among its bytes.
-pub record Stretches (visible : Bool) (cutter : CutterState) (stretch : Stretch) (old new : List Slot)
-    (next : CutterState) (result : Result Passed Fault) : Type 0 where
-  pub on : Extends stretch next result
-  pub took : Takes visible cutter (first_in stretch ++ take on.n (others_in stretch)) old new next (fault_in result)
+-- the pattern that is searched for was found in the next line, if the stretch says so
+abbrev pub IsNextKnown : CutterState → List ℕ → Stretch → Type 0
+IsNextKnown cutter text stretch = stretch.is_found ≡ true
+    → IsFound cutter (without_newline (next_in text stretch)) (cutter.lines + 1) true
 
--- The lines after the first line were passed over, and then held with what is left of the first line.
-pub record PassesThenHolds (visible : Bool) (cutter : CutterState) (left : List ℕ) (stretch : Stretch)
-    (old new : List Slot) (next : CutterState) (result : Result Passed Fault) : Type 0 where
-  pub on : Extends stretch next result
-  pub mid : CutterState
-  pub over : PassesOver cutter (others_in stretch) mid on.n
-  pub held : HoldsLines visible mid (mid.window.held ++ (left ++ take on.n (others_in stretch))) old new next
-      (fault_in result)
+-- The lines of a text before the end of a stretch came in, and those of the stretch wait.
+pub record Taking (visible : Bool) (first now : CutterState) (text : List ℕ) (stretch : Stretch) (old new : List Slot) :
+    Type 0 where
+  pub waits : Waits visible first (take stretch.end text) old new now (pending_in text stretch)
+  pub from : stretch.from ≤ stretch.end
+  pub within : stretch.end ≤ length text
+  pub joins : Joins (take stretch.end text) (drop stretch.end text)
+  pub next : 0 < stretch.next → (now.aim ≢ Below) × Starts (drop stretch.end text) stretch.next
+  pub none : stretch.next ≡ 0 → (now.aim ≡ Below) ⊎ (drop stretch.end text ≡ [])
+  pub found : IsNextKnown now text stretch
 
--- The first line was cut, and the lines after it that aren't cut were taken in.
-pub record CutsOn (visible : Bool) (cutter : CutterState) (cut : CutPoint) (stretch : Stretch) (old new : List Slot)
-    (next : CutterState) (result : Result Passed Fault) : Type 0 where
-  pub on : Extends stretch next result
-  pub all : CutsAll visible (due cutter cut cutter.lines (first_in stretch) (first_in stretch))
-      (take on.n (others_in stretch)) old new next (fault_in result)
+-- The lines of a text after `end` were passed over. Those before `end` wait from `from` on.
+pub record Extends (cutter : CutterState) (text : List ℕ) (from end : ℕ) (next : CutterState) (on : Stretch) :
+    Type 0 where
+  pub more : end ≤ on.end
+  pub taking : (visible : Bool) (first : CutterState) (old new : List Slot)
+      → Waits visible first (take end text) old new cutter (drop from (take end text))
+      → Taking visible first next text on old new
+
+-- The text came in up to the end of a stretch that waits, or a fault came among its bytes.
+abbrev pub IsTaken : Bool → (first : CutterState) → (text : List ℕ) → (old new : List Slot) → CutterState
+    → Result Stretch Fault → Type 0
+IsTaken visible first text old new next (Ok on) = Taking visible first next text on old new
+IsTaken visible first text old new next (Err fault) = Takes visible first text old new next (Some fault)
+
+-- More of the text came in, whatever came before it, or a fault came.
+pub record Advances (visible : Bool) (cutter : CutterState) (text : List ℕ) (stretch : Stretch) (old new : List Slot)
+    (next : CutterState) (result : Result Stretch Fault) : Type 0 where
+  pub more : IfOk result (λ on. stretch.end < on.end)
+  pub taken : (first : CutterState) (slots : List Slot)
+      → Waits visible first (take stretch.end text) slots old cutter (pending_in text stretch)
+      → IsTaken visible first text slots new next result
 
 -- what is written if the input ends after these lines
 abbrev pub whole_part : CutterState → List ℕ → Written
