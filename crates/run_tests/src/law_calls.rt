@@ -14,12 +14,14 @@ ghost use Rattle.promises_core.specs.{
 };
 ghost use Rattle.tools_core.specs.Tasks.{names_of};
 ghost use Rattle.words_core.specs.{
+  CsplitWords.CsplitAsked,
   EndsWords.EndsAsked,
   SplitWords.SplitAsked,
   TeeWords.TeeAsked,
   Words.{HasOperands, follows, settings_of},
-  declared.{settings.Settings.{Settings, TheVariants.{Head, Split, Tail, Tee}}, tail_words.TailSettings.TailSettings},
+  declared.{settings.Settings.{Settings, TheVariants.{Csplit, Head, Split, Tail, Tee}}, tail_words.TailSettings.TailSettings},
 };
+ghost use Rattle.ports_core.specs.declared.calling.Calling.TheVariants.{OwnName};
 ghost use Rattle.seg_core.specs.declared.cut.Way.TheVariants as way;
 ghost use Rattle.tools_core.specs.Run.{Run};
 
@@ -249,6 +251,24 @@ fn left_broken(
     Ok((one, other))
 }
 
+/// What `csplit` leaves of `f`, which breaks off, if it shows one text, and if it shows the other: the same, unless a fault stopped one of
+/// both runs. For `csplit` doesn't look at what its input shows.
+fn sections_broken(
+    alloc: Global,
+    words: &[&str],
+    bytes: &[u8],
+    shown: &[u8],
+    instead: &[u8],
+    at: usize,
+) -> Result<(MemOut, MemOut), Fault>
+    ensures { (asked : CsplitAsked) → settings_of OwnName (map (λ word. word.now) words.now) ≡ Ok (Csplit asked)
+        → asked.input ≡ codes "f" → IfOk result
+        (λ left. (one : Run) × (other : Run) × (one.outputs ≡ left.0) × (other.outputs ≡ left.1)
+        × (LeaveAlike (Csplit asked) one other ⊎ IsCutShort one (Csplit asked) ⊎ IsCutShort other (Csplit asked))) }
+{
+    left_broken(alloc, Calling::OwnName, words, bytes, shown, instead, at)
+}
+
 /// What `split -n N` and `split -n K/N` leave of `f`, which showed this text and then gave these bytes, and the status: what came, cut as
 /// chunks of a text of the length that was shown, or what came of one of these. That `f` changed is told, unless it is one chunk that has
 /// all that goes with it, or a fault stopped the run.
@@ -441,6 +461,9 @@ fn what_a_broken_file_shows_is_no_matter(rt: HostRuntime) -> Result<(), Fail> {
         assert!(rt; has(&one, 2, b"a\nbb\n") && has(&other, 2, b"a\nbb\n"));
         assert!(rt; has(&one, 3, b"c") && has(&other, 3, b"c") && one.bytes(1) == other.bytes(1));
     }
+    let words = ["csplit", "f", "2"];
+    let (one, other) = sections_broken(rt.alloc(), &words, TEXT, TEXT, b"stuvwxyz", 6)?;
+    assert!(rt; has(&one, 2, b"a\n") && has(&other, 2, b"a\n") && one.bytes(1) == other.bytes(1));
     Ok(())
 }
 

@@ -28,13 +28,13 @@ splits_other {run = run} bytes shown whole is only lies some other = record {
 }
 
 -- a run that split such a file in this way left what it should, or was cut short
-left_so : {Left : Type 0} {run : Run} {asked : SplitAsked} {how : Way} (bytes shown : List ℕ)
+left_so : {Left : Type 0} {run : Run} {asked : SplitAsked}
     → Completes run (Split asked) ⊎ IsCutShort run (Split asked) → settings_of run.calling run.words ≡ Ok (Split asked)
     → asked.input ≡ codes "f" → (Completes run (Split asked) → names_read run.calling run.words ≡ codes "f" ∷ [] → Left)
     → Left ⊎ IsCutShort run (Split asked)
-left_so bytes shown (inl whole) read only leaves =
+left_so (inl whole) read only leaves =
     inl (leaves whole (ap (λ (meant : Result Settings _). names_at meant) read ∙ ap (λ name. name ∷ []) only))
-left_so bytes shown (inr short) read only leaves = inr short
+left_so (inr short) read only leaves = inr short
 
 pub returns : goal.returns
 returns c =
@@ -48,7 +48,7 @@ returns c =
             one,
             refl,
             refl,
-            left_so bytes shown (ended one (Split asked) ran) read only (λ whole names.
+            left_so (ended one (Split asked) ran) read only (λ whole names.
                 c.split_loses_nothing.ensures.changed one asked chunks file shown bytes
                 (splits_other bytes shown whole is names refl some other)),
           );
@@ -58,7 +58,7 @@ returns c =
             one,
             refl,
             refl,
-            left_so bytes shown (ended one (Split asked) ran) read only (λ whole names.
+            left_so (ended one (Split asked) ran) read only (λ whole names.
                 c.split_loses_nothing.ensures.chunk_changed one asked place chunks file shown bytes
                 (splits_other bytes shown whole is names refl some other)),
           );

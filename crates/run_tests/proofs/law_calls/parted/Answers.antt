@@ -24,10 +24,8 @@ returns c first rest asked n more read read_too is none alike only only_too some
     let shown = c.args.shown.now in
     let there = showing bytes shown in
     let settings = Head (counted first Minus n) in
-    let front = c.left_over.ensures settings read refl refl in
-    let back = c.left_over-2.ensures (Tail asked) read_too none refl in
-    let (any, does) = rw (c.in-Some.is, c.in_ok-inputs.ensures) at front in
-    let (any_too, does_too) = rw (c.in-Some-2.is, c.in_ok-again.ensures) at back in
+    let (any, does) = rw (c.in-Some.is, c.in_ok-inputs.ensures) at (c.in_ok-front.ensures settings read refl refl) in
+    let (any_too, does_too) = rw (c.in-Some-2.is, c.in_ok-again.ensures) at (c.in_ok-back.ensures (Tail asked) read_too none refl) in
     let head = run_of _ _ (in_file bytes shown) any c.in-Some.front 0 in
     let tail = run_of _ _ (in_file bytes shown) any_too c.in-Some-2.back 0 in
     let shows = shown_some shown some in
