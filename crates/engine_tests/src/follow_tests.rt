@@ -450,7 +450,7 @@ fn tells_why(
     row: &Failing,
     mut watch: MemWatch,
 ) -> Result<(), Fault>
-    requires unseen { seen watch ≡ [] }
+    requires unturned { watch.turns ≡ 0 }
     requires unwatched { watch.watched ≡ [] }
 {
     watch.fail_at(row.1);
@@ -483,7 +483,7 @@ fn follows_barred(
     row: &Barred<'_>,
     mut watch: MemWatch,
 ) -> Result<(), Fault>
-    requires unseen { seen watch ≡ [] }
+    requires unturned { watch.turns ≡ 0 }
     requires unwatched { watch.watched ≡ [] }
 {
     watch.fail_for(Reason::Denied);
@@ -513,6 +513,7 @@ fn follows_barred(
 
 /// Files in memory with a look after each of these lists of edits.
 fn watch_of(alloc: Global, looks: &[&[Edit<'_>]]) -> Result<MemWatch, Fault>
+    ensures unturned { IfOk result (λ watch. watch.turns ≡ 0) }
     ensures unseen { IfOk result (λ watch. seen watch ≡ []) }
     ensures unwatched { IfOk result (λ watch. watch.watched ≡ []) }
 {

@@ -8,24 +8,49 @@ use std::process::Abort;
 use std::test::Fail;
 
 #[test]
-fn runs_leave_their_rows(rt: HostRuntime) -> Result<(), Fail> {
-    for runs in ONCE {
-        check_runs(&rt, rt.alloc(), runs)?;
-    }
-    Ok(())
+fn refused_help_leaves_its_rows(rt: HostRuntime) -> Result<(), Fail> {
+    check_runs(&rt, rt.alloc(), about_tests::REFUSED)
 }
 
-const ONCE: &[&[Run<'static>]] = &[
-    about_tests::REFUSED,
-    csplit_run_tests::INPUTS,
-    csplit_run_tests::OUTPUTS,
-    ends_tests::FAILING,
-    example_tests::BROKEN,
-    split_run_tests::CHUNK_FAULTS,
-    split_run_tests::INPUTS,
-    split_run_tests::OUTPUTS,
-    tests::FAILING,
-];
+#[test]
+fn inputs_of_csplit_leave_their_rows(rt: HostRuntime) -> Result<(), Fail> {
+    check_runs(&rt, rt.alloc(), csplit_run_tests::INPUTS)
+}
+
+#[test]
+fn outputs_of_csplit_leave_their_rows(rt: HostRuntime) -> Result<(), Fail> {
+    check_runs(&rt, rt.alloc(), csplit_run_tests::OUTPUTS)
+}
+
+#[test]
+fn failing_heads_and_tails_leave_their_rows(rt: HostRuntime) -> Result<(), Fail> {
+    check_runs(&rt, rt.alloc(), ends_tests::FAILING)
+}
+
+#[test]
+fn broken_examples_leave_their_rows(rt: HostRuntime) -> Result<(), Fail> {
+    check_runs(&rt, rt.alloc(), example_tests::BROKEN)
+}
+
+#[test]
+fn faults_of_chunks_leave_their_rows(rt: HostRuntime) -> Result<(), Fail> {
+    check_runs(&rt, rt.alloc(), split_run_tests::CHUNK_FAULTS)
+}
+
+#[test]
+fn inputs_of_split_leave_their_rows(rt: HostRuntime) -> Result<(), Fail> {
+    check_runs(&rt, rt.alloc(), split_run_tests::INPUTS)
+}
+
+#[test]
+fn outputs_of_split_leave_their_rows(rt: HostRuntime) -> Result<(), Fail> {
+    check_runs(&rt, rt.alloc(), split_run_tests::OUTPUTS)
+}
+
+#[test]
+fn failing_runs_leave_their_rows(rt: HostRuntime) -> Result<(), Fail> {
+    check_runs(&rt, rt.alloc(), tests::FAILING)
+}
 
 #[test]
 fn runs_leave_their_rows_byte_by_byte(rt: HostRuntime) -> Result<(), Fail> {

@@ -43,21 +43,29 @@ const TAIL_BROKEN: &[u8] = b"tail: cannot read 'f'\n";
 const SPLIT_BROKEN: &[u8] = b"split: cannot read 'f'\n";
 
 #[test]
-fn what_is_shown_decides(rt: HostRuntime) -> Result<(), Fail> {
-    for (shown, rows) in SHOWING {
-        check_all_changing(&rt, rt.alloc(), shown, rows)?;
-    }
-    Ok(())
+fn heads_end_where_the_text_did(rt: HostRuntime) -> Result<(), Fail> {
+    check_all_changing(&rt, rt.alloc(), SHOWN, HEADS)
 }
 
-/// What `f` shows, and rows over it.
-const SHOWING: &[(&[u8], &[Row<'static>])] = &[
-    (SHOWN, HEADS),
-    (SHOWN, TAILS),
-    (SHOWN, CHUNKS),
-    (&[b'x'; 200_000], LONG),
-    (b"", UNSHOWN),
-];
+#[test]
+fn tails_begin_where_the_text_did(rt: HostRuntime) -> Result<(), Fail> {
+    check_all_changing(&rt, rt.alloc(), SHOWN, TAILS)
+}
+
+#[test]
+fn chunks_are_those_of_the_length(rt: HostRuntime) -> Result<(), Fail> {
+    check_all_changing(&rt, rt.alloc(), SHOWN, CHUNKS)
+}
+
+#[test]
+fn what_stands_before_one_chunk_is_passed_over(rt: HostRuntime) -> Result<(), Fail> {
+    check_all_changing(&rt, rt.alloc(), &[b'x'; 200_000], LONG)
+}
+
+#[test]
+fn an_empty_text_shows_nothing(rt: HostRuntime) -> Result<(), Fail> {
+    check_all_changing(&rt, rt.alloc(), b"", UNSHOWN)
+}
 
 /// Heads end where the text did that was shown.
 const HEADS: &[Row<'static>] = &[
