@@ -30,11 +30,25 @@ returns c =
       status = c.run_words.result;
     } in record {
       text = λ options how name looks pause read no_input bare named kept. c.tail_follows.ensures.text run looks options
-          (record { followed = how; name = name; follows = (c.program_makes_these_runs.ensures.followed run options how looks c.run_words.ensures.ends (pause, read, rw no_input refl) c.if-run_words-ne0.false).0; bare = bare; named = named }) kept;
+          (record {
+            followed = how;
+            name = name;
+            follows = (c.program_makes_these_runs.ensures.followed run options how looks c.run_words.ensures.ends
+                (pause, read, rw no_input refl) c.if-run_words-ne0.false).0;
+            bare = bare;
+            named = named;
+          }) kept;
       grows = λ options how name came file n pause read no_input bare named grows held.
           subst (Tells run options name came file n)
           (showing-plain run (to_follow options how (n + 1) pause) how refl read refl)
           (c.tail_follows.ensures.grows run options n file came
-          (record { followed = how; name = name; follows = (c.program_makes_these_runs.ensures.followed run options how (n + 1) c.run_words.ensures.ends (pause, read, rw no_input refl) c.if-run_words-ne0.false).0; bare = bare; named = named }))
+          (record {
+            followed = how;
+            name = name;
+            follows = (c.program_makes_these_runs.ensures.followed run options how (n + 1) c.run_words.ensures.ends
+                (pause, read, rw no_input refl) c.if-run_words-ne0.false).0;
+            bare = bare;
+            named = named;
+          }))
           (grows (length run.seen)) held;
     }
